@@ -3,6 +3,8 @@ BINDIR ?= $(PREFIX)/bin
 LIBDIR ?= $(PREFIX)/lib
 INCLUDEDIR ?= $(PREFIX)/include
 MANDIR ?= $(PREFIX)/share/man
+BASHDIR ?= $(PREFIX)/share/bash-completion/completions
+ZSHDIR ?= $(PREFIX)/share/zsh/site-functions
 STRIP ?= strip
 
 # What is installed; another program, or another folder that tools/build_library.sh made, may be named.
@@ -45,9 +47,12 @@ install-program: $(PROGRAM) docs/t1subset.1
 	install -D $(PROGRAM) $(DESTDIR)$(BINDIR)/t1subset
 	$(STRIP) --strip-unneeded $(DESTDIR)$(BINDIR)/t1subset
 	install -D -m 644 docs/t1subset.1 $(DESTDIR)$(MANDIR)/man1/t1subset.1
+	install -D -m 644 packaging/completions/t1subset.bash $(DESTDIR)$(BASHDIR)/t1subset
+	install -D -m 644 packaging/completions/_t1subset $(DESTDIR)$(ZSHDIR)/_t1subset
 
 uninstall:
 	rm -f $(DESTDIR)$(BINDIR)/t1subset $(DESTDIR)$(MANDIR)/man1/t1subset.1 $(DESTDIR)$(MANDIR)/man3/t1subset.3
+	rm -f $(DESTDIR)$(BASHDIR)/t1subset $(DESTDIR)$(ZSHDIR)/_t1subset
 	rm -f $(DESTDIR)$(INCLUDEDIR)/t1subset.h $(DESTDIR)$(LIBDIR)/pkgconfig/t1subset.pc
 	for name in libt1subset.a libt1subset.so $(SONAME) $(SHARED); do rm -f $(DESTDIR)$(LIBDIR)/$$name; done
 

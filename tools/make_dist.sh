@@ -64,7 +64,7 @@ debian_package() {
     architecture=$(dpkg --print-architecture)
     tree=$work/debian
     shared=/usr/lib/$machine-linux-gnu
-    installed "DESTDIR=$tree" PREFIX=/usr "LIBDIR=$shared"
+    installed "DESTDIR=$tree" PREFIX=/usr "LIBDIR=$shared" ZSHDIR=/usr/share/zsh/vendor-completions
     pages=$tree/usr/share/doc/t1subset
     install -d "$tree/DEBIAN" "$pages"
     find "$tree/usr/share/man" -type f -exec gzip -9n {} +

@@ -59,6 +59,7 @@ class Place:
         wanted = {os.path.relpath(os.path.join(self.lib, name), self.stage) for name in NAMES}
         prefix = self.variables["PREFIX"].lstrip("/")
         others = ["bin/t1subset", "include/t1subset.h", "share/man/man1/t1subset.1", "share/man/man3/t1subset.3"]
+        others += ["share/bash-completion/completions/t1subset", "share/zsh/site-functions/_t1subset"]
         wanted |= {os.path.join(prefix, name) for name in others}
         if files_in(self.stage) != wanted:
             sys.exit(f"make install {self.variables}: {sorted(files_in(self.stage) ^ wanted)}")

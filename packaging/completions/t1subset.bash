@@ -1,0 +1,38 @@
+# Made by tools/make_completions.py from what t1subset says of itself.
+_t1subset() {
+    local cur=${COMP_WORDS[COMP_CWORD]} options takes names name font at=1 place=0
+    COMPREPLY=()
+    case ${COMP_WORDS[1]} in
+    subset) options='--names --pfb --help' takes='--names' names=3 ;;
+    merge) options='--pfb --help' takes='-' names=0 ;;
+    rejoin) options='--pfb --help' takes='-' names=0 ;;
+    mend) options='--pfb --help' takes='-' names=0 ;;
+    check) options='--help' takes='-' names=0 ;;
+    list) options='--help' takes='-' names=0 ;;
+    show) options='--help' takes='-' names=2 ;;
+    pfa) options='--help' takes='-' names=0 ;;
+    pfb) options='--help' takes='-' names=0 ;;
+    join) options='--help' takes='-' names=0 ;;
+    *) options= takes=- names=0 ;;
+    esac
+    # The arguments before the cursor: neither options nor what they take.
+    while [ $((at += 1)) -lt "$COMP_CWORD" ]; do
+        case ${COMP_WORDS[at]} in
+        -*) [[ ${COMP_WORDS[at]} =~ ^($takes)$ ]] && ((at += 1)) ;;
+        *) [ $((place += 1)) -eq 1 ] && font=${COMP_WORDS[at]} ;;
+        esac
+    done
+    if [ "$COMP_CWORD" -eq 1 ]; then options='subset merge rejoin mend check list show pfa pfb join help --help --version'
+    elif [ "${COMP_WORDS[1]}" = help ]; then options='subset merge rejoin mend check list show pfa pfb join'
+    elif [[ ${COMP_WORDS[COMP_CWORD - 1]} =~ ^($takes)$ ]]; then return
+    elif [[ $cur != -* ]]; then
+        [ "$names" -gt 0 ] && [ $((place + 1)) -ge "$names" ] || return
+        # Names of glyphs, but for those that are printed with a backslash. A font may hold any: none is expanded.
+        while IFS= read -r name; do
+            [[ $name == "$cur"* ]] && printf -v name %q "$name" && COMPREPLY+=("$name")
+        done < <(t1subset list "${font/#\~\//$HOME/}" 2> /dev/null | sed -n 's/^glyph \([^\ ]*\) [0-9]*$/\1/p')
+        return
+    fi
+    COMPREPLY=($(compgen -W "$options" -- "$cur"))
+}
+complete -o default -F _t1subset t1subset
