@@ -19,6 +19,12 @@ const BARE: Shell = Shell {
     ..SHELL
 };
 
+/// The shell with one more declared Subr.
+const ELEVEN: Shell = Shell {
+    subrs: b"/Subrs 11 array\n",
+    ..SHELL
+};
+
 /// Another tail, and another head.
 const TAIL: Shell = Shell {
     tail: b"\nend mark currentfile closefile",
@@ -167,10 +173,12 @@ const SHELLS: &[(&str, &[Made], Option<ShellPart>)] = &[
         Some(ShellPart::Tail),
     ),
     (
-        "the table",
-        &[WHOLE, (BARE, &[])],
+        "the count of Subrs",
+        &[WHOLE, (ELEVEN, &[])],
         Some(ShellPart::SubrsTable),
     ),
+    // Without a table all of the private text stands before CharStrings.
+    ("no table", &[WHOLE, (BARE, &[])], Some(ShellPart::Private)),
 ];
 
 // meets shells_conflict Some at 2, 3 fonts
@@ -207,7 +215,7 @@ fn a_lack_of_many_glyphs(rt: HostRuntime) -> Result<(), Fail> {
     let left = without(rt.alloc(), &[b"5"])?;
     let five = many(rt.alloc(), left.as_slice())?;
     let got = lack_in(rt.alloc(), &[five.as_slice(), whole.as_slice()])?;
-    assert!(rt; got.as_slice() == b"5 0");
+    assert!(rt; got.as_slice() == b"5 0".as_slice());
     let left = without(rt.alloc(), &[b"8"])?;
     let eight = many(rt.alloc(), left.as_slice())?;
     let files = [eight.as_slice(), whole.as_slice()];
