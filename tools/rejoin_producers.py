@@ -4,8 +4,9 @@
 usage: tools/rejoin_producers.py [FONTS]    FONTS is how many fonts are tried, by default all of the map
 
 Each font of TeX's map whose program is installed is set in two documents with different characters. dvips, pdfTeX and, where
-they are installed, Ghostscript's ps2write (from what dvips wrote) and pdftops (from what pdfTeX wrote) cut it, and `subset` cuts
-the font's own file, mended, to the same names. `merge` and `rejoin` are tried on the first subset of each program with the
+they are installed, Ghostscript's ps2write (from what dvips wrote) and pdftops (from what pdfTeX wrote) cut it, Ghostscript's
+pdfwrite and pdftops make CFF of it and a font again (from what dvips wrote), and `subset` cuts the font's own file, mended, to
+the same names. `merge` and `rejoin` are tried on the first subset of each program with the
 second of each. FreeType then draws each glyph of the rejoined font, at 1,000 units and without hints, which has to have the
 parent's outline and advance. Prints a table of pairs: how many there are, merge, rejoin, and draw as the parent; and then the
 reasons for which pairs are refused.
@@ -95,12 +96,21 @@ def by_pdftops(folder):
     return re.findall(rb"%%BeginResource: font [^\n]*\n(.*?)%%EndResource", bytes_of(folder, "pages.ps"), re.DOTALL)
 
 
+def by_pdfwrite(folder):
+    """From what dvips wrote into the same folder, as CFF and back."""
+    printed(["gs", "-q", "-dSAFER", "-sDEVICE=pdfwrite", "-o", "cff.pdf", "doc.ps"], cwd=folder)
+    printed(["pdftops", "-level2", "cff.pdf", "back.ps"], cwd=folder)
+    return re.findall(rb"%%BeginResource: font [^\n]*\n(.*?)%%EndResource", bytes_of(folder, "back.ps"), re.DOTALL)
+
+
 # Each comes behind the one whose file it takes.
 PRODUCERS = {"dvips": by_dvips, "pdfTeX": by_pdftex}
 if shutil.which("gs"):
     PRODUCERS["ps2write"] = by_ghostscript
 if shutil.which("pdftops"):
     PRODUCERS["pdftops"] = by_pdftops
+if "ps2write" in PRODUCERS and "pdftops" in PRODUCERS:
+    PRODUCERS["pdfwrite"] = by_pdfwrite
 FILE = "file"
 
 
