@@ -18,7 +18,7 @@ fn made(alloc: Global, head: &[u8], tail: &[u8]) -> Result<Source, AllocError> {
 }
 
 /// A head and a clear tail.
-type Texts = (&'static [u8], &'static [u8]);
+pub type Texts = (&'static [u8], &'static [u8]);
 
 /// The sources of such fonts.
 fn sources(alloc: Global, fonts: &[Texts]) -> Result<Vec<Source>, AllocError> {
@@ -30,7 +30,7 @@ fn sources(alloc: Global, fonts: &[Texts]) -> Result<Vec<Source>, AllocError> {
 }
 
 /// The heads and clear tails of such fonts with one box, a bar behind each.
-fn boxed(alloc: Global, fonts: &[Texts]) -> Result<Vec<u8>, AllocError> {
+pub fn boxed(alloc: Global, fonts: &[Texts]) -> Result<Vec<u8>, AllocError> {
     let sources = even_boxes(alloc, sources(alloc, fonts)?)?;
     let mut texts = Vec::new(alloc);
     for source in sources.as_slice() {
@@ -46,16 +46,17 @@ fn boxed(alloc: Global, fonts: &[Texts]) -> Result<Vec<u8>, AllocError> {
 /// Heads and clear tails, and what they are with one box.
 type Row = (&'static [Texts], &'static [u8], &'static str);
 
+/// Two fonts, and what they are with one box.
+pub const TWO: &[Texts] = &[
+    (b"%!\n/FontBBox{-34 -251 988 750}readonly def\n", b""),
+    (b"%!\n/FontBBox [ 9 -1000\n1000 99 ] def\n", b""),
+];
+
+pub const ONE_BOX: &[u8] = b"%!\n/FontBBox{-34 -1000 1000 750}readonly def\n|\ncurrentfile eexec|\
+      %!\n/FontBBox [ -34 -1000\n1000 750 ] def\n|\ncurrentfile eexec|";
+
 const ROWS: &[Row] = &[
-    (
-        &[
-            (b"%!\n/FontBBox{-34 -251 988 750}readonly def\n", b""),
-            (b"%!\n/FontBBox [ 9 -1000\n1000 99 ] def\n", b""),
-        ],
-        b"%!\n/FontBBox{-34 -1000 1000 750}readonly def\n|\ncurrentfile eexec|\
-          %!\n/FontBBox [ -34 -1000\n1000 750 ] def\n|\ncurrentfile eexec|",
-        "a procedure and an array",
-    ),
+    (TWO, ONE_BOX, "a procedure and an array"),
     (
         &[
             (b"%!\n/FontBBox{0 0 1 1}readonly def\n", b""),

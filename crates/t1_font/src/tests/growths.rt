@@ -1,6 +1,7 @@
 //! Each call that grows, over the two files of Tiny. `tools/sweep_growths.py` refuses one growth after the other: a call
 //! that then answers want of memory gives the right answer when it is made again.
 
+use super::boxes::{ONE_BOX, TWO, boxed};
 use super::cuts::{joined, tiny_cut};
 use super::evening::{MARKS, TABLES, evened, is_left};
 use super::tables::tiny_is_right;
@@ -42,8 +43,8 @@ fn cuts_join(alloc: Global) -> Result<bool, PartsFault> {
     Ok(parts.as_slice() == both.as_slice())
 }
 
-/// Whether fonts are made even: `Source::even` leaves a head without its tag, and `even_shells` and `fill_all` the same
-/// Subrs in each.
+/// Whether fonts are made even: `Source::even` leaves a head without its tag, `even_shells` and `fill_all` the same Subrs in
+/// each, and `even_boxes` one box.
 fn evens(alloc: Global) -> Result<bool, PartsFault> {
     let left = is_left(
         alloc,
@@ -51,7 +52,8 @@ fn evens(alloc: Global) -> Result<bool, PartsFault> {
         b"/FontName /Tiny def ",
     )?;
     let marks = evened(alloc, TABLES)?;
-    Ok(left && marks.as_slice() == MARKS)
+    let boxes = boxed(alloc, TWO)?;
+    Ok(left && marks.as_slice() == MARKS && boxes.as_slice() == ONE_BOX)
 }
 
 #[test]

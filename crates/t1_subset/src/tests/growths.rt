@@ -2,6 +2,7 @@
 //! answers want of memory answers right when it is made again. `None` is another refusal, which is wrong.
 
 use super::fonts::whole;
+use super::lacks::{FIVE, WHOLE, differing_in, lack_in, lacking};
 use crate::{Conflict, SubsetFault, closure, merge, merge_all, states, subset};
 use std::alloc::{AllocError, Global};
 use std::test::Fail;
@@ -127,6 +128,14 @@ fn source_answers_right(alloc: Global, source: &Source) -> Result<bool, AllocErr
     right
 }
 
+/// Whether a Subr that is lacking is found, and no shell that differs.
+fn lists_answer_right(alloc: Global) -> Result<bool, AllocError> {
+    let (whole, five) = (lacking(alloc, &WHOLE)?, lacking(alloc, &FIVE)?);
+    let files = [whole.as_slice(), five.as_slice()];
+    let lack = lack_in(alloc, &files)?;
+    Ok(lack.as_slice() == b"5 P".as_slice() && differing_in(alloc, &files)?.is_none())
+}
+
 fn answers_right(alloc: Global) -> Result<bool, AllocError> {
     let file = whole(alloc)?;
     match read(alloc, file.as_slice()) {
@@ -139,11 +148,16 @@ fn answers_right(alloc: Global) -> Result<bool, AllocError> {
     }
 }
 
+/// Whether each call answers right.
+fn all_answer_right(alloc: Global) -> Result<bool, AllocError> {
+    Ok(answers_right(alloc)? && lists_answer_right(alloc)?)
+}
+
 // meets states Ok at 10 glyphs
 #[test]
 fn growths(rt: HostRuntime) -> Result<(), Fail> {
-    let right = match answers_right(rt.alloc()) {
-        Err(AllocError) => answers_right(rt.alloc())?,
+    let right = match all_answer_right(rt.alloc()) {
+        Err(AllocError) => all_answer_right(rt.alloc())?,
         answer => answer?,
     };
     assert!(rt; right);

@@ -7,11 +7,11 @@ use std::test::Fail;
 use t1_font::{Font, Source, read};
 
 /// A shell, and the indices of the Subrs above that a font lacks.
-type Made = (Shell, &'static [&'static [u8]]);
+pub type Made = (Shell, &'static [&'static [u8]]);
 
-const WHOLE: Made = (SHELL, &[]);
+pub const WHOLE: Made = (SHELL, &[]);
 
-const FIVE: Made = (SHELL, &[b"5"]);
+pub const FIVE: Made = (SHELL, &[b"5"]);
 
 /// The shell without a table of Subrs.
 const BARE: Shell = Shell {
@@ -48,7 +48,7 @@ fn without(alloc: Global, indices: &[&[u8]]) -> Result<Vec<Entry>, AllocError> {
 }
 
 /// The file of a shell and the glyphs above, with the Subrs above but for those of these indices.
-fn lacking(alloc: Global, made: &Made) -> Result<Vec<u8>, AllocError> {
+pub fn lacking(alloc: Global, made: &Made) -> Result<Vec<u8>, AllocError> {
     let (shell, indices) = made;
     let left = without(alloc, indices)?;
     font(alloc, shell, left.as_slice(), GLYPHS)
@@ -90,14 +90,14 @@ fn lack_text(alloc: Global, fonts: &[Font<'_>]) -> Result<Vec<u8>, AllocError> {
 }
 
 /// What the first font of the files lacks, as a text.
-fn lack_in(alloc: Global, files: &[&[u8]]) -> Result<Vec<u8>, AllocError> {
+pub fn lack_in(alloc: Global, files: &[&[u8]]) -> Result<Vec<u8>, AllocError> {
     let sources = sources(alloc, files)?;
     let fonts = fonts(alloc, sources.as_slice())?;
     lack_text(alloc, fonts.as_slice())
 }
 
 /// The first part in which the shells of the files differ.
-fn differing_in(alloc: Global, files: &[&[u8]]) -> Result<Option<ShellPart>, AllocError> {
+pub fn differing_in(alloc: Global, files: &[&[u8]]) -> Result<Option<ShellPart>, AllocError> {
     let sources = sources(alloc, files)?;
     let fonts = fonts(alloc, sources.as_slice())?;
     Ok(shells_conflict(alloc, fonts.as_slice()))
