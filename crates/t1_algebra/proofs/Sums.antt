@@ -3,7 +3,7 @@ use Rattle.std.proofs.Common.{◌≡◌, ℕ, ◌+◌, Bool, true, not, List, []
 use Rattle.std.specs.FinMap as maps
 use Rattle.t1_join.specs.{Meaning.{Meaning}, TableMeaning.{TableMeaning, TablesAgree, joined_table}, TableLaws.{get_joined}}
 use Rattle.t1_font.specs.{Maps.{merged}, FontValue.{total, Named}}
-use Rattle.t1_font.proofs.{CutEntries.{entries-retain}, MapLemmas.{entries-map_values, entries_all, get-retain, length_total}}
+use Rattle.t1_font.proofs.{even_fonts.FilledWeights.{total_split}, CutEntries.{entries-retain}, MapLemmas.{entries-map_values, entries_all, get-retain, length_total}}
 use Rattle.t1_algebra.specs.StateTables.{name_meaning, name_counts, glyph_table, names_table, AreSought}
 use Rattle.t1_algebra.proofs.{Words.{AllByRecursion, nat_list_cmp_total}, Sets.{name_same, cases}, Tables.{names_join, are_joined}}
 
@@ -14,11 +14,6 @@ total_mapped k v w [] = refl
 total_mapped k v w (e ∷ es) = ap (λ n. w (k e.0) (v e.1) + n) (total_mapped k v w es)
 
 module _ {K X : Type 0} (w : K → X → ℕ) where
-  -- entries that pass a test and those that fail it sum to what all do
-  total_split : (p : K × X → Bool) (es : List (K × X)) → total w es ≡ total w (filter p es) + total w (filter (λ e. not (p e)) es)
-  total_split p [] = refl
-  total_split p (e ∷ es) = grind (cases, total_split p es)
-
   -- if the entries that pass a test weigh nothing, they sum to nothing
   total_none : (p : K × X → Bool) (es : List (K × X)) → AllByRecursion (λ e. p e ≡ true → w e.0 e.1 ≡ 0) es → total w (filter p es) ≡ 0
   total_none p [] h = refl
@@ -26,7 +21,7 @@ module _ {K X : Type 0} (w : K → X → ℕ) where
 
   -- if the entries that fail a test weigh nothing, those that pass it sum to what all do
   pub total_kept : (p : K × X → Bool) (es : List (K × X)) → AllByRecursion (λ e. not (p e) ≡ true → w e.0 e.1 ≡ 0) es → total w (filter p es) ≡ total w es
-  total_kept p es h = omega (arith, total_split p es, total_none (λ e. not (p e)) es h)
+  total_kept p es h = omega (arith, total_split w p es, total_none (λ e. not (p e)) es h)
 
 -- sought names add nothing to a sum over names
 pub names_total : (g : Named) (s : TableMeaning) → AreSought s → (w : Meaning → Meaning → ℕ) → ((n : Meaning) → w n [] ≡ 0) →

@@ -1,4 +1,5 @@
 pub mod Truncated
 pub mod Lacking
+pub mod FilledStates
 pub mod Rejoined
 pub mod Evened

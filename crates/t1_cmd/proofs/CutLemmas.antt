@@ -39,7 +39,6 @@ use Rattle.t1_cmd.specs.Inputs.{Input, value_and, values_of}
 use Rattle.t1_cmd.specs.Files.{Values, value_before, values_from, OfFiles, RefusesFiles}
 use Rattle.t1_cmd.specs.Runs.{RunEnds}
 use Rattle.t1_cmd.specs.Fonts.{mended_input}
-use Rattle.t1_cmd.specs.Mergers.{MergesToFile}
 use Rattle.t1_cmd.specs.Rejoins.{RejoinsUnless, RejoinsTo}
 use Rattle.t1_cmd.specs.Cuts.{AreCutFiles, OfRejoined, InputsAreCuts, WritesRejoined, AllStayDrawnIn, RejoinedDraw}
 use Rattle.t1_cmd.proofs.OneAnswer.{OneAnswer, files_answered, inputs_answered}

@@ -1,11 +1,8 @@
 -- The answers of the engine of listings.
-use Rattle.std.proofs.Common.{◌≡◌, ℕ, ◌∙◌, ap, refl, List, [], ◌∷◌, Ok, Err}
+use Rattle.std.proofs.Common.{◌≡◌, ℕ, refl, List, [], ◌∷◌, Ok}
 use Rattle.t1_join.specs.ListingMeaning.{ListingMeaning}
-use Rattle.t1_join.proofs.ConflictLemmas.{joined_or_refused}
-use Rattle.t1_cmd.specs.declared.faults.Reason.{Reason}
-use Rattle.t1_cmd.specs.declared.faults.Reason.TheVariants.{Memory}
 use Rattle.t1_cmd.specs.Files.{values_from}
-use Rattle.t1_cmd.specs.Listings.{join_reason, listing_input, JoinsTo}
+use Rattle.t1_cmd.specs.Listings.{listing_input}
 
 -- what two texts say that both spell listings
 pub both_said : (first second : List ℕ) (left right : ListingMeaning)

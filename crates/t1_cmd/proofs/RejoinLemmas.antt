@@ -17,11 +17,9 @@ use Rattle.t1_join.specs.Groupings.{Grouping, one, two, map_grouping, from_left}
 use Rattle.t1_join.proofs.OrderLemmas.{leaves_from_left}
 use Rattle.t1_algebra.proofs.Orders.{one_result}
 use Rattle.t1_cmd.specs.declared.faults.Reason.{Reason}
-use Rattle.t1_cmd.specs.declared.faults.Reason.TheVariants.{Memory, Lacks}
-use Rattle.t1_cmd.specs.Answers.{MayRefuse}
+use Rattle.t1_cmd.specs.declared.faults.Reason.TheVariants.{Memory}
 use Rattle.t1_cmd.specs.Mergers.{MergesToFile}
 use Rattle.t1_cmd.specs.Rejoins.{RejoinsUnless, RejoinsTo, RejoinsWhatMerges}
-use Rattle.t1_cmd.proofs.Refusals.{refuses, by_answer}
 use Rattle.t1_cmd.proofs.MergeLemmas.{merges_apart}
 use Rattle.t1_algebra.proofs.rejoining.Evened.{merging_fonts_are_even}
 
@@ -52,10 +50,6 @@ pub has_no_lack : (form : Form) (fs : List FontValue) (answer : Result (List ℕ
     RejoinsTo form fs answer → RejoinsUnless None form fs answer
 has_no_lack form fs answer none h = subst (λ (o : Option Lack). RejoinsUnless o form fs answer) none h
 
--- a lack is told
-pub lack_told : (form : Form) (fs : List FontValue) (lack : Lack) → first_lack (evened_shells fs) ≡ Some lack → RejoinsTo form fs (Err (Lacks lack.1 lack.0))
-lack_told form fs lack is = subst (λ (o : Option Lack). RejoinsUnless o form fs (Err (Lacks lack.1 lack.0))) (sym is) refl
-
 -- fonts that rejoin are refused for want of memory alone
 apart_so : (form : Form) (fs : List FontValue) (text : List ℕ) (r : Reason) → RejoinsUnless None form fs (Ok text) →
     RejoinsUnless None form fs (Err r) → r ≡ Memory
@@ -66,12 +60,6 @@ apart_so form fs text r (inr a) k = absurd a.1
 pub rejoins_apart : (form : Form) (fs : List FontValue) (text : List ℕ) (r : Reason) → RejoinsTo form fs (Ok text) → RejoinsTo form fs (Err r) → r ≡ Memory
 rejoins_apart form fs text r h k =
     let un = rejoins_unlacking form fs text h in apart_so form fs text r un.1 (has_no_lack form fs (Err r) un.0 k)
-
--- what refuses the merge of fonts that are even refuses to rejoin
-pub merge_of_even : (form : Form) (fs : List FontValue) (r : Reason) → first_lack (evened_shells fs) ≡ None → AreLight (evened fs) →
-    MayRefuse (MergesToFile form (evened fs)) r → MayRefuse (RejoinsTo form fs) r
-merge_of_even form fs r none l = by_answer (MergesToFile form (evened fs)) (MayRefuse (RejoinsTo form fs)) r tt
-    (λ s h. refuses (RejoinsTo form fs) s (with_no_lack form fs (Err s) none (inl (l, h))))
 
 -- ---- fonts that merge
 

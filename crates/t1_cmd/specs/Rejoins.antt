@@ -1,6 +1,5 @@
 -- What the engine that rejoins fonts writes: fonts that other programs cut are made even, and merged.
 use Rattle.std.specs.Prelude.{◌≡◌, ◌⊎◌, ℕ, List, Option, Some, None, Result, Ok, Err}
-use Rattle.std.specs.Option.{option_map, unwrap_or}
 use Rattle.t1_bytes.specs.declared.form.Form.{Form}
 use Rattle.std.specs.List.{AllByRecursion}
 use Rattle.t1_font.specs.FontValue.{FontValue}
@@ -9,7 +8,7 @@ use Rattle.t1_font.specs.Canon.{canon}
 use Rattle.t1_font.specs.Evening.{evened_shells, evened}
 use Rattle.t1_font.specs.Filling.{AreLight, AnyHeavy}
 use Rattle.t1_subset.specs.Refusals.{Tells}
-use Rattle.t1_algebra.specs.Conflicts.{Conflict as FontConflict, ShellDiffers, OverLimit, shells_conflict}
+use Rattle.t1_subset.specs.Rejoins.{heavy_conflict}
 use Rattle.t1_algebra.specs.Lacks.{Lack, first_lack}
 use Rattle.t1_algebra.specs.Merges.{ComesTo}
 use Rattle.t1_algebra.specs.Rejoins.{with_even_texts}
@@ -17,11 +16,7 @@ use Rattle.t1_cmd.specs.declared.faults.Reason.{Reason}
 use Rattle.t1_cmd.specs.declared.faults.Reason.TheVariants.{Lacks, Merge}
 use Rattle.t1_cmd.specs.Mergers.{IsTold, MergesToFile}
 
--- why fonts of which one is too heavy once it has its stubs are refused: their shells differ, or else one is over the limit
-abbrev pub heavy_conflict : List FontValue → FontConflict
-heavy_conflict fonts = unwrap_or (option_map ShellDiffers (shells_conflict fonts)) OverLimit
-
--- that is what is told
+-- why fonts of which one is too heavy once it has its stubs don't merge is told
 abbrev pub TellsHeavy : List FontValue → Result (List ℕ) Reason → Type 0
 TellsHeavy fonts (Err (Merge e)) = Tells e (Some (heavy_conflict fonts)) × IsTold e
 TellsHeavy fonts answer = ⊥

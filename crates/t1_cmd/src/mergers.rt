@@ -14,21 +14,10 @@ use crate::faults::{FilesRefusal, Reason, RunFault};
 use crate::fonts::font_file;
 use crate::several::{FontsWord, run_words, text_of_files};
 use crate::words::Taking;
-use std::alloc::{AllocError, Global};
+use std::alloc::Global;
 use std::io::{Read, Write};
 use t1_font::{Font, Form, Source};
-use t1_subset::{Conflict, merge_all};
-
-// The font of each source.
-pub(crate) fn fonts_of(alloc: Global, sources: &[Source]) -> Result<Vec<Font<'_>>, AllocError>
-    ensures { IfOk result (λ fonts. fonts.items ≡ sources.now) }
-{
-    let mut fonts = Vec::with_capacity(alloc, sources.len())?;
-    'sources: for source in sources {
-        fonts.push(source.font(alloc)?)?;
-    }
-    Ok(fonts)
-}
+use t1_subset::{Conflict, fonts_of, merge_all};
 
 // The font that fonts come to, merged from left to right.
 fn merge_fonts<'a>(alloc: Global, fonts: &[Font<'a>]) -> Result<Font<'a>, Reason>
@@ -43,11 +32,7 @@ fn merge_fonts<'a>(alloc: Global, fonts: &[Font<'a>]) -> Result<Font<'a>, Reason
 }
 
 // The canonical file of the font that fonts come to. The fonts are dropped before it is written.
-pub(crate) fn merged_file(
-    alloc: Global,
-    fonts: Vec<Font<'_>>,
-    form: Form,
-) -> Result<Vec<u8>, Reason>
+fn merged_file(alloc: Global, fonts: Vec<Font<'_>>, form: Form) -> Result<Vec<u8>, Reason>
     ensures text { IfOk result (λ text. MergesToFile form fonts.entry.items (Ok text.items)) }
     ensures refused { IfErr result (MayRefuse (MergesToFile form fonts.entry.items)) }
 {

@@ -1,61 +1,41 @@
 //! The engine that rejoins fonts that other programs cut.
-ghost use Rattle.std.specs.Prelude.{◌≡◌, List, None, Some, IfOk, IfErr, MatchResult, Ok};
+ghost use Rattle.std.specs.Prelude.{◌≡◌, List, None, IfOk, IfErr, MatchResult, Ok};
 ghost use Rattle.t1_font.specs.FontValue.{FontValue};
 ghost use Rattle.t1_font.specs.Evening.{evened_shells};
 ghost use Rattle.t1_subset.specs.NameSets.{lent};
-ghost use Rattle.t1_algebra.specs.Lacks.{first_lack};
-ghost use Rattle.t1_subset.specs.Refusals.{Tells};
-ghost use Rattle.t1_cmd.specs.declared.faults.Reason.TheVariants.{Lacks};
+ghost use Rattle.t1_subset.specs.Rejoins.{NotRejoined};
 ghost use Rattle.t1_cmd.specs.Answers.{MayRefuse};
 ghost use Rattle.t1_cmd.specs.Files.{OfFiles, RefusesFiles};
 ghost use Rattle.t1_cmd.specs.Fonts.{mended_input};
 ghost use Rattle.t1_cmd.specs.Runs.{RunEnds, Succeeds};
-ghost use Rattle.t1_cmd.specs.Mergers.{IsTold, inputs_of, InTurns};
-ghost use Rattle.t1_cmd.specs.Rejoins.{heavy_conflict, RejoinsTo};
+ghost use Rattle.t1_cmd.specs.Mergers.{inputs_of, InTurns};
+ghost use Rattle.t1_cmd.specs.Rejoins.{RejoinsTo};
 ghost use Rattle.t1_cmd.specs.Cuts.{OfRejoined, WritesRejoined};
 
 use crate::counting::Counted;
 use crate::faults::{FilesRefusal, Name, Reason, RunFault};
-use crate::mergers::{fonts_of, merged_file};
+use crate::fonts::font_file;
 use crate::several::{FontsWord, run_words, text_of_files};
 use crate::words::Taking;
-use std::alloc::{AllocError, Global};
+use std::alloc::Global;
 use std::io::{Read, Write};
-use t1_font::{Font, Form, PartsFault, Source, even_shells, fill_all};
-use t1_subset::{Conflict, Lack, first_lack, shells_conflict};
+use t1_font::{Form, Source, even_shells};
+use t1_subset::{Conflict, RejoinFault, rejoin};
 
-// The lack of a Subr as a reason.
-fn lacking(alloc: Global, lack: Lack<'_>) -> Result<Reason, AllocError>
-    ensures { IfOk result (λ e. e ≡ Lacks lack.entry.glyph.now lack.entry.index) }
+// Why fonts don't rejoin, as a reason.
+fn reason_of(alloc: Global, fault: RejoinFault) -> Reason
+    ensures { (form : Form) (whole : List FontValue)
+        → NotRejoined (evened_shells whole) fault
+        → MayRefuse (RejoinsTo form whole) result }
 {
-    Ok(Reason::Lacks {
-        glyph: Name::new(alloc, lack.glyph)?,
-        index: lack.index,
-    })
-}
-
-// Refuses fonts of which a glyph lacks a Subr that another of them has.
-fn none_lacks(alloc: Global, fonts: &[Font<'_>]) -> Result<(), Reason>
-    ensures none { IfOk result (λ _. first_lack fonts.now ≡ None) }
-    ensures refused { IfErr result (λ e. (form : Form) (whole : List FontValue)
-        → fonts.now ≡ evened_shells whole
-        → MayRefuse (RejoinsTo form whole) e) }
-{
-    match first_lack(alloc, fonts)? {
-        Some(lack) => Err(lacking(alloc, lack)?),
-        None => Ok(()),
+    match fault {
+        RejoinFault::Lacks { glyph, index } => match Name::new(alloc, glyph.as_slice()) {
+            Ok(glyph) => Reason::Lacks { glyph, index },
+            Err(_) => Reason::Memory,
+        },
+        RejoinFault::Merge(Conflict::Memory) => Reason::Memory,
+        RejoinFault::Merge(conflict) => Reason::Merge(conflict),
     }
-}
-
-// Why sources are refused of which one is too heavy once it has its stubs.
-fn heavy_refusal(alloc: Global, sources: &[Source]) -> Result<Conflict, AllocError>
-    ensures { IfOk result (λ e. Tells e (Some (heavy_conflict sources.now)) × IsTold e) }
-{
-    let fonts = fonts_of(alloc, sources)?;
-    Ok(match shells_conflict(alloc, fonts.as_slice()) {
-        Some(part) => Conflict::Shell { part },
-        None => Conflict::Limit,
-    })
 }
 
 // The canonical file of the font that sources of one declared count come to when they are filled, where no glyph lacks a Subr that
@@ -68,17 +48,15 @@ fn filled_file(alloc: Global, sources: &[Source], form: Form) -> Result<Vec<u8>,
         → sources.now ≡ evened_shells fonts
         → IfErr result (MayRefuse (RejoinsTo form fonts)) }
 {
-    let lent = fonts_of(alloc, sources)?;
-    if let Err(reason) = none_lacks(alloc, lent.as_slice()) {
-        return Err(reason);
-    }
     let mut indices = Vec::new(alloc);
-    let filled = match fill_all(alloc, lent, &mut indices) {
-        Ok(filled) => filled,
-        Err(PartsFault::Limit) => return Err(Reason::Merge(heavy_refusal(alloc, sources)?)),
-        Err(PartsFault::Memory) => return Err(Reason::Memory),
+    let font = match rejoin(alloc, sources, &mut indices) {
+        Ok(font) => font,
+        Err(fault) => return Err(reason_of(alloc, fault)),
     };
-    merged_file(alloc, filled, form)
+    let text = font_file(alloc, &font, form);
+    drop(font);
+    let text = text?;
+    Ok(text)
 }
 
 // The canonical file of the font that these come to when they are made even.

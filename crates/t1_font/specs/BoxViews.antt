@@ -1,11 +1,13 @@
 -- Boxes and their places as the code has them, without where they lie in memory.
+use Rattle.std.specs.Prelude.{Bool, true, List, [], ◌∷◌, Option, Some, None, if◌then◌else◌}
+use Rattle.std.specs.List.{list_all}
 use Rattle.t1_font.specs.declared.joined_boxes.FontBox.{FontBox}
 use Rattle.t1_font.specs.declared.joined_boxes.KeptBox.{KeptBox}
 use Rattle.t1_font.specs.declared.font_boxes.Numbers.{Numbers as CodeNumbers}
 use Rattle.t1_font.specs.declared.font_boxes.Place.{Place as CodePlace}
 use Rattle.t1_font.specs.declared.font_boxes.Side.{Side as CodeSide}
 use Rattle.t1_font.specs.declared.font_boxes.Side.TheVariants as sides
-use Rattle.t1_font.specs.FontBoxes.{Box, Numbers, Place, Side, InHead, InTail}
+use Rattle.t1_font.specs.FontBoxes.{Box, Numbers, Place, Side, InHead, InTail, same_box, joined_box}
 
 abbrev pub box_view : FontBox → Box
 box_view b = record { llx = b.llx.now; lly = b.lly.now; urx = b.urx.now; ury = b.ury.now }
@@ -22,3 +24,15 @@ place_view p = record { front = p.front.now; start = p.start.now; numbers = numb
 abbrev pub side_view : CodeSide → Side
 side_view (sides.InHead p) = InHead (place_view p)
 side_view (sides.InTail p) = InTail (place_view p)
+
+-- ---- lists of boxes
+
+-- all of some boxes are spelled alike
+abbrev pub are_alike : List Box → Bool
+are_alike [] = true
+are_alike (b ∷ bs) = list_all (same_box b) bs
+
+-- the one box for these boxes, where there are any that aren't spelled alike
+abbrev pub wanted_box : Option (List Box) → Option Box
+wanted_box None = None
+wanted_box (Some bs) = if are_alike bs then None else Some (joined_box bs)

@@ -1,10 +1,11 @@
 -- What is answered where fonts are filled.
-use Rattle.std.specs.Prelude.{◌≡◌, ◌⊎◌, ◌≤◌, ◌<◌, ℕ, nat_lt, Bool, true, false, List, [], ◌∷◌}
+use Rattle.std.specs.Prelude.{◌≡◌, ◌⊎◌, ◌≤◌, ◌<◌, ℕ, nat_lt, Bool, true, false, List, [], ◌∷◌, Some}
 use Rattle.std.specs.List.{AllByRecursion, list_all}
-use Rattle.std.specs.FinMap.{contains_key, entries, retain_keys}
+use Rattle.std.specs.FinMap.{get, contains_key, entries, retain_keys}
 use Rattle.t1_font.specs.declared.parts.PartsFault.{PartsFault}
 use Rattle.t1_font.specs.declared.parts.PartsFault.TheVariants.{Limit, Memory}
 use Rattle.t1_font.specs.FontValue.{FontValue, Numbered, declared_count, weight, weight_limit}
+use Rattle.t1_font.specs.Cut.{stub}
 use Rattle.t1_font.specs.Maps.{merged}
 use Rattle.t1_font.specs.Evening.{filled_all}
 
@@ -47,6 +48,14 @@ has_none (e ∷ es) = false
 abbrev pub with_these : Numbered → Numbered → List (ℕ × List ℕ) → Numbered
 with_these stubs m [] = m
 with_these stubs m (e ∷ es) = merged m stubs
+
+-- each entry is a stub
+abbrev pub AreStubs : Numbered → Type 0
+AreStubs stubs = (i : ℕ) (c : List ℕ) → get stubs i ≡ Some c → c ≡ stub
+
+-- a font with these Subrs
+abbrev pub with_subrs : FontValue → Numbered → FontValue
+with_subrs f m = record { shell = f.shell; encoding = f.encoding; subrs = m; glyphs = f.glyphs }
 
 -- a font with those of the stubs that are below its declared count
 abbrev pub filled_by : Numbered → FontValue → FontValue

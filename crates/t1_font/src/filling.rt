@@ -1,12 +1,13 @@
 //! Fonts with one set of Subrs: a stub stands where a font lacks a Subr that another has.
 
-ghost use Rattle.std.specs.Prelude.{◌≡◌, ◌++◌, ◌∷◌, [], ◌≤◌, map, nat_lt, IfOk, OnOk, MatchResult};
+ghost use Rattle.std.specs.Prelude.{◌≡◌, ◌+◌, ◌*◌, ◌++◌, ◌∷◌, [], ◌≤◌, map, nat_lt, IfOk, OnOk, MatchResult};
 ghost use Rattle.std.specs.Ordering.{nat_cmp};
 ghost use Rattle.std.specs.FinMap as fin;
-ghost use Rattle.t1_font.specs.FontValue.{weight, weight_limit};
+ghost use Rattle.t1_font.specs.FontValue.{Numbered as NumberedValue, weight, weight_limit};
+ghost use Rattle.t1_font.specs.FontModel.{clamp};
 ghost use Rattle.t1_font.specs.Maps.{merged};
 ghost use Rattle.t1_font.specs.Evening.{stubs_at, indices_of_all};
-ghost use Rattle.t1_font.specs.Filling.{Fills, FillRefuses, has_each, are_below, filled_by, FontRefused};
+ghost use Rattle.t1_font.specs.Filling.{Fills, FillRefuses, has_each, are_below, AreStubs, with_subrs, filled_by, FontRefused};
 ghost use Rattle.t1_font.specs.Lent.{stub_at};
 ghost use Rattle.t1_join.specs.TableMeaning.{Rises};
 
@@ -92,6 +93,26 @@ fn with_stubs<'a>(
     made_with_stubs(alloc, subrs, indices, declared)
 }
 
+/// What so many stubs weigh in a font with this lenIV, as far as 64 bits hold it.
+fn stubs_weight(len_iv: u8, count: usize) -> u64
+    ensures { result ≡ clamp (count * (129 + len_iv)) }
+{
+    (count as u64).saturating_mul(129 + len_iv as u64)
+}
+
+/// What a font weighs with these Subrs, which are its own and stubs, as far as 64 bits hold it.
+fn filled_weight(parts: &FontParts<'_>, subrs: &Numbered<'_>) -> u64
+    ensures { (stubs : NumberedValue)
+        → AreStubs stubs
+        → subrs.now ≡ merged parts.now.subrs stubs
+        → result ≡ clamp (weight (with_subrs parts.now subrs.now)) }
+{
+    let added = subrs.len().saturating_sub(parts.subrs.len());
+    parts
+        .weight()
+        .saturating_add(stubs_weight(parts.shell.len_iv(), added))
+}
+
 /// The font with the stubs at the indices that it declares and lacks. A font without Subrs gets none, since it has no
 /// words to write them with.
 fn fill<'a>(alloc: Global, font: Font<'a>, indices: &'a [u16]) -> Result<Font<'a>, PartsFault>
@@ -113,16 +134,17 @@ fn fill<'a>(alloc: Global, font: Font<'a>, indices: &'a [u16]) -> Result<Font<'a
             return Err(PartsFault::Memory);
         }
     };
+    if filled_weight(&parts, &subrs) > WEIGHT_LIMIT {
+        drop(subrs);
+        drop(parts);
+        return Err(PartsFault::Limit);
+    }
     let parts = FontParts {
         shell: parts.shell,
         encoding: parts.encoding,
         subrs,
         glyphs: parts.glyphs,
     };
-    if parts.weight() > WEIGHT_LIMIT {
-        drop(parts);
-        return Err(PartsFault::Limit);
-    }
     Ok(Font { parts })
 }
 

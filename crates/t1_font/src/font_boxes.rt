@@ -10,7 +10,7 @@ ghost use Rattle.t1_font.specs.IsFont.{IsFont};
 ghost use Rattle.t1_font.specs.FontBoxes.{clear_of, with_clear, box_of, clear_with, with_texts, font_with, can_take, can_have, if_can, boxes_of, boxed};
 ghost use Rattle.t1_font.specs.FontModel.{clamp};
 ghost use Rattle.t1_font.specs.FontValue.{weight, texts_weight, weight_limit};
-ghost use Rattle.t1_font.specs.BoxViews.{box_view, kept_view, numbers_view, place_view, side_view};
+ghost use Rattle.t1_font.specs.BoxViews.{box_view, kept_view, numbers_view, place_view, side_view, are_alike, wanted_box};
 
 use crate::even_texts::{ClearTexts, both_fit, even_clear, same_both};
 use crate::evening::keep;
@@ -453,14 +453,39 @@ fn boxes_of(alloc: Global, sources: &[Source]) -> Result<Option<Vec<FontBox<'_>>
     Ok(Some(boxes))
 }
 
-/// The one box for some sources, if each has a box.
-fn one_box(alloc: Global, sources: &[Source]) -> Result<Option<KeptBox>, AllocError>
-    ensures { IfOk result (λ o. option_map kept_view o ≡ option_map joined_box (boxes_of sources.now)) }
+/// Whether some boxes are spelled like this one.
+fn are_like(sides: FontBox<'_>, boxes: &[FontBox<'_>]) -> bool
+    ensures { result ≡ list_all (same_box (box_view sides.entry)) (map box_view boxes.now) }
 {
-    match boxes_of(alloc, sources)? {
-        Some(boxes) => Ok(Some(joined_box(alloc, boxes.as_slice())?)),
-        None => Ok(None),
+    'boxes: for other in boxes {
+        if !same_box(sides, *other) {
+            return false;
+        }
     }
+    true
+}
+
+/// Whether all of some boxes are spelled alike.
+fn are_alike(boxes: &[FontBox<'_>]) -> bool
+    ensures { result ≡ are_alike (map box_view boxes.now) }
+{
+    match boxes {
+        [first, rest @ ..] => are_like(*first, rest),
+        [] => true,
+    }
+}
+
+/// The one box for some sources, if each has a box and they aren't spelled alike.
+fn one_box(alloc: Global, sources: &[Source]) -> Result<Option<KeptBox>, AllocError>
+    ensures { IfOk result (λ o. option_map kept_view o ≡ wanted_box (boxes_of sources.now)) }
+{
+    let Some(boxes) = boxes_of(alloc, sources)? else {
+        return Ok(None);
+    };
+    if are_alike(boxes.as_slice()) {
+        return Ok(None);
+    }
+    Ok(Some(joined_box(alloc, boxes.as_slice())?))
 }
 
 /// Whether each source can have this box.
@@ -503,8 +528,9 @@ fn all_with_box(
 /// greatest; each is written as one of the fonts spells it. A box of four zeros says that nothing is known, and makes all of
 /// them so. Only the four words are replaced.
 ///
-/// All sources stay as they are if one has no such box, or cannot have the new one: where its texts would no longer be even texts
-/// of a font, where the box would not be read again at its place, and where the font would be over the weight limit.
+/// All sources stay as they are if their boxes are spelled alike, if one has no such box, or if one cannot have the new one: where
+/// its texts would no longer be even texts of a font, where the box would not be read again at its place, and where the font would
+/// be over the weight limit.
 ///
 /// The sources are consumed whatever the answer is; after an error none of them is left.
 ///

@@ -8,7 +8,7 @@
 ghost use Rattle.std.specs.Prelude.{◌≡◌, ◌+◌, ◌<◌, ℕ, max, map, IfOk, IfSome};
 ghost use Rattle.std.specs.List.{slice_get};
 ghost use Rattle.std.specs.Option.{option_map, option_and_then};
-ghost use Rattle.std.specs.Ordering.{nat_cmp};
+ghost use Rattle.std.specs.Ordering.{nat_cmp, is_eq};
 ghost use Rattle.std.specs.FinMap as fin;
 ghost use Rattle.t1_join.specs.TableMeaning.{Rises};
 ghost use Rattle.t1_font.specs.FontValue.{name_cmp, total, subr_weight, glyph_weight};
@@ -205,6 +205,22 @@ impl<'a> Numbered<'a> {
         }
     }
 
+    /// Whether both tables have entries at the same numbers. Those of tables that are filled stand in lists.
+    pub fn same_numbers(&self, other: &Numbered<'_>) -> bool
+        ensures { result ≡ is_eq (name_cmp (fin.keys self.now) (fin.keys other.now)) }
+    {
+        match (&self.form, &other.form) {
+            (
+                NumberedForm::Filled { indices, .. },
+                NumberedForm::Filled {
+                    indices: others,
+                    ..
+                },
+            ) => *indices == *others,
+            _ => same_keys(self, other),
+        }
+    }
+
     /// The entries, upwards by number.
     pub fn entries(&self) -> NumberedEntries<'_, 'a>
         ensures { result ≡ fin.entries self.now }
@@ -260,6 +276,23 @@ impl<'a> SortedTable for Numbered<'a> {
     fn compare(one: &(u16, &'a [u8]), other: &(u16, &'a [u8])) -> Ordering {
         one.0.cmp(&other.0)
     }
+}
+
+/// Whether both tables have entries at the same numbers.
+fn same_keys(left: &Numbered<'_>, right: &Numbered<'_>) -> bool
+    ensures { result ≡ is_eq (name_cmp (fin.keys left.now) (fin.keys right.now)) }
+{
+    if left.len() != right.len() {
+        return false;
+    }
+    let mut others = right.entries();
+    'entries: for (number, _) in left.entries() {
+        match others.next() {
+            Some((other, _)) if other == number => {}
+            _ => return false,
+        }
+    }
+    others.next().is_none()
 }
 
 /// The entries of a table, upwards by number.

@@ -2,3 +2,4 @@ mod closing
 pub mod state_tables
 pub mod Answered
 pub mod Lacking
+pub mod Rejoining

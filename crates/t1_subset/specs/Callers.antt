@@ -11,6 +11,7 @@ use Rattle.t1_algebra.specs.Profile.{profile}
 use Rattle.t1_algebra.specs.Conflicts.{wants}
 use Rattle.t1_algebra.specs.Lacks.{user_of}
 use Rattle.t1_algebra.specs.Searches.{first_where}
+use Rattle.t1_algebra.specs.StateTables.{states_of}
 use Rattle.t1_subset.specs.declared.callers.Callers.{Callers}
 use Rattle.t1_subset.specs.Differences.{smaller}
 use Rattle.t1_subset.specs.declared.state_making.Uses.{Uses}
@@ -37,6 +38,13 @@ pub record AreUsesOf (u : Uses) (f : FontValue) : Type 0 where
 pub record AreCallersOf (c : Callers) (f : FontValue) : Type 0 where
   pub users : (i : ℕ) → maps.contains_key f.subrs i ≡ true → maps.get c.users (of_number i) ≡ user_of f i
   pub seekers : (p : List ℕ) → maps.get c.seekers p ≡ seeker_of f p
+
+-- another font has the same states but for what it shares, and in it the same glyphs execute each Subr and seek each component
+pub record RunAlike (f g : FontValue) : Type 0 where
+  pub states : (states_of profile g).1 ≡ (states_of profile f).1
+  pub users : (i : ℕ) → user_of g i ≡ user_of f i
+  pub seekers : (p : List ℕ) → seeker_of g p ≡ seeker_of f p
+  pub count : declared_count g.shell.subrs ≡ declared_count f.shell.subrs
 
 -- the fonts that a list of callers belongs to
 abbrev pub fonts_of : List Callers → List FontValue

@@ -9,6 +9,8 @@ use Rattle.t1_subset.specs.declared.conflict.Conflict.{Conflict}
 use Rattle.t1_subset.specs.declared.conflict.Conflict.TheVariants as conflict
 use Rattle.t1_subset.specs.declared.fault.SubsetFault.{SubsetFault}
 use Rattle.t1_subset.specs.declared.fault.SubsetFault.TheVariants as fault
+use Rattle.t1_subset.specs.declared.fault.RejoinFault.{RejoinFault}
+use Rattle.t1_subset.specs.declared.fault.RejoinFault.TheVariants as rejoin
 
 -- what is printed of a part of a shell
 abbrev pub part_text : ShellPart → List ℕ
@@ -42,3 +44,8 @@ conflict_text conflict.Empty = codes "nothing to merge"
 abbrev pub subset_text : SubsetFault → List ℕ
 subset_text (fault.NoSuchGlyph name) = codes "no glyph " ++ shown name.items
 subset_text fault.Memory = codes "out of memory"
+
+-- what is printed when fonts don't rejoin
+abbrev pub rejoin_text : RejoinFault → List ℕ
+rejoin_text (rejoin.Lacks glyph index) = codes "glyph " ++ (shown glyph.items ++ (codes " lacks subr " ++ decimal index))
+rejoin_text (rejoin.Merge e) = conflict_text e

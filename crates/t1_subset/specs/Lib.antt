@@ -9,3 +9,4 @@ pub mod Refusals
 pub mod Lacks
 pub mod Merger
 pub mod FaultTexts
+pub mod Rejoins

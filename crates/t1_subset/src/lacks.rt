@@ -7,7 +7,6 @@ ghost use Rattle.t1_algebra.specs.Lacks.{user_of, is_had, lack_at, lack_in, firs
 ghost use Rattle.t1_subset.specs.Lacks.{lack_view, have_same_subrs};
 ghost use Rattle.t1_subset.specs.Users.{noted_at};
 
-use crate::shared::same_indices;
 use crate::state_making::uses_of;
 use crate::users::{Noted, noted_user};
 use std::alloc::{AllocError, Global};
@@ -40,7 +39,7 @@ fn have_same_subrs(first: &Font<'_>, fonts: &[Font<'_>]) -> bool
     ensures { result ≡ have_same_subrs first.now fonts.now }
 {
     'fonts: for font in fonts {
-        if !same_indices(first.subrs(), font.subrs()) {
+        if !first.subrs().same_numbers(font.subrs()) {
             return false;
         }
     }
@@ -66,7 +65,11 @@ fn lack_at<'a>(
 
 /// The smallest index that a font declares and lacks, that one of its glyphs executes and that one of the fonts has, with the
 /// smallest such glyph.
-fn lack_by<'a>(fonts: &[Font<'a>], font: &Font<'a>, users: &Noted<'a>) -> Option<Lack<'a>>
+pub(crate) fn lack_by<'a>(
+    fonts: &[Font<'a>],
+    font: &Font<'a>,
+    users: &Noted<'a>,
+) -> Option<Lack<'a>>
     requires { (i : ℕ)
         → i < declared_count font.now.shell.subrs
         → noted_at users.now.items i ≡ user_of font.now i }

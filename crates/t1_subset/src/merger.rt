@@ -22,7 +22,7 @@ use t1_font::Font;
 /// The join of one or more fonts, by the callers of each and its states, which are let go before the font is made of the joined
 /// states.
 #[tactic(auto, using(std::proofs::lemmas::Result::err_from_is_err_and))]
-fn merge_noted<'a>(
+pub(crate) fn merge_noted<'a>(
     alloc: Global,
     callers: Vec<Callers<'_, '_>>,
     states: Vec<States<'a>>,

@@ -2,7 +2,6 @@
 
 ghost use Rattle.std.specs.Prelude.{◌≡◌, ◌↔◌, IsTrue, IfOk, not, map};
 ghost use Rattle.std.specs.Option.{option_map};
-ghost use Rattle.std.specs.FinMap as maps;
 ghost use Rattle.t1_font.specs.FontModel.{part_of, clamp};
 ghost use Rattle.t1_algebra.specs.Interpreter.{same_bytes};
 ghost use Rattle.t1_algebra.specs.Searches.{first_where};
@@ -57,23 +56,6 @@ pub(crate) fn same_bytes(left: &[u8], right: &[u8]) -> bool
     left == right
 }
 
-/// Whether two tables of Subrs have the same indices.
-pub(crate) fn same_indices(left: &Numbered<'_>, right: &Numbered<'_>) -> bool
-    ensures { result ≡ same_bytes (maps.keys left.now) (maps.keys right.now) }
-{
-    if left.len() != right.len() {
-        return false;
-    }
-    let mut others = right.entries();
-    'entries: for (index, _) in left.entries() {
-        match others.next() {
-            Some((other, _)) if other == index => {}
-            _ => return false,
-        }
-    }
-    others.next().is_none()
-}
-
 /// Whether both are the same word, or neither is a word.
 fn same_word(left: Option<&[u8]>, right: Option<&[u8]>) -> bool
     ensures { result
@@ -110,7 +92,7 @@ fn same_part(left: &Shared<'_>, right: &Shared<'_>, part: ShellPart) -> bool
         ShellPart::SubrsTable => {
             own.has_subrs() == other.has_subrs()
                 && own.declared_count() == other.declared_count()
-                && same_indices(&left.subrs, &right.subrs)
+                && left.subrs.same_numbers(&right.subrs)
         }
         ShellPart::SubrsWords => {
             same_text(own, other, Part::SubrsRd)

@@ -5,7 +5,7 @@ ghost use Rattle.std.specs.Option.{option_map};
 ghost use Rattle.t1_algebra.specs.Profile.{profile};
 ghost use Rattle.t1_algebra.specs.StateTables.{states_of};
 ghost use Rattle.t1_algebra.specs.Shared.{shared_of};
-ghost use Rattle.t1_subset.specs.Callers.{AreUsesOf, AreCallersOf, same_charstring};
+ghost use Rattle.t1_subset.specs.Callers.{AreUsesOf, AreCallersOf, RunAlike, same_charstring};
 
 use crate::callers::{Callers, Seekers, note_seekers};
 use crate::calls::run_alone;
@@ -60,24 +60,57 @@ pub(crate) fn uses_of<'a>(alloc: Global, font: &Font<'a>) -> Result<Uses<'a>, Al
     Ok(Uses { users, seekers })
 }
 
-/// The states of a font, by what it shares and what its glyphs execute and seek. No glyph is run.
+/// The states of a font by what it shares, and by another font with the same states but for that, whose glyphs execute and seek
+/// this. No glyph is run.
 fn states_from<'a>(
     alloc: Global,
     font: &Font<'a>,
     shared: Shared<'a>,
+    run: &Font<'a>,
     uses: &Uses<'a>,
 ) -> Result<States<'a>, AllocError>
     requires shared { shared ≡ shared_of font.now }
-    requires uses { AreUsesOf uses.now font.now }
+    requires uses { AreUsesOf uses.now run.now }
+    requires alike { RunAlike run.now font.now }
     ensures { IfOk result (λ s. s ≡ states_of profile font.now) }
 {
     font.proof_is_font();
+    run.proof_is_font();
     Ok(States {
         shared,
-        codes: code_table(alloc, font)?,
-        names: NameTable::of(alloc, font, &uses.seekers)?,
-        subrs: subr_table(alloc, font, &uses.users)?,
+        codes: code_table(alloc, run)?,
+        names: NameTable::of(alloc, run, &uses.seekers)?,
+        subrs: subr_table(alloc, run, &uses.users)?,
     })
+}
+
+/// The callers of a font, and its states, by what it shares, and by another font with the same states but for that, whose glyphs
+/// execute and seek this. No glyph is run.
+pub(crate) fn note_as<'t, 'a>(
+    alloc: Global,
+    font: &'t Font<'a>,
+    shared: Shared<'a>,
+    run: &Font<'a>,
+    uses: Uses<'a>,
+) -> Result<(Callers<'t, 'a>, States<'a>), AllocError>
+    requires shared { shared ≡ shared_of font.now }
+    requires uses { AreUsesOf uses run.now }
+    requires alike { RunAlike run.now font.now }
+    ensures font { IfOk result (λ n. n.0.font.now ≡ font.now) }
+    ensures callers { IfOk result (λ n. AreCallersOf n.0 font.now) }
+    ensures states { IfOk result (λ n. n.1 ≡ states_of profile font.now) }
+{
+    font.proof_is_font();
+    let states = states_from(alloc, font, shared, run, &uses)?;
+    let users = used(alloc, run, &uses.users)?;
+    Ok((
+        Callers {
+            font,
+            users,
+            seekers: uses.seekers,
+        },
+        states,
+    ))
 }
 
 /// The callers of a font, and its states, by what it shares. Each glyph of the font is run once.
@@ -91,18 +124,8 @@ pub(crate) fn note_font<'t, 'a>(
     ensures callers { IfOk result (λ n. AreCallersOf n.0 font.now) }
     ensures states { IfOk result (λ n. n.1 ≡ states_of profile font.now) }
 {
-    font.proof_is_font();
     let uses = uses_of(alloc, font)?;
-    let states = states_from(alloc, font, shared, &uses)?;
-    let users = used(alloc, font, &uses.users)?;
-    Ok((
-        Callers {
-            font,
-            users,
-            seekers: uses.seekers,
-        },
-        states,
-    ))
+    note_as(alloc, font, shared, font, uses)
 }
 
 /// The states of a font. Each glyph of the font is run once.
@@ -111,5 +134,5 @@ pub fn states<'a>(alloc: Global, font: &Font<'a>) -> Result<States<'a>, AllocErr
 {
     let shared = Shared::of(alloc, font)?;
     let uses = uses_of(alloc, font)?;
-    states_from(alloc, font, shared, &uses)
+    states_from(alloc, font, shared, font, &uses)
 }

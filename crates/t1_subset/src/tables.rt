@@ -1,9 +1,10 @@
 //! The states of a font's codes and Subrs, as tables that join key by key, and the table of the glyphs that execute them.
 
-ghost use Rattle.std.specs.Prelude.{◌≡◌, ℕ, true, IfOk, OnOk};
+ghost use Rattle.std.specs.Prelude.{◌≡◌, ◌<◌, ℕ, true, IfOk, OnOk};
 ghost use Rattle.std.specs.Option.{option_map};
 ghost use Rattle.std.specs.FinMap as maps;
 ghost use Rattle.t1_join.specs.Meaning.{of_number};
+ghost use Rattle.t1_font.specs.FontValue.{declared_count};
 ghost use Rattle.t1_algebra.specs.Profile.{profile};
 ghost use Rattle.t1_algebra.specs.StateTables.{numbered, code_states, used_subrs};
 ghost use Rattle.t1_subset.specs.Differences.{with_state, entry_state};
@@ -68,14 +69,10 @@ pub(crate) fn subr_table<'a>(
         → noted_at users.now.items i ≡ user_of font.now i }
     ensures { IfOk result (λ table. table ≡ numbered (used_subrs profile font.now)) }
 {
-    font.proof_is_font();
     let mut table = Table::new(alloc);
-    'indices: for index in 0..font.count() {
-        put(
-            &mut table,
-            index,
-            subr_state(font.subr(index), noted_user(users, index).is_some()),
-        )?;
+    'entries: for (index, body) in font.subrs().entries() {
+        let is_called = noted_user(users, index).is_some();
+        put(&mut table, index, subr_state(Some(body), is_called))?;
     }
     Ok(table)
 }
@@ -87,10 +84,9 @@ pub(crate) fn used<'a>(
     users: &Noted<'a>,
 ) -> Result<Users<'a>, AllocError>
     ensures { IfOk result (λ used. (q : ℕ)
-        → maps.contains_key font.now.subrs q ≡ true
+        → q < declared_count font.now.shell.subrs
         → maps.get used (of_number q) ≡ noted_at users.now.items q) }
 {
-    font.proof_is_font();
     let mut used = Table::new(alloc);
     'indices: for index in 0..font.count() {
         put(&mut used, index, noted_user(users, index))?;

@@ -3,13 +3,18 @@ use Rattle.std.proofs.Common.{◌≡◌, ℕ, ◌+◌, ◌<◌, Bool, true, fals
 use Rattle.std.specs.Prelude.{◌&&◌}
 use Rattle.std.specs.Global.{Vec}
 use Rattle.std.specs.Result.{IfOk}
-use Rattle.std.specs.List.{list_all}
-use Rattle.std.specs.Option.{option_map}
-use Rattle.std.proofs.lemmas.Bool.{cond-true, and_parts}
+use Rattle.std.specs.List.{AllByRecursion, list_all}
+use Rattle.std.specs.Option.{option_map, option_and_then}
+use Rattle.std.proofs.Common.{inl, inr}
+use Rattle.std.proofs.lemmas.Bool.{cond-true, cond-false, and_parts, cases_Bool}
 use Rattle.std.proofs.lemmas.List.{at_drop_more}
+use Rattle.std.proofs.lemmas.Slice.Eq.{bytes_eq-Decides}
 use Rattle.std.proofs.lemmas.Option.{none-some, same_Some}
 use Rattle.t1_font.specs.FontValue.{FontValue}
-use Rattle.t1_font.specs.FontBoxes.{Box, joined_box, font_with, can_have, if_can, boxes_of, all_with, boxed_by, boxed}
+use Rattle.t1_font.specs.FontBoxes.{Box, same_box, joined_box, box_of, font_with, can_have, if_can, boxes_of, all_with, boxed_by, boxed}
+use Rattle.t1_font.specs.BoxViews.{are_alike, wanted_box}
+use Rattle.t1_font.proofs.even_fonts.BoxPlaces.{box_same}
+use Rattle.t1_font.proofs.even_fonts.Boxes.{one_box_stays}
 
 -- ---- what an answer tells of a test
 
@@ -63,6 +68,61 @@ boxed_so fs u one can = by_boxes (boxes_of fs) refl one
         let is : u ≡ joined_box bs = same_Some u (joined_box bs) k in
         each_can u fs can
         ∙ (sym (cond-true (list_all (can_have u) fs) (map (font_with u) fs) fs can) ∙ ap (λ (v : Box). all_with v fs) is)
+
+-- fonts whose boxes are spelled like one have that one
+have_alike : (b : Box) (fs : List FontValue) (bs : List Box) → boxes_of fs ≡ Some bs → list_all (same_box b) bs ≡ true →
+    AllByRecursion (λ f. box_of f.shell ≡ Some b) fs
+have_alike b [] bs e h = tt
+have_alike b (f ∷ fs) bs e h = by_parts (box_of f.shell) (boxes_of fs) refl (λ cs t k. have_alike b fs cs t k) e
+  where
+    by_parts : (o : Option Box) (q : Option (List Box)) → box_of f.shell ≡ o →
+        ((cs : List Box) → q ≡ Some cs → list_all (same_box b) cs ≡ true → AllByRecursion (λ f. box_of f.shell ≡ Some b) fs) →
+        option_and_then (λ b. option_map (λ bs. b ∷ bs) q) o ≡ Some bs → AllByRecursion (λ f. box_of f.shell ≡ Some b) (f ∷ fs)
+    by_parts None q r more k = absurd (none-some bs k)
+    by_parts (Some c) None r more k = absurd (none-some bs k)
+    by_parts (Some c) (Some cs) r more k =
+        let is : c ∷ cs ≡ bs = same_Some (c ∷ cs) bs k in
+        let both = and_parts (same_box b c) (list_all (same_box b) cs) (ap (list_all (same_box b)) is ∙ h) in
+        (r ∙ ap Some (sym (box_same b c both.0)), more cs refl both.1)
+
+-- a box is spelled like itself
+box_itself : (b : Box) → same_box b b ≡ true
+box_itself b =
+    let same = λ (w : List ℕ). (bytes_eq-Decides w w).1 refl in
+    λ i. same b.llx i && same b.lly i && same b.urx i && same b.ury i
+
+-- no box is of no font
+no_boxes : (fs : List FontValue) → boxes_of fs ≡ Some [] → boxed fs ≡ fs
+no_boxes [] e = refl
+no_boxes (f ∷ fs) e = by_parts (box_of f.shell) (boxes_of fs) e
+  where
+    by_parts : (o : Option Box) (q : Option (List Box)) → option_and_then (λ b. option_map (λ bs. b ∷ bs) q) o ≡ Some [] → boxed (f ∷ fs) ≡ f ∷ fs
+    by_parts None q k = absurd (none-some [] k)
+    by_parts (Some c) None k = absurd (none-some [] k)
+    by_parts (Some c) (Some cs) k = let never : c ∷ cs ≡ [] = same_Some (c ∷ cs) [] k in cc
+
+-- fonts stay where no box is wanted for them
+pub unwanted : (fs : List FontValue) → wanted_box (boxes_of fs) ≡ None → boxed fs ≡ fs
+unwanted fs h = by_boxes (boxes_of fs) refl h
+  where
+    by_boxes : (o : Option (List Box)) → boxes_of fs ≡ o → wanted_box o ≡ None → boxed fs ≡ fs
+    by_boxes None e k = ap (boxed_by fs) e
+    by_boxes (Some []) e k = no_boxes fs e
+    by_boxes (Some (b ∷ bs)) e k = elim (cases_Bool (are_alike (b ∷ bs))) [
+      | inl t ↦ one_box_stays (Some b) fs (have_alike b fs (b ∷ bs) e (ap (λ (c : Bool). c && list_all (same_box b) bs) (box_itself b) ∙ t))
+      | inr t ↦ absurd (none-some (joined_box (b ∷ bs)) (sym k ∙ cond-false (are_alike (b ∷ bs)) None (Some (joined_box (b ∷ bs))) t))
+    ]
+
+-- where one is wanted, it is the one box for those that they have
+pub wanted : (fs : List FontValue) (u : Box) → Some u ≡ wanted_box (boxes_of fs) → Some u ≡ option_map joined_box (boxes_of fs)
+wanted fs u h = by_boxes (boxes_of fs) h
+  where
+    by_boxes : (o : Option (List Box)) → Some u ≡ wanted_box o → Some u ≡ option_map joined_box o
+    by_boxes None k = absurd (none-some u (sym k))
+    by_boxes (Some bs) k = elim (cases_Bool (are_alike bs)) [
+      | inl t ↦ absurd (none-some u (sym (k ∙ cond-true (are_alike bs) None (Some (joined_box bs)) t)))
+      | inr t ↦ k ∙ cond-false (are_alike bs) None (Some (joined_box bs)) t
+    ]
 
 -- sources that are these fonts are those fonts
 pub same_fonts : {E : Type 0} (r : Result (Vec FontValue) E) (fs gs : List FontValue) → fs ≡ gs → IfOk r (λ all. all.items ≡ fs) →

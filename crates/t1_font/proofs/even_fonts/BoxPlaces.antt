@@ -21,7 +21,7 @@ use Rattle.t1_font.proofs.even_fonts.BoxTexts.{opening_spelled}
 same_bytes : (x y : List ℕ) → bytes_eq x y ≡ true → x ≡ y
 same_bytes x y h = (bytes_eq-Decides x y).0 h
 
-box_same : (b c : Box) → same_box b c ≡ true → b ≡ c
+pub box_same : (b c : Box) → same_box b c ≡ true → b ≡ c
 box_same b c h =
     let p = and_parts (bytes_eq b.llx c.llx && bytes_eq b.lly c.lly && bytes_eq b.urx c.urx) (bytes_eq b.ury c.ury) h in
     let q = and_parts (bytes_eq b.llx c.llx && bytes_eq b.lly c.lly) (bytes_eq b.urx c.urx) p.0 in

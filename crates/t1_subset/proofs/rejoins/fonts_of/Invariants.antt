@@ -1,5 +1,5 @@
 use Rattle.std.proofs.Common.{◌≡◌, take}
-use Rattle.t1_cmd.proofs.mergers.fonts_of.Given as goal
+use Rattle.t1_subset.proofs.rejoins.fonts_of.Given as goal
 
 abbrev pub invariant-sources : goal.invariant-sources
 invariant-sources l = l.fonts.items ≡ take l.source-index l.sources

@@ -1,9 +1,10 @@
 use Rattle.std.proofs.Common.{◌≡◌, ap, sym, ◌∙◌, length}
 use Rattle.std.proofs.{lemmas.List.{length-map}, lemmas.Bool.{false_from_ne_true}}
+use Rattle.std.specs.Cmp.{Equal-is}
 use Rattle.std.specs.FinMap as maps
-use Rattle.t1_font.specs.FontValue.{Numbered}
-use Rattle.t1_algebra.proofs.Shares.{bytes_decide}
-use Rattle.t1_subset.proofs.shared.same_indices.Goals as goal
+use Rattle.std.specs.FinSet.{slice_cmp-IsAntisymmetric, nat_cmp-IsAntisymmetric}
+use Rattle.t1_font.specs.FontValue.{Numbered, name_cmp}
+use Rattle.t1_font.proofs.lent.same_keys.Goals as goal
 
 -- a table has as many entries as keys
 counted : (m : Numbered) → maps.len m ≡ length (maps.keys m)
@@ -14,4 +15,5 @@ returns-then-len c =
     let m = c.args.left.now in
     let n = c.args.right.now in
     sym (false_from_ne_true _
-    (λ h. c.if-len.true (c.len.ensures ∙ counted m ∙ ap length (bytes_decide.so (maps.keys m) (maps.keys n) h) ∙ sym (c.len-2.ensures ∙ counted n))))
+    (λ h. c.if-len.true (c.len.ensures ∙ counted m ∙ ap length (slice_cmp-IsAntisymmetric nat_cmp-IsAntisymmetric (maps.keys m) (maps.keys n) ((Equal-is (name_cmp (maps.keys m) (maps.keys n))).0 h))
+    ∙ sym (c.len-2.ensures ∙ counted n))))
