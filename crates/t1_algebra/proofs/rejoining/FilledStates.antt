@@ -95,7 +95,8 @@ module _ (f : FontValue) (indices : List ℕ) where
     pub user_same : (i : ℕ) → user_of full i ≡ user_of f i
     user_same i = λ j. first_where (λ n. executes_same i n j) (names_in f.glyphs)
 
-    pub seeker_same : (p : List ℕ) → first_where (λ n. wants profile full n p) (names_in full.glyphs) ≡ first_where (λ n. wants profile f n p) (names_in f.glyphs)
+    pub seeker_same : (p : List ℕ) → first_where (λ n. wants profile full n p) (names_in full.glyphs) ≡
+        first_where (λ n. wants profile f n p) (names_in f.glyphs)
     seeker_same p = λ j. first_where (λ n. not (has f p) && list_any (same_bytes p) (named_same n j)) (names_in f.glyphs)
 
     called_same : (i : ℕ) → is_called profile full i ≡ is_called profile f i
@@ -107,7 +108,8 @@ module _ (f : FontValue) (indices : List ℕ) where
       | inl e ↦ λ j. by (called_same i j) (e j)
       | inr a ↦
           ap (state_of_entry profile full i) a.stub
-          ∙ ap (λ (b : Bool). cond (not b) None (Some stub)) (called_same i ∙ (sym (found_any (λ n. executes profile f n i) (names_in f.glyphs)) ∙ ap is_some (quiet i a)))
+          ∙ ap (λ (b : Bool). cond (not b) None (Some stub))
+          (called_same i ∙ (sym (found_any (λ n. executes profile f n i) (names_in f.glyphs)) ∙ ap is_some (quiet i a)))
           ∙ sym (ap (state_of_entry profile f i) a.absent)
     ]
       where

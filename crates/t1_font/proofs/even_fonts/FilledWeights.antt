@@ -60,7 +60,8 @@ module _ (own stubs : Numbered) (h : AreStubs stubs) where
   own_left =
       sym (entries-retain nat_cmp_total nat_cmp-IsAntisymmetric all (contains_key own))
       ∙ ap entries (same_map nat_cmp_total nat_cmp-IsAntisymmetric (retain_keys all (contains_key own)) own
-      (λ q. get-retain nat_cmp_total nat_cmp-IsAntisymmetric all (contains_key own) q ∙ (ap (λ o. cond (contains_key own q) o None) (get_all q) ∙ kept (get own q) (get stubs q))))
+      (λ q. get-retain nat_cmp_total nat_cmp-IsAntisymmetric all (contains_key own) q
+      ∙ (ap (λ o. cond (contains_key own q) o None) (get_all q) ∙ kept (get own q) (get stubs q))))
     where
       kept : (x y : Option (List ℕ)) → cond (is_some x) (joined x y) None ≡ x
       kept None y = refl
@@ -71,7 +72,8 @@ module _ (own stubs : Numbered) (h : AreStubs stubs) where
   others len_iv = entries_all nat_cmp_total nat_cmp-IsAntisymmetric (λ k c. not (contains_key own k) ≡ true → subr_weight len_iv k c ≡ 129 + len_iv) all
       (λ k c is new. by k c (get own k) refl is new)
     where
-      by : (k : ℕ) (c : List ℕ) (o : Option (List ℕ)) → get own k ≡ o → get all k ≡ Some c → not (is_some (get own k)) ≡ true → subr_weight len_iv k c ≡ 129 + len_iv
+      by : (k : ℕ) (c : List ℕ) (o : Option (List ℕ)) → get own k ≡ o → get all k ≡ Some c → not (is_some (get own k)) ≡ true →
+          subr_weight len_iv k c ≡ 129 + len_iv
       by k c None e is new =
           let stub_there : c ≡ stub = h k c (sym (get_all k ∙ ap (λ o. joined o (get stubs k)) e) ∙ is) in
           ap (subr_weight len_iv k) stub_there ∙ omega arith

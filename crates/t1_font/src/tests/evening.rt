@@ -324,3 +324,30 @@ fn a_filled_font_over_the_limit(rt: HostRuntime) -> Result<(), Fail> {
     assert_eq!(rt; heavy.err(), Some(PartsFault::Limit), "a byte too many");
     Ok(())
 }
+
+/// Whether the first two of some fonts have Subrs at the same indices.
+fn have_same_subrs(fonts: &[Font<'_>]) -> bool {
+    match fonts {
+        [first, second, ..] => first.subrs().same_numbers(second.subrs()),
+        _ => false,
+    }
+}
+
+/// Whether two such fonts have Subrs at the same indices before they are filled, and then.
+fn same_in_halves(alloc: Global, declared: u16) -> Result<(bool, bool), PartsFault> {
+    let halves = halves(alloc, declared, 0)?;
+    let fonts = fonts_of(alloc, halves.as_slice())?;
+    let before = have_same_subrs(fonts.as_slice());
+    let mut indices = Vec::new(alloc);
+    let filled = fill_all(alloc, fonts, &mut indices)?;
+    Ok((before, have_same_subrs(filled.as_slice())))
+}
+
+#[test]
+fn same_indices_of_halves(rt: HostRuntime) -> Result<(), Fail> {
+    for &declared in &[2, 65_535] {
+        let same = same_in_halves(rt.alloc(), declared)?;
+        assert_eq!(rt; same, (false, true), "{declared} Subrs");
+    }
+    Ok(())
+}

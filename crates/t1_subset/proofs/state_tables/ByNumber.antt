@@ -135,7 +135,8 @@ module _ (t : TableMeaning) (x : ℕ → Option (List ℕ)) (m : Numbered) where
         found = λ i. by i (maps.find nat_cmp i rest) refl (nat_lt i (e.0 + 1)) refl;
       }
         where
-          by : (i : ℕ) (o : Option (List ℕ)) → maps.find nat_cmp i rest ≡ o → (b : Bool) → nat_lt i (e.0 + 1) ≡ b → maps.find nat_cmp i rest ≡ cond b None (maps.get m i)
+          by : (i : ℕ) (o : Option (List ℕ)) → maps.find nat_cmp i rest ≡ o → (b : Bool) → nat_lt i (e.0 + 1) ≡ b →
+              maps.find nat_cmp i rest ≡ cond b None (maps.get m i)
           by i None k true l = k
           by i (Some c) k true l = absurd (omega (arith, later i c k, ltb-true i (e.0 + 1) l))
           by i o k false l =

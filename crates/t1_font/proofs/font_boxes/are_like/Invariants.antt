@@ -5,4 +5,5 @@ use Rattle.t1_font.specs.BoxViews.{box_view}
 use Rattle.t1_font.proofs.font_boxes.are_like.Given as goal
 
 abbrev pub invariant-boxes : goal.invariant-boxes
-invariant-boxes l = list_all (same_box (box_view l.sides)) (map box_view (drop l.other-index l.boxes)) ≡ list_all (same_box (box_view l.sides)) (map box_view l.boxes)
+invariant-boxes l =
+    list_all (same_box (box_view l.sides)) (map box_view (drop l.other-index l.boxes)) ≡ list_all (same_box (box_view l.sides)) (map box_view l.boxes)

@@ -15,5 +15,6 @@ returns-then-len c =
     let m = c.args.left.now in
     let n = c.args.right.now in
     sym (false_from_ne_true _
-    (λ h. c.if-len.true (c.len.ensures ∙ counted m ∙ ap length (slice_cmp-IsAntisymmetric nat_cmp-IsAntisymmetric (maps.keys m) (maps.keys n) ((Equal-is (name_cmp (maps.keys m) (maps.keys n))).0 h))
+    (λ h. let same = slice_cmp-IsAntisymmetric nat_cmp-IsAntisymmetric (maps.keys m) (maps.keys n) ((Equal-is (name_cmp (maps.keys m) (maps.keys n))).0 h) in
+    c.if-len.true (c.len.ensures ∙ counted m ∙ ap length same
     ∙ sym (c.len-2.ensures ∙ counted n))))
