@@ -2,7 +2,7 @@
 //! answers want of memory answers right when it is made again. `None` is another refusal, which is wrong.
 
 use super::fonts::whole;
-use super::lacks::{FIVE, WHOLE, differing_in, lack_in, lacking};
+use super::lacks::{EIGHT, FIVE, WHOLE, differing_in, lack_in, lacking, rejoined};
 use crate::{Conflict, SubsetFault, closure, merge, merge_all, states, subset};
 use std::alloc::{AllocError, Global};
 use std::test::Fail;
@@ -128,12 +128,21 @@ fn source_answers_right(alloc: Global, source: &Source) -> Result<bool, AllocErr
     right
 }
 
-/// Whether a Subr that is lacking is found, and no shell that differs.
-fn lists_answer_right(alloc: Global) -> Result<bool, AllocError> {
+/// Whether a Subr that is lacking is found, also when fonts are rejoined, and no shell that differs.
+fn lacks_answer_right(alloc: Global) -> Result<bool, AllocError> {
     let (whole, five) = (lacking(alloc, &WHOLE)?, lacking(alloc, &FIVE)?);
     let files = [whole.as_slice(), five.as_slice()];
-    let lack = lack_in(alloc, &files)?;
-    Ok(lack.as_slice() == b"5 P".as_slice() && differing_in(alloc, &files)?.is_none())
+    let (lack, told) = (lack_in(alloc, &files)?, rejoined(alloc, &files)?);
+    let right = lack.as_slice() == b"5 P".as_slice()
+        && told.as_slice() == b"glyph P lacks subr 5".as_slice();
+    Ok(right && differing_in(alloc, &files)?.is_none())
+}
+
+/// Whether fonts rejoin, also where one gets a stub.
+fn lists_answer_right(alloc: Global) -> Result<bool, AllocError> {
+    let (whole, eight) = (lacking(alloc, &WHOLE)?, lacking(alloc, &EIGHT)?);
+    let counts = rejoined(alloc, &[whole.as_slice(), eight.as_slice()])?;
+    Ok(counts.as_slice() == b"10 10".as_slice() && lacks_answer_right(alloc)?)
 }
 
 fn answers_right(alloc: Global) -> Result<bool, AllocError> {

@@ -1,7 +1,7 @@
 //! Lists of fonts of which a glyph executes a Subr that its font lacks, and shells of lists.
 
 use super::fonts::{Entry, GLYPHS, SHELL, SUBRS, Shell, file, font, glyphs_text, lent, put_entry};
-use crate::{ShellPart, first_lack, shells_conflict};
+use crate::{Conflict, RejoinFault, ShellPart, first_lack, fonts_of, rejoin, shells_conflict};
 use std::alloc::{AllocError, Global};
 use std::test::Fail;
 use t1_font::{Font, Source, read};
@@ -12,6 +12,8 @@ pub type Made = (Shell, &'static [&'static [u8]]);
 pub const WHOLE: Made = (SHELL, &[]);
 
 pub const FIVE: Made = (SHELL, &[b"5"]);
+
+pub const EIGHT: Made = (SHELL, &[b"8"]);
 
 /// The shell without a table of Subrs.
 const BARE: Shell = Shell {
@@ -69,13 +71,12 @@ fn sources(alloc: Global, files: &[&[u8]]) -> Result<Vec<Source>, AllocError> {
     Ok(sources)
 }
 
-/// The font of each source.
-fn fonts(alloc: Global, sources: &[Source]) -> Result<Vec<Font<'_>>, AllocError> {
-    let mut fonts = Vec::new(alloc);
-    for source in sources {
-        fonts.push(source.font(alloc)?)?;
-    }
-    Ok(fonts)
+/// How many Subrs and glyphs a font has.
+fn counts_text(alloc: Global, font: &Font<'_>) -> Result<String, AllocError> {
+    let mut text = font.subrs().len().to_string(alloc)?;
+    text.push_str(" ")?;
+    text.push_str(font.glyphs().len().to_string(alloc)?.as_str())?;
+    Ok(text)
 }
 
 /// What the first font of a list lacks: the index and the glyph, as a text.
@@ -92,15 +93,27 @@ fn lack_text(alloc: Global, fonts: &[Font<'_>]) -> Result<Vec<u8>, AllocError> {
 /// What the first font of the files lacks, as a text.
 pub fn lack_in(alloc: Global, files: &[&[u8]]) -> Result<Vec<u8>, AllocError> {
     let sources = sources(alloc, files)?;
-    let fonts = fonts(alloc, sources.as_slice())?;
+    let fonts = fonts_of(alloc, sources.as_slice())?;
     lack_text(alloc, fonts.as_slice())
 }
 
 /// The first part in which the shells of the files differ.
 pub fn differing_in(alloc: Global, files: &[&[u8]]) -> Result<Option<ShellPart>, AllocError> {
     let sources = sources(alloc, files)?;
-    let fonts = fonts(alloc, sources.as_slice())?;
+    let fonts = fonts_of(alloc, sources.as_slice())?;
     Ok(shells_conflict(alloc, fonts.as_slice()))
+}
+
+/// How many Subrs and glyphs the font has that the files rejoin to, as a text, or why they don't rejoin.
+pub fn rejoined(alloc: Global, files: &[&[u8]]) -> Result<Vec<u8>, AllocError> {
+    let sources = sources(alloc, files)?;
+    let mut indices = Vec::new(alloc);
+    let text = match rejoin(alloc, sources.as_slice(), &mut indices) {
+        Ok(font) => counts_text(alloc, &font)?,
+        Err(RejoinFault::Merge(Conflict::Memory)) => return Err(AllocError),
+        Err(fault) => fault.to_string(alloc)?,
+    };
+    Vec::from_slice(alloc, text.as_bytes())
 }
 
 /// The files of these fonts.
@@ -115,43 +128,100 @@ fn files(alloc: Global, all: &[Made]) -> Result<Vec<Vec<u8>>, AllocError> {
     Ok(files)
 }
 
-/// Fonts, and what the first of them lacks. P executes Subr 5 where hints are kept, A executes Subr 6, and H Subrs 4 and 7.
-const LACKS: &[(&str, &[Made], &[u8])] = &[
-    ("no font", &[], b""),
-    ("one font", &[FIVE], b""),
-    ("the same font", &[WHOLE, WHOLE], b""),
-    ("no font has it", &[FIVE, (SHELL, &[b"5", b"8", b"9"])], b""),
-    ("the last", &[WHOLE, FIVE], b"5 P"),
-    ("the first", &[FIVE, WHOLE], b"5 P"),
+/// Fonts, what the first of them lacks, and what they rejoin to. P executes Subr 5 where hints are kept, A executes Subr 6, and H
+/// Subrs 4 and 7.
+const LACKS: &[(&str, &[Made], &[u8], &[u8])] = &[
+    ("no font", &[], b"", b"nothing to merge"),
+    ("one font", &[FIVE], b"", b"9 10"),
+    ("the same font", &[WHOLE, WHOLE], b"", b"10 10"),
+    (
+        "no font has it",
+        &[FIVE, (SHELL, &[b"5", b"8", b"9"])],
+        b"",
+        b"9 10",
+    ),
+    ("the last", &[WHOLE, FIVE], b"5 P", b"glyph P lacks subr 5"),
+    ("the first", &[FIVE, WHOLE], b"5 P", b"glyph P lacks subr 5"),
     (
         "the smallest index",
         &[WHOLE, (SHELL, &[b"5", b"6"])],
         b"5 P",
+        b"glyph P lacks subr 5",
     ),
-    ("it alone is had", &[FIVE, (SHELL, &[b"5", b"6"])], b"6 A"),
+    (
+        "it alone is had",
+        &[FIVE, (SHELL, &[b"5", b"6"])],
+        b"6 A",
+        b"glyph A lacks subr 6",
+    ),
     (
         "the first font",
         &[WHOLE, (SHELL, &[b"6", b"7"]), FIVE],
         b"6 A",
+        b"glyph A lacks subr 6",
     ),
-    ("before it", &[FIVE, (SHELL, &[b"6", b"7"]), WHOLE], b"5 P"),
-    ("nobody executes it", &[WHOLE, (SHELL, &[b"8", b"9"])], b""),
-    ("no table", &[WHOLE, (BARE, &[])], b""),
-    ("a table", &[WHOLE, (SHELL, ALL)], b"3 P"),
+    (
+        "before it",
+        &[FIVE, (SHELL, &[b"6", b"7"]), WHOLE],
+        b"5 P",
+        b"glyph P lacks subr 5",
+    ),
+    (
+        "before a shell that differs",
+        &[(TAIL, &[]), WHOLE, FIVE],
+        b"5 P",
+        b"glyph P lacks subr 5",
+    ),
+    (
+        "nobody executes it",
+        &[WHOLE, (SHELL, &[b"8", b"9"])],
+        b"",
+        b"10 10",
+    ),
+    (
+        "stubs in both",
+        &[(SHELL, &[b"8"]), (SHELL, &[b"9"]), WHOLE],
+        b"",
+        b"10 10",
+    ),
+    (
+        "another shell",
+        &[WHOLE, (SHELL, &[b"8"]), (TAIL, &[])],
+        b"",
+        b"shells differ in tail",
+    ),
+    (
+        "no table",
+        &[WHOLE, (BARE, &[])],
+        b"",
+        b"shells differ in private",
+    ),
+    (
+        "a table",
+        &[WHOLE, (SHELL, ALL)],
+        b"3 P",
+        b"glyph P lacks subr 3",
+    ),
 ];
 
 /// The indices of all Subrs above.
 const ALL: &[&[u8]] = &[b"0", b"1", b"2", b"3", b"4", b"5", b"6", b"7", b"8", b"9"];
 
 // meets first_lack Some at 2, 3 fonts
-// meets first_lack None at 0, 1, 2 fonts
+// meets first_lack None at 0, 1, 2, 3 fonts
+// meets fonts_of Ok at 0, 1, 2, 3 fonts
+// meets rejoin Ok at 1, 2, 3 fonts
+// meets rejoin Lacks at 2, 3 fonts
+// meets rejoin Merge at 0, 2, 3 fonts
 #[test]
 fn the_first_lack(rt: HostRuntime) -> Result<(), Fail> {
-    for (name, all, want) in LACKS {
+    for (name, all, want, rejoins) in LACKS {
         let files = files(rt.alloc(), all)?;
         let lent = lent(rt.alloc(), files.as_slice())?;
         let got = lack_in(rt.alloc(), lent.as_slice())?;
         assert!(rt; got.as_slice() == *want, "{name}");
+        let got = rejoined(rt.alloc(), lent.as_slice())?;
+        assert!(rt; got.as_slice() == *rejoins, "{name} rejoins");
     }
     Ok(())
 }
@@ -208,6 +278,9 @@ fn many(alloc: Global, subrs: &[Entry]) -> Result<Vec<u8>, AllocError> {
 
 // meets first_lack Some at 65535 glyphs
 // meets first_lack None at 65535 glyphs
+// meets rejoin Lacks at 65535 glyphs
+// meets rejoin Ok at 65535 glyphs
+// meets fonts_of Ok at 65535 glyphs
 // meets shells_conflict None at 65535 glyphs
 #[test]
 fn a_lack_of_many_glyphs(rt: HostRuntime) -> Result<(), Fail> {
@@ -216,10 +289,14 @@ fn a_lack_of_many_glyphs(rt: HostRuntime) -> Result<(), Fail> {
     let five = many(rt.alloc(), left.as_slice())?;
     let got = lack_in(rt.alloc(), &[five.as_slice(), whole.as_slice()])?;
     assert!(rt; got.as_slice() == b"5 0".as_slice());
+    let got = rejoined(rt.alloc(), &[five.as_slice(), whole.as_slice()])?;
+    assert!(rt; got.as_slice() == b"glyph 0 lacks subr 5".as_slice());
     let left = without(rt.alloc(), &[b"8"])?;
     let eight = many(rt.alloc(), left.as_slice())?;
     let files = [eight.as_slice(), whole.as_slice()];
     assert!(rt; lack_in(rt.alloc(), &files)?.is_empty());
+    let own = [eight.as_slice()];
+    assert!(rt; rejoined(rt.alloc(), &own)?.as_slice() == b"9 65535".as_slice());
     assert!(rt; differing_in(rt.alloc(), &files)?.is_none());
     Ok(())
 }
