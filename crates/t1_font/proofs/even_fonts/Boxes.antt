@@ -130,7 +130,7 @@ boxed_keeps fs = by_cases (λ gs. map without_clear gs ≡ map without_clear fs)
 
 -- ---- fonts of one box
 
-own_font : (f : FontValue) (b : Box) → box_of f.shell ≡ Some b → font_with b f ≡ f
+pub own_font : (f : FontValue) (b : Box) → box_of f.shell ≡ Some b → font_with b f ≡ f
 own_font f b e = λ i. record { shell = own_box f.shell b e i; encoding = f.encoding; subrs = f.subrs; glyphs = f.glyphs }
 
 own_fonts : (b : Box) (fs : List FontValue) → AllByRecursion (λ f. box_of f.shell ≡ Some b) fs → map (font_with b) fs ≡ fs
@@ -281,7 +281,7 @@ other_bytes u x b head tail = by_places (place_in x.0) (place_in x.1) refl refl
     by_places None None r t = (head, tail)
 
 -- so are the boxes of fonts
-all_bytes : (fs : List FontValue) (bs : List Box) → boxes_of fs ≡ Some bs → AllByRecursion IsFont fs → AllByRecursion BoxBytes bs
+pub all_bytes : (fs : List FontValue) (bs : List Box) → boxes_of fs ≡ Some bs → AllByRecursion IsFont fs → AllByRecursion BoxBytes bs
 all_bytes [] bs e h = subst (AllByRecursion BoxBytes) (same_Some [] bs e) tt
 all_bytes (f ∷ fs) bs e h = by_parts (box_of f.shell) (boxes_of fs) refl (λ cs t. all_bytes fs cs t h.1) e
   where
@@ -322,11 +322,11 @@ filter_bytes (b ∷ bs) h =
     cond_both (says_nothing b) (b ∷ filter says_nothing bs) (filter says_nothing bs) (AllByRecursion BoxBytes)
     (λ _. (h.0, filter_bytes bs h.1)) (λ _. filter_bytes bs h.1)
 
-joined_bytes : (bs : List Box) → AllByRecursion BoxBytes bs → BoxBytes (joined_box bs)
+pub joined_bytes : (bs : List Box) → AllByRecursion BoxBytes bs → BoxBytes (joined_box bs)
 joined_bytes bs h = held_bytes (counted bs)
     (cond_both (list_any says_nothing bs) (filter says_nothing bs) bs (AllByRecursion BoxBytes) (λ _. filter_bytes bs h) (λ _. h))
 
-all_fonts : (u : Box) → BoxBytes u → (fs : List FontValue) → list_all (can_have u) fs ≡ true → AllByRecursion IsFont fs →
+pub all_fonts : (u : Box) → BoxBytes u → (fs : List FontValue) → list_all (can_have u) fs ≡ true → AllByRecursion IsFont fs →
     AllByRecursion IsFont (map (font_with u) fs)
 all_fonts u b [] t h = tt
 all_fonts u b (f ∷ fs) t h =
