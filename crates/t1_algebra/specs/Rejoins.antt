@@ -1,6 +1,6 @@
 -- Subsets that other programs cut, and what they come to when they are made even and merged.
-use Rattle.std.specs.Prelude.{◌≡◌, ℕ, ◌≤◌, ◌<◌, max, nat_lt, true, List, [], ◌∷◌, map, None, IsPermutation}
-use Rattle.std.specs.List.{AllByRecursion}
+use Rattle.std.specs.Prelude.{◌≡◌, ℕ, ◌≤◌, ◌<◌, max, nat_lt, true, List, [], ◌∷◌, map, Option, Some, None, IsPermutation}
+use Rattle.std.specs.List.{AllByRecursion, list_all}
 use Rattle.std.specs.Option.{option_map}
 use Rattle.std.specs.FinMap as maps
 use Rattle.std.specs.FinSet as sets
@@ -8,7 +8,8 @@ use Rattle.t1_join.specs.Groupings.{Grouping, leaves, map_grouping}
 use Rattle.t1_font.specs.FontValue.{FontValue, SubrsShell, declared_count}
 use Rattle.t1_font.specs.IsFont.{IsFont}
 use Rattle.t1_font.specs.EvenTexts.{even_texts}
-use Rattle.t1_font.specs.Evening.{evened_shells, evened}
+use Rattle.t1_font.specs.Evening.{each_even, evened_shells, evened}
+use Rattle.t1_font.specs.FontBoxes.{Box, joined_box, box_of, font_with, can_have, boxes_of}
 use Rattle.t1_algebra.specs.Interpreter.{Names}
 use Rattle.t1_algebra.specs.Keep.{keep, kept, subset}
 use Rattle.t1_algebra.specs.Profile.{profile}
@@ -42,12 +43,16 @@ pub record Truncated : Type 0 where
   pub names : Names
   pub count : ℕ
 
--- It is the subset of f over names of f, cut to its first Subrs, once the texts of both are made even: they may differ in white space, in lines that
--- number the font, and in tags. The first Subrs include those that it keeps and f has, and f declares no fewer.
+-- fonts that are the same once one box, whichever it is, stands in place of that of each
+abbrev pub SameButBox : FontValue → FontValue → Type 0
+SameButBox f g = (u : Box) → font_with u f ≡ font_with u g
+
+-- It is the subset of f over names of f, cut to its first Subrs, but for the box, once the texts of both are made even: they may differ in white space,
+-- in lines that number the font, in tags and in FontBBox. The first Subrs include those that it keeps and f has, and f declares no fewer.
 pub record IsTruncated (f : FontValue) (t : Truncated) : Type 0 where
   pub font : IsFont t.font
   pub names : IsOf f t.names
-  pub same : with_even_texts t.font ≡ with_even_texts (cut_to t.count (subset profile f t.names))
+  pub same : SameButBox (with_even_texts t.font) (with_even_texts (cut_to t.count (subset profile f t.names)))
   pub kept : (i : ℕ) → sets.contains (kept profile f t.names) i ≡ true → maps.contains_key f.subrs i ≡ true → i < t.count
   pub count : t.count ≤ declared_count f.shell.subrs
 
@@ -68,27 +73,39 @@ abbrev pub largest : List Truncated → ℕ
 largest [] = 0
 largest (t ∷ ts) = max t.count (largest ts)
 
--- the font with even texts, cut to the largest of the counts
-abbrev pub shared_font : FontValue → List Truncated → FontValue
-shared_font f ts = cut_to (largest ts) (with_even_texts f)
+-- The box that they get: all have the font's own (None), or each of them, and the font, can have the one box for theirs.
+abbrev pub GetBox : FontValue → List Truncated → Option Box → Type 0
+GetBox f ts None = AllByRecursion (λ t. box_of (even_texts t.font.shell) ≡ box_of (even_texts f.shell)) ts
+GetBox f ts (Some u) = (option_map joined_box (boxes_of (each_even (truncated_fonts ts))) ≡ Some u)
+    × (list_all (can_have u) (with_even_texts f ∷ each_even (truncated_fonts ts)) ≡ true)
 
--- the subset over all the names, with even texts and cut to the largest of the counts
-abbrev pub rejoined : FontValue → List Truncated → FontValue
-rejoined f ts = cut_to (largest ts) (with_even_texts (subset profile f (names_of_all ts)))
+-- a font with this box, if there is one
+abbrev pub boxed_as : Option Box → FontValue → FontValue
+boxed_as None f = f
+boxed_as (Some u) f = font_with u f
+
+-- the font with even texts and this box, cut to the largest of the counts
+abbrev pub shared_font : FontValue → List Truncated → Option Box → FontValue
+shared_font f ts o = boxed_as o (cut_to (largest ts) (with_even_texts f))
+
+-- the subset over all the names, with even texts and this box, cut to the largest of the counts
+abbrev pub rejoined : FontValue → List Truncated → Option Box → FontValue
+rejoined f ts o = boxed_as o (cut_to (largest ts) (with_even_texts (subset profile f (names_of_all ts))))
 
 -- No glyph of a truncated subset executes a Subr that its font lacks and another has. Made even, they are subsets of one font; in every order and grouping
--- they merge to the subset over all the names, cut to the largest of the counts and with even texts, and to nothing else; each kept glyph draws in it as in
--- the font.
-pub record Rejoins (f : FontValue) (ts : List Truncated) : Type 0 where
-  pub shared : IsFont (shared_font f ts)
+-- they merge to the subset over all the names, cut to the largest of the counts and with even texts and one box, and to nothing else; each kept glyph draws
+-- in it as in the font.
+pub record Rejoins (f : FontValue) (ts : List Truncated) (o : Option Box) : Type 0 where
+  pub shared : IsFont (shared_font f ts o)
   pub lacks : first_lack (evened_shells (truncated_fonts ts)) ≡ None
-  pub subsets : evened (truncated_fonts ts) ≡ map (subset profile (shared_font f ts)) (sets_of ts)
-  pub merges : (t : Grouping FontValue) → IsPermutation (evened (truncated_fonts ts)) (leaves t) → MergesTo t (rejoined f ts)
-  pub draws : (n : List ℕ) → sets.contains (keep profile f (names_of_all ts)) n ≡ true → DrawsAlike f (rejoined f ts) n
+  pub subsets : evened (truncated_fonts ts) ≡ map (subset profile (shared_font f ts o)) (sets_of ts)
+  pub merges : (t : Grouping FontValue) → IsPermutation (evened (truncated_fonts ts)) (leaves t) → MergesTo t (rejoined f ts o)
+  pub draws : (n : List ℕ) → sets.contains (keep profile f (names_of_all ts)) n ≡ true → DrawsAlike f (rejoined f ts o) n
 
 -- one or more truncated subsets of one font rejoin
 abbrev pub TruncatedSubsetsRejoin : Type 0
-TruncatedSubsetsRejoin = (f : FontValue) → IsFont f → (t : Truncated) (ts : List Truncated) → AllByRecursion (IsTruncated f) (t ∷ ts) → Rejoins f (t ∷ ts)
+TruncatedSubsetsRejoin = (f : FontValue) → IsFont f → (t : Truncated) (ts : List Truncated) → AllByRecursion (IsTruncated f) (t ∷ ts) →
+    (o : Option Box) → GetBox f (t ∷ ts) o → Rejoins f (t ∷ ts) o
 
 -- ---- fonts that merge
 

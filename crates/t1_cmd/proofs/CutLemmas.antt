@@ -8,7 +8,7 @@ use Rattle.std.proofs.lemmas.List.Sorted.{IsPermutation-refl}
 use Rattle.t1_bytes.specs.declared.form.Form.{Form}
 use Rattle.t1_run.specs.Run.{Subrs, direct, direct3, exec}
 use Rattle.t1_run.specs.Drawings.{draw, draw3}
-use Rattle.t1_font.specs.FontValue.{FontValue, Shell, SubrsShell, Numbered, declared_count, count_limit}
+use Rattle.t1_font.specs.FontValue.{FontValue, Shell, SubrsShell, Numbered, Named, declared_count, count_limit}
 use Rattle.t1_font.specs.FontModel.{subr_at}
 use Rattle.t1_font.specs.IsFont.{IsFont, SubrsFit}
 use Rattle.t1_font.proofs.even_fonts.Evened.{even_is_font, filled_is_font}
@@ -25,11 +25,13 @@ use Rattle.t1_algebra.specs.Laws.{IsOf, DrawsAlike}
 use Rattle.t1_algebra.specs.Evened.{StaysDrawn, map_subrs, AllStayDrawn, EachBeside}
 use Rattle.t1_algebra.proofs.Drawings.{answers_alike}
 use Rattle.t1_algebra.specs.Merges.{ComesTo, DrawsAll}
-use Rattle.t1_algebra.specs.Rejoins.{Truncated, IsTruncated, truncated_fonts, sets_of, shared_font, rejoined, Rejoins}
+use Rattle.t1_algebra.specs.Rejoins.{cut_to, with_even_texts, Truncated, IsTruncated, truncated_fonts, sets_of, largest}
+use Rattle.t1_algebra.specs.Rejoins.{GetBox, boxed_as, shared_font, rejoined, Rejoins}
+use Rattle.t1_font.specs.FontBoxes.{Box}
 use Rattle.t1_algebra.proofs.Fonts.{subset_is_font, merges_are_fonts}
 use Rattle.t1_algebra.proofs.rejoining.Evened.{evened_draw}
 use Rattle.t1_subset.proofs.Answered.{draws_all}
-use Rattle.t1_algebra.proofs.rejoining.Rejoined.{truncated_subsets_rejoin}
+use Rattle.t1_algebra.proofs.rejoining.Boxed.{truncated_subsets_rejoin}
 use Rattle.t1_cmd.specs.declared.counting.Counted.{Counted}
 use Rattle.t1_cmd.specs.declared.faults.Reason.{Reason}
 use Rattle.t1_cmd.specs.declared.faults.Reason.TheVariants.{Memory}
@@ -46,23 +48,32 @@ use Rattle.t1_cmd.proofs.RejoinLemmas.{all_light, light_or_heavy, rejoins_unlack
 
 -- ---- what truncated subsets rejoin to
 
-module _ (f : FontValue) (h : IsFont f) (form : Form) (t : Truncated) (ts : List Truncated) (all : AllByRecursion (IsTruncated f) (t ∷ ts)) where
+-- a font with a box has the glyphs that it had
+same_glyphs : (o : Option Box) (f : FontValue) → (boxed_as o f).glyphs ≡ f.glyphs
+same_glyphs None f = refl
+same_glyphs (Some u) f = refl
+
+module _ (f : FontValue) (h : IsFont f) (form : Form) (t : Truncated) (ts : List Truncated) (all : AllByRecursion (IsTruncated f) (t ∷ ts))
+    (o : Option Box) (get : GetBox f (t ∷ ts) o) where
   abbrev cuts : List FontValue
   cuts = truncated_fonts (t ∷ ts)
 
   abbrev whole : FontValue
-  whole = rejoined f (t ∷ ts)
+  whole = rejoined f (t ∷ ts) o
 
   abbrev shared : FontValue
-  shared = shared_font f (t ∷ ts)
+  shared = shared_font f (t ∷ ts) o
 
-  they_rejoin : Rejoins f (t ∷ ts)
-  they_rejoin = truncated_subsets_rejoin f h t ts all
+  they_rejoin : Rejoins f (t ∷ ts) o
+  they_rejoin = truncated_subsets_rejoin f h t ts all o get
 
   -- the names are names of the font that they share
   names_of_shared : (us : List Truncated) → AllByRecursion (IsTruncated f) us → AllByRecursion (IsOf shared) (sets_of us)
   names_of_shared [] k = tt
-  names_of_shared (u ∷ us) k = (k.0.names, names_of_shared us k.1)
+  names_of_shared (u ∷ us) k = (
+    λ n e. ap (λ (m : Named). is_some (maps.get m n)) (same_glyphs o (cut_to (largest (t ∷ ts)) (with_even_texts f))) ∙ k.0.names n e,
+    names_of_shared us k.1,
+  )
 
   -- the subsets of that font are fonts
   are_fonts : (names : List Names) → AllByRecursion (IsOf shared) names → AllByRecursion IsFont (map (subset profile shared) names)
@@ -144,16 +155,16 @@ module _ (f : FontValue) where
 pub rejoins_cut_files : {V : Type 0} (form : Form) (files : List (List ℕ)) (view : V → List ℕ) (result : Result V FilesRefusal) →
     IfOk result (λ v. OfFiles mended_input (RejoinsTo form) files (Ok (view v))) → IfErr result (RefusesFiles mended_input (RejoinsTo form) files) →
     OfRejoined form files (λ whole. MatchResult result (λ v. view v ≡ whole) (λ e. (e.place ≡ None) × (e.reason ≡ Memory)))
-rejoins_cut_files form files view result d r f h t ts s =
-    files_answered mended_input (RejoinsTo form) (truncated_fonts (t ∷ ts)) (canon (rejoined f (t ∷ ts)) form)
-    (one_answer f h form t ts (files_cut f (t ∷ ts) files s)) files (files_said f 0 (t ∷ ts) files s) view result d r
+rejoins_cut_files form files view result d r f h t ts s o get =
+    files_answered mended_input (RejoinsTo form) (truncated_fonts (t ∷ ts)) (canon (rejoined f (t ∷ ts) o) form)
+    (one_answer f h form t ts (files_cut f (t ∷ ts) files s) o get) files (files_said f 0 (t ∷ ts) files s) view result d r
 
 -- an engine that ends as rejoining does writes it
 pub writes_rejoined : {W : Type 0} (contents : W → Option (List ℕ)) (form : Form) (is : List Input) (w v : Counted W) (result : Result (Unit {0}) RunFault) →
     RunEnds mended_input (RejoinsTo form) contents is w v result → WritesRejoined contents form is w v result
-writes_rejoined contents form is w v result ends f h t ts s =
-    inputs_answered mended_input (RejoinsTo form) (truncated_fonts (t ∷ ts)) (canon (rejoined f (t ∷ ts)) form)
-    (one_answer f h form t ts (inputs_cut f (t ∷ ts) is s)) is (inputs_said f (t ∷ ts) is s) contents w v result ends
+writes_rejoined contents form is w v result ends f h t ts s o get =
+    inputs_answered mended_input (RejoinsTo form) (truncated_fonts (t ∷ ts)) (canon (rejoined f (t ∷ ts) o) form)
+    (one_answer f h form t ts (inputs_cut f (t ∷ ts) is s) o get) is (inputs_said f (t ∷ ts) is s) contents w v result ends
 
 -- ---- what stays drawn
 

@@ -8,7 +8,8 @@ use Rattle.t1_font.specs.IsFont.{IsFont}
 use Rattle.t1_font.specs.Canon.{canon}
 use Rattle.t1_algebra.specs.Keep.{has}
 use Rattle.t1_algebra.specs.Evened.{StaysDrawn, map_subrs}
-use Rattle.t1_algebra.specs.Rejoins.{Truncated, IsTruncated, rejoined}
+use Rattle.t1_algebra.specs.Rejoins.{Truncated, IsTruncated, GetBox, rejoined}
+use Rattle.t1_font.specs.FontBoxes.{Box}
 use Rattle.t1_cmd.specs.declared.counting.Counted.{Counted}
 use Rattle.t1_cmd.specs.declared.faults.RunFault.{RunFault}
 use Rattle.t1_cmd.specs.Inputs.{Input}
@@ -29,11 +30,11 @@ AreCutFiles f [] (file ∷ files) = ⊥
 AreCutFiles f (t ∷ ts) [] = ⊥
 AreCutFiles f (t ∷ ts) (file ∷ files) = IsCutFile f t file × AreCutFiles f ts files
 
--- Of the files of truncated subsets of one font, one or more, this holds of the canonical file of what they rejoin to: the subset over all the names,
--- with even texts and cut to the largest of their counts.
+-- Of the files of truncated subsets of one font, one or more, which have the font's box or can get one, this holds of the canonical file of what they
+-- rejoin to: the subset over all the names, with even texts and that box, and cut to the largest of their counts.
 abbrev pub OfRejoined : Form → List (List ℕ) → (List ℕ → Type 0) → Type 0
 OfRejoined form files P = (f : FontValue) → IsFont f → (t : Truncated) (ts : List Truncated) → AreCutFiles f (t ∷ ts) files →
-    P (canon (rejoined f (t ∷ ts)) form)
+    (o : Option Box) → GetBox f (t ∷ ts) o → P (canon (rejoined f (t ∷ ts) o) form)
 
 -- ---- inputs
 
@@ -48,10 +49,10 @@ InputsAreCuts f [] (i ∷ is) = ⊥
 InputsAreCuts f (t ∷ ts) [] = ⊥
 InputsAreCuts f (t ∷ ts) (i ∷ is) = InputIsCut f t i × InputsAreCuts f ts is
 
--- Of truncated subsets of one font, one or more, the canonical file of what they rejoin to is written.
+-- Of truncated subsets of one font, one or more, which have the font's box or can get one, the canonical file of what they rejoin to is written.
 abbrev pub WritesRejoined : {W : Type 0} → (W → Option (List ℕ)) → Form → List Input → Counted W → Counted W → Result (Unit {0}) RunFault → Type 0
 WritesRejoined contents form inputs w v result = (f : FontValue) → IsFont f → (t : Truncated) (ts : List Truncated) → InputsAreCuts f (t ∷ ts) inputs →
-    Writes contents (canon (rejoined f (t ∷ ts)) form) inputs w v result
+    (o : Option Box) → GetBox f (t ∷ ts) o → Writes contents (canon (rejoined f (t ∷ ts) o) form) inputs w v result
 
 -- ---- laws, each the contract of a function in `laws`
 

@@ -1,10 +1,11 @@
 //! The work of a tool that joins documents whose fonts other programs cut.
 
-ghost use Rattle.std.specs.Prelude.{◌≡◌, ◌∷◌, [], None, Ok, IfOk, MatchResult};
+ghost use Rattle.std.specs.Prelude.{◌≡◌, ◌∷◌, [], Option, None, Ok, IfOk, MatchResult};
 ghost use Rattle.t1_font.specs.Canon.{canon};
 ghost use Rattle.t1_font.specs.FontValue.{FontValue};
 ghost use Rattle.t1_font.specs.IsFont.{IsFont};
-ghost use Rattle.t1_algebra.specs.Rejoins.{Truncated, rejoined};
+ghost use Rattle.t1_font.specs.FontBoxes.{Box};
+ghost use Rattle.t1_algebra.specs.Rejoins.{Truncated, GetBox, rejoined};
 ghost use Rattle.t1_cmd.specs.Fonts.{mended_input};
 ghost use Rattle.t1_cmd.specs.Cuts.{IsCutFile, AllStayDrawnIn};
 
@@ -16,9 +17,10 @@ use t1_font::Form;
 /// merged, and the merged font is written.
 ///
 /// If each file, however it is spelled, is mended to a truncated subset of one font (its texts may differ in white space, in lines
-/// that number the font and in tags, and it is cut to its first Subrs, which include those that it keeps), the answer is the file
-/// of the subset of the names of both, with even texts and cut to the larger count, and only want of memory is refused. Whatever
-/// two fonts come to, each glyph that one of them draws without a fault is drawn the same in what is written.
+/// that number the font, in tags and in FontBBox, and it is cut to its first Subrs, which include those that it keeps), the answer
+/// is the file of the subset of the names of both, with even texts and cut to the larger count, and only want of memory is
+/// refused. Its box is the font's where both have that, and else the least that holds both, where both and the font can have it.
+/// Whatever two fonts come to, each glyph that one of them draws without a fault is drawn the same in what is written.
 pub fn cuts_joined(
     alloc: Global,
     first: &[u8],
@@ -30,7 +32,9 @@ pub fn cuts_joined(
         → (t u : Truncated)
         → IsCutFile f t first.now
         → IsCutFile f u second.now
-        → MatchResult result (λ v. v.items ≡ canon (rejoined f (t ∷ u ∷ [])) form)
+        → (o : Option Box)
+        → GetBox f (t ∷ u ∷ []) o
+        → MatchResult result (λ v. v.items ≡ canon (rejoined f (t ∷ u ∷ []) o) form)
         (λ e. (e.place ≡ None) × (e.reason ≡ Reason.Memory)) }
     ensures draws { (f g : FontValue)
         → mended_input first.now ≡ Ok f

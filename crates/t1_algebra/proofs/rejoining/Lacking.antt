@@ -8,7 +8,8 @@ use Rattle.t1_font.specs.{FontValue.{FontValue, declared_count}, FontModel.{name
 use Rattle.t1_font.proofs.MapLemmas.{get-retain}
 use Rattle.t1_algebra.specs.{Keep.{keep, kept}, Profile.{profile}, States.{executes, executed_at}, Searches.{first_where, found}}
 use Rattle.t1_algebra.specs.Lacks.{Lack, user_of, first_below, is_had, lack_at, lack_among, first_lack}
-use Rattle.t1_algebra.specs.Rejoins.{Truncated, IsTruncated, with_even_texts, truncated_fonts, largest}
+use Rattle.t1_algebra.specs.Rejoins.{Truncated, with_even_texts, truncated_fonts, largest}
+use Rattle.t1_algebra.proofs.rejoining.EvenCuts.{IsEvenCut}
 use Rattle.t1_algebra.proofs.Words.{AllByRecursion, nat_list_cmp_total}
 use Rattle.t1_algebra.proofs.{Kept.{kept_call}, Sets.{clash, cases, name_same}}
 use Rattle.t1_algebra.proofs.rejoining.Truncated.{get_font, shells_are}
@@ -38,12 +39,12 @@ told i user = option_map (λ n. (i, n)) user
 
 module _ (f : FontValue) where
   -- one of truncated subsets has only what the font has
-  had_there : (most : ℕ) (ts : List Truncated) → AllByRecursion (IsTruncated f) ts → (i : ℕ) → is_had (map (even most) (truncated_fonts ts)) i ≡ true →
+  had_there : (most : ℕ) (ts : List Truncated) → AllByRecursion (IsEvenCut f) ts → (i : ℕ) → is_had (map (even most) (truncated_fonts ts)) i ≡ true →
       maps.contains_key f.subrs i ≡ true
   had_there most [] w i l = clash false l refl
   had_there most (t ∷ ts) w i l = grind (cases, l, get_font f t w.0 i, had_there most ts w.1 i)
 
-  module _ (t : Truncated) (w : IsTruncated f t) where
+  module _ (t : Truncated) (w : IsEvenCut f t) where
     -- a glyph of a truncated subset is one that the font has and the names keep
     glyph_there : (n c : List ℕ) → maps.get t.font.glyphs n ≡ Some c → (maps.get f.glyphs n ≡ Some c) × (sets.contains (keep profile f t.names) n ≡ true)
     glyph_there n c is =
@@ -91,12 +92,12 @@ module _ (f : FontValue) where
             ap (told i) (none_passes (λ n. executes profile t.font n i) (names_in t.font.glyphs) (nobody_executes i (had i h) is))
 
   each_no_lack : (most : ℕ) (all : List FontValue) → ((i : ℕ) → is_had all i ≡ true → maps.contains_key f.subrs i ≡ true) → (ts : List Truncated) →
-      AllByRecursion (IsTruncated f) ts → AllByRecursion (λ g. (i : ℕ) → lack_at all g i ≡ None) (map (even most) (truncated_fonts ts))
+      AllByRecursion (IsEvenCut f) ts → AllByRecursion (λ g. (i : ℕ) → lack_at all g i ≡ None) (map (even most) (truncated_fonts ts))
   each_no_lack most all had [] w = tt
   each_no_lack most all had (t ∷ ts) w = (no_lack t w.0 most all had, each_no_lack most all had ts w.1)
 
   -- truncated subsets lack no Subr that one of their glyphs executes and another has
-  pub nothing_lacks : IsFont f → (ts : List Truncated) → AllByRecursion (IsTruncated f) ts → first_lack (evened_shells (truncated_fonts ts)) ≡ None
+  pub nothing_lacks : IsFont f → (ts : List Truncated) → AllByRecursion (IsEvenCut f) ts → first_lack (evened_shells (truncated_fonts ts)) ≡ None
   nothing_lacks h ts w =
       let all = map (even (largest ts)) (truncated_fonts ts) in
       ap first_lack (shells_are f h ts w) ∙ none_among all all (each_no_lack (largest ts) all (λ i l. had_there (largest ts) ts w i l) ts w)

@@ -9,7 +9,8 @@ use Rattle.t1_font.specs.{FontValue.{FontValue, SubrsShell, Numbered, name_cmp, 
 use Rattle.t1_font.specs.{Evening.{evened}, EvenTexts.{even_texts}}
 use Rattle.t1_font.proofs.{even_fonts.Evened.{even_is_font, even_fit}, MapLemmas.{get-retain, find_first, total-le, Some_None}}
 use Rattle.t1_algebra.specs.{Keep.{keep, kept, subset}, Profile.{profile}, Laws.{IsOf, DrawsAlike}, Merges.{MergesTo}}
-use Rattle.t1_algebra.specs.Rejoins.{declares, Truncated, IsTruncated, truncated_fonts, sets_of, names_of_all, largest, shared_font, rejoined, Rejoins, TruncatedSubsetsRejoin}
+use Rattle.t1_algebra.specs.Rejoins.{declares, Truncated, truncated_fonts, sets_of, names_of_all, largest}
+use Rattle.t1_algebra.proofs.rejoining.EvenCuts.{IsEvenCut, even_shared, even_rejoined, EvenCutsRejoin}
 use Rattle.t1_algebra.proofs.{Words.{AllByRecursion, nat_cmp_total, nat_list_cmp_total, nat_cmp-IsAntisymmetric, Names}, Drawings.{subset_alike, alike}, Fonts.{subset_is_font, any_order_of_fonts}}
 use Rattle.t1_algebra.proofs.{Kept.{keep_part, keep_more, kept_more, kept_union}, ManyMerges.{alike_trans, each_font, all_merge}, Sets.{clash, cases}}
 use Rattle.t1_algebra.proofs.rejoining.Truncated.{WordsOf, words_empty, get_nothing, get_font, largest_fits, all_fit, Fits}
@@ -33,7 +34,7 @@ some_words k v (x ∷ es) s e h = h
 -- ---- the shared font is a font
 
 module _ (f : FontValue) (h : IsFont f) (most : ℕ) (fits : most ≤ declared_count f.shell.subrs)
-    (t : Truncated) (w : IsTruncated f t) (le : t.count ≤ most) where
+    (t : Truncated) (w : IsEvenCut f t) (le : t.count ≤ most) where
   get_first : (q : ℕ) → maps.get (first_of most f).subrs q ≡ cond (nat_lt q most) (maps.get f.subrs q) None
   get_first q = get-retain nat_cmp_total nat_cmp-IsAntisymmetric f.subrs (λ i. nat_lt i most) q
 
@@ -148,7 +149,7 @@ module _ (f : FontValue) (h : IsFont f) (most : ℕ) where
 -- ---- merges
 
 -- the names of truncated subsets are names of the font
-names_are : (f : FontValue) (ts : List Truncated) → AllByRecursion (IsTruncated f) ts → AllByRecursion (IsOf f) (sets_of ts)
+names_are : (f : FontValue) (ts : List Truncated) → AllByRecursion (IsEvenCut f) ts → AllByRecursion (IsOf f) (sets_of ts)
 names_are f [] w = tt
 names_are f (t ∷ ts) w = (w.0.names, names_are f ts w.1)
 
@@ -157,12 +158,12 @@ subsets_are : (f : FontValue) → IsFont f → (sets : List Names) → AllByRecu
 subsets_are f h [] w = tt
 subsets_are f h (a ∷ more) w = (subset_is_font profile f h a w.0, subsets_are f h more w.1)
 
-module _ (f : FontValue) (h : IsFont f) (t : Truncated) (ts : List Truncated) (w : AllByRecursion (IsTruncated f) (t ∷ ts)) where
+module _ (f : FontValue) (h : IsFont f) (t : Truncated) (ts : List Truncated) (w : AllByRecursion (IsEvenCut f) (t ∷ ts)) where
   abbrev most : ℕ
   most = largest (t ∷ ts)
 
   abbrev shared : FontValue
-  shared = shared_font f (t ∷ ts)
+  shared = even_shared f (t ∷ ts)
 
   abbrev names : Names
   names = names_of_all (t ∷ ts)
@@ -175,7 +176,7 @@ module _ (f : FontValue) (h : IsFont f) (t : Truncated) (ts : List Truncated) (w
   low = all_low f h most (t ∷ ts) (empty_low f h most t.names (λ i k p. omega (arith, w.0.kept i k p))) (all_fit f most (t ∷ ts) (omega arith) w)
 
   -- the subset of the shared font over all the names is the rejoined font
-  whole : subset profile shared names ≡ rejoined f (t ∷ ts)
+  whole : subset profile shared names ≡ even_rejoined f (t ∷ ts)
   whole = cut_subset f h most names low.1 low.0
 
   -- all the sets are sets of names of the shared font
@@ -183,7 +184,7 @@ module _ (f : FontValue) (h : IsFont f) (t : Truncated) (ts : List Truncated) (w
   parts = names_are f (t ∷ ts) w
 
   -- truncated subsets that are made even merge in every order and grouping to the rejoined font
-  all_merged : (s : Grouping FontValue) → IsPermutation (evened (truncated_fonts (t ∷ ts))) (leaves s) → MergesTo s (rejoined f (t ∷ ts))
+  all_merged : (s : Grouping FontValue) → IsPermutation (evened (truncated_fonts (t ∷ ts))) (leaves s) → MergesTo s (even_rejoined f (t ∷ ts))
   all_merged s p =
       let g = subset profile shared t.names in
       let gs = map (subset profile shared) (sets_of ts) in
@@ -193,13 +194,10 @@ module _ (f : FontValue) (h : IsFont f) (t : Truncated) (ts : List Truncated) (w
       subst (λ (j : FontValue). MergesTo s j) whole (all.1, all.2)
 
   -- each kept glyph draws in the rejoined font as in the font
-  all_drawn : (n : List ℕ) → sets.contains (keep profile f names) n ≡ true → DrawsAlike f (rejoined f (t ∷ ts)) n
-  all_drawn n k = alike_trans f shared (rejoined f (t ∷ ts)) n (start_alike f h most names low.1 low.0 n k)
+  all_drawn : (n : List ℕ) → sets.contains (keep profile f names) n ≡ true → DrawsAlike f (even_rejoined f (t ∷ ts)) n
+  all_drawn n k = alike_trans f shared (even_rejoined f (t ∷ ts)) n (start_alike f h most names low.1 low.0 n k)
       (subst (λ (j : FontValue). DrawsAlike shared j n) whole (subset_alike shared shared_is names low.1 n
       (ap (λ (s : Names). sets.contains s n) (keeps_same profile f h.glyphs.notdef most names low.1 low.0).0 ∙ k)))
 
-  pub rejoins : Rejoins f (t ∷ ts)
+  pub rejoins : EvenCutsRejoin f (t ∷ ts)
   rejoins = record { shared = shared_is; lacks = nothing_lacks f h (t ∷ ts) w; subsets = evened_is f h (t ∷ ts) w; merges = all_merged; draws = all_drawn }
-
-pub truncated_subsets_rejoin : TruncatedSubsetsRejoin
-truncated_subsets_rejoin = rejoins

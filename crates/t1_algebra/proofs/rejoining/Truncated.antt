@@ -11,7 +11,8 @@ use Rattle.t1_font.specs.Evening.{raised, even_shell, even, stubs_at, below, wit
 use Rattle.t1_font.specs.FontBoxes.{boxed}
 use Rattle.t1_font.proofs.even_fonts.Boxes.{one_shell_stays}
 use Rattle.t1_algebra.specs.{Keep.{keep, kept, has, charstring, subset}, Profile.{profile}, States.{joined_option}, Laws.{IsOf}}
-use Rattle.t1_algebra.specs.Rejoins.{cut_to, with_even_texts, declares, Truncated, IsTruncated, truncated_fonts, sets_of, largest, shared_font}
+use Rattle.t1_algebra.specs.Rejoins.{cut_to, with_even_texts, declares, Truncated, truncated_fonts, sets_of, largest}
+use Rattle.t1_algebra.proofs.rejoining.EvenCuts.{IsEvenCut, even_shared}
 use Rattle.t1_algebra.proofs.{Words.{list_any, AllByRecursion, eq_by_cmp, nat_cmp_total, nat_cmp-IsAntisymmetric, Interpreter, Names}, Kept.{keep_has, kept_call, keeps_alike}}
 use Rattle.t1_algebra.proofs.{Sets.{clash, any_filtered, cases}, Maps.{get-merged, get-valued}}
 
@@ -93,32 +94,32 @@ raised_declares most n s le = grind cases
 
 module _ (f : FontValue) where
   -- a truncated subset declares its count
-  pub count_is : (t : Truncated) → IsTruncated f t → declared_count t.font.shell.subrs ≡ t.count
+  pub count_is : (t : Truncated) → IsEvenCut f t → declared_count t.font.shell.subrs ≡ t.count
   count_is t w = grind (cases, ap (λ (g : FontValue). declared_count g.shell.subrs) w.same, w.count)
 
   -- the largest count that is declared is the largest of the counts
-  pub largest_is : (ts : List Truncated) → AllByRecursion (IsTruncated f) ts → largest_count (truncated_fonts ts) ≡ largest ts
+  pub largest_is : (ts : List Truncated) → AllByRecursion (IsEvenCut f) ts → largest_count (truncated_fonts ts) ≡ largest ts
   largest_is [] w = refl
   largest_is (t ∷ ts) w = λ i. max (count_is t w.0 i) (largest_is ts w.1 i)
 
   -- the font declares no fewer than the largest of the counts
-  pub largest_fits : (ts : List Truncated) → AllByRecursion (IsTruncated f) ts → largest ts ≤ declared_count f.shell.subrs
+  pub largest_fits : (ts : List Truncated) → AllByRecursion (IsEvenCut f) ts → largest ts ≤ declared_count f.shell.subrs
   largest_fits [] w = omega arith
   largest_fits (t ∷ ts) w = omega (arith, w.0.count, largest_fits ts w.1)
 
   -- a truncated subset whose count is at most this
   abbrev pub Fits : ℕ → Truncated → Type 0
-  Fits most t = IsTruncated f t × (t.count ≤ most)
+  Fits most t = IsEvenCut f t × (t.count ≤ most)
 
   -- each count is at most the largest
-  pub all_fit : (most : ℕ) (ts : List Truncated) → largest ts ≤ most → AllByRecursion (IsTruncated f) ts → AllByRecursion (Fits most) ts
+  pub all_fit : (most : ℕ) (ts : List Truncated) → largest ts ≤ most → AllByRecursion (IsEvenCut f) ts → AllByRecursion (Fits most) ts
   all_fit most [] le w = tt
   all_fit most (t ∷ ts) le w = ((w.0, omega (arith, le)), all_fit most ts (omega (arith, le)) w.1)
 
   -- ---- the indices of all
 
   -- what a truncated subset has at each index
-  pub get_font : (t : Truncated) → IsTruncated f t → (q : ℕ) → maps.get t.font.subrs q ≡ entry_in f t.names t.count q (maps.get f.subrs q)
+  pub get_font : (t : Truncated) → IsEvenCut f t → (q : ℕ) → maps.get t.font.subrs q ≡ entry_in f t.names t.count q (maps.get f.subrs q)
   get_font t w q = ap (λ (g : FontValue). maps.get g.subrs q) w.same ∙ get_cut f t.count t.names q
 
   -- the indices of the Subrs of all fonts, made even
@@ -129,7 +130,7 @@ module _ (f : FontValue) where
   listed q indices = list_any (eq_by_cmp nat_cmp q) indices
 
   -- the indices of all fonts include each index of the font below the largest count
-  reached : (most : ℕ) (ts : List Truncated) → AllByRecursion (IsTruncated f) ts → (q : ℕ) → q < largest ts → maps.contains_key f.subrs q ≡ true →
+  reached : (most : ℕ) (ts : List Truncated) → AllByRecursion (IsEvenCut f) ts → (q : ℕ) → q < largest ts → maps.contains_key f.subrs q ≡ true →
       listed q (all_indices most ts) ≡ true
   reached most [] w q lt is = absurd (omega (arith, lt))
   reached most (t ∷ ts) w q lt is = grind (
@@ -144,7 +145,7 @@ module _ (f : FontValue) where
   )
 
   -- each of the indices of all fonts is an index of the font
-  from_indices : (most : ℕ) (ts : List Truncated) → AllByRecursion (IsTruncated f) ts → (q : ℕ) → listed q (all_indices most ts) ≡ true →
+  from_indices : (most : ℕ) (ts : List Truncated) → AllByRecursion (IsEvenCut f) ts → (q : ℕ) → listed q (all_indices most ts) ≡ true →
       maps.contains_key f.subrs q ≡ true
   from_indices most [] w q l = clash false l refl
   from_indices most (t ∷ ts) w q l = grind (
@@ -216,7 +217,7 @@ same_value false false true true (Some c) h i j l m = refl
 same_value false false true false (Some c) h i j l m = clash false (l refl refl) refl
 
 module _ (f : FontValue) (h : IsFont f) (most : ℕ) (fits : most ≤ declared_count f.shell.subrs)
-    (t : Truncated) (w : IsTruncated f t) (le : t.count ≤ most) where
+    (t : Truncated) (w : IsEvenCut f t) (le : t.count ≤ most) where
   -- if a truncated subset has no entries, the table of the font has no words
   pub words_empty : maps.entries t.font.subrs ≡ [] → WordsOf [] f.shell.subrs
   words_empty e = words_declared t.count f.shell.subrs (subst (WordsOf []) (ap (λ (g : FontValue). g.shell.subrs) w.same)
@@ -315,7 +316,7 @@ module _ (f : FontValue) (h : IsFont f) (most : ℕ) (fits : most ≤ declared_c
   one_shell [] w = tt
   one_shell (t ∷ ts) w = (shell_same f h most fits t w.0.0 w.0.1, one_shell ts w.1)
 
-pub shells_are : (f : FontValue) → IsFont f → (ts : List Truncated) → AllByRecursion (IsTruncated f) ts →
+pub shells_are : (f : FontValue) → IsFont f → (ts : List Truncated) → AllByRecursion (IsEvenCut f) ts →
     evened_shells (truncated_fonts ts) ≡ map (even (largest ts)) (truncated_fonts ts)
 shells_are f h ts w =
     ap (λ (n : ℕ). boxed (map (even n) (truncated_fonts ts))) (largest_is f ts w)
@@ -323,8 +324,8 @@ shells_are f h ts w =
     (one_shell f h (largest ts) (largest_fits f ts w) ts (all_fit f (largest ts) ts (omega arith) w))
 
 -- truncated subsets that are made even are subsets of the shared font
-pub evened_is : (f : FontValue) → IsFont f → (ts : List Truncated) → AllByRecursion (IsTruncated f) ts →
-    evened (truncated_fonts ts) ≡ map (subset profile (shared_font f ts)) (sets_of ts)
+pub evened_is : (f : FontValue) → IsFont f → (ts : List Truncated) → AllByRecursion (IsEvenCut f) ts →
+    evened (truncated_fonts ts) ≡ map (subset profile (even_shared f ts)) (sets_of ts)
 evened_is f h ts w =
     let most = largest ts in
     ap filled_all (shells_are f h ts w)

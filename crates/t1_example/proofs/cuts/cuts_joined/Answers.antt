@@ -5,7 +5,7 @@ use Rattle.t1_example.proofs.Rejoined.{drawn_so}
 use Rattle.t1_example.proofs.cuts.cuts_joined.Goals as goal
 
 pub returns-clause-bytes : goal.returns-clause-bytes
-returns-clause-bytes c f h t u s k = c.rejoin_files.ensures.cuts f h t (u ∷ []) (s, (k, tt))
+returns-clause-bytes c f h t u s k o get = c.rejoin_files.ensures.cuts f h t (u ∷ []) (s, (k, tt)) o get
 
 pub returns-clause-draws : goal.returns-clause-draws
 returns-clause-draws c f g e k = IfOk-weaker c.rejoin_files.result _ _

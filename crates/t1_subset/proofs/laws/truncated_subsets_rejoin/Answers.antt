@@ -1,4 +1,4 @@
-use Rattle.t1_algebra.proofs.rejoining.Rejoined.{truncated_subsets_rejoin}
+use Rattle.t1_algebra.proofs.rejoining.Boxed.{truncated_subsets_rejoin}
 use Rattle.t1_subset.proofs.laws.truncated_subsets_rejoin.Goals as goal
 
 pub returns : goal.returns

@@ -1,0 +1,32 @@
+-- Truncated subsets that have the font's own box.
+use Rattle.std.specs.Prelude.{◌≡◌, ℕ, ◌≤◌, ◌<◌, true, List, map, None, IsPermutation}
+use Rattle.std.specs.FinMap as maps
+use Rattle.std.specs.FinSet as sets
+use Rattle.t1_join.specs.Groupings.{Grouping, leaves}
+use Rattle.t1_font.specs.{FontValue.{FontValue, declared_count}, IsFont.{IsFont}, Evening.{evened_shells, evened}}
+use Rattle.t1_algebra.specs.{Keep.{keep, kept, subset}, Profile.{profile}, Laws.{IsOf, DrawsAlike}, Lacks.{first_lack}, Merges.{MergesTo}}
+use Rattle.t1_algebra.specs.Rejoins.{cut_to, with_even_texts, Truncated, truncated_fonts, sets_of, names_of_all, largest}
+
+-- it is the subset of f over names of f, cut to its first Subrs, once the texts of both are made even
+pub record IsEvenCut (f : FontValue) (t : Truncated) : Type 0 where
+  pub font : IsFont t.font
+  pub names : IsOf f t.names
+  pub same : with_even_texts t.font ≡ with_even_texts (cut_to t.count (subset profile f t.names))
+  pub kept : (i : ℕ) → sets.contains (kept profile f t.names) i ≡ true → maps.contains_key f.subrs i ≡ true → i < t.count
+  pub count : t.count ≤ declared_count f.shell.subrs
+
+-- the font with even texts, cut to the largest of the counts
+abbrev pub even_shared : FontValue → List Truncated → FontValue
+even_shared f ts = cut_to (largest ts) (with_even_texts f)
+
+-- the subset over all the names, with even texts and cut to the largest of the counts
+abbrev pub even_rejoined : FontValue → List Truncated → FontValue
+even_rejoined f ts = cut_to (largest ts) (with_even_texts (subset profile f (names_of_all ts)))
+
+-- what is true of them
+pub record EvenCutsRejoin (f : FontValue) (ts : List Truncated) : Type 0 where
+  pub shared : IsFont (even_shared f ts)
+  pub lacks : first_lack (evened_shells (truncated_fonts ts)) ≡ None
+  pub subsets : evened (truncated_fonts ts) ≡ map (subset profile (even_shared f ts)) (sets_of ts)
+  pub merges : (t : Grouping FontValue) → IsPermutation (evened (truncated_fonts ts)) (leaves t) → MergesTo t (even_rejoined f ts)
+  pub draws : (n : List ℕ) → sets.contains (keep profile f (names_of_all ts)) n ≡ true → DrawsAlike f (even_rejoined f ts) n
