@@ -41,11 +41,13 @@ REFUSALS = {
     "read_all": ["TooLong"],
     "run_join": ["TooLong", "ListFault", "JoinFault"],
     "run_check": [READS],
+    "run_check_of": [READS],
     "run_list": [READS],
     "run_convert": [READS],
     "run_mend": [READS],
     "run_show": [READS, "NoGlyph"],
     "run_subset": [READS, "NoGlyph"],
+    "run_subset_with_codes": [READS, "NoCode", "NoGlyph"],
     "run_merge": [READS, "Conflict"],
     "run_rejoin": [READS, "Lacks", "Conflict"],
     "check_file": [READS],
@@ -55,6 +57,7 @@ REFUSALS = {
     "list_mends": [READS],
     "show_file": [READS, "NoGlyph"],
     "subset_file": [READS, "NoGlyph"],
+    "subset_file_with_codes": [READS, "NoCode", "NoGlyph"],
     "merge_files": [READS, "Conflict"],
     "rejoin_files": [READS, "Lacks", "Conflict"],
     "join_listings": ["TooLong", "ListFault", "JoinFault"],
@@ -79,7 +82,7 @@ LARGE = {
     "t1_join": {"": 60_000, "Table::new": None, "Hex::bytes": 131_070},
     "t1_font": {"": 65_535, "even_shells": 1000, "even_boxes": 1000, "fill_all": 65_535},
     "t1_subset": {"": 65_535, "merge": 65_535},
-    "t1_cmd": {"": 65_535, "Name::new": 127, "read_all": 268_435_456, "write_fault": None},
+    "t1_cmd": {"": 65_535, "Name::new": 127, "read_all": 268_435_456, "write_fault": None, "write_fault_of": None},
 }
 # Constants that choose between two ways, or limit what is read: the calls that a test has to take to their value and beyond.
 THRESHOLDS = {

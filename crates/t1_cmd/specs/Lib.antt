@@ -15,3 +15,4 @@ pub mod Rejoins
 pub mod WrittenSubsets
 pub mod Mends
 pub mod Cuts
+pub mod CodeLists
