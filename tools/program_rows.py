@@ -4,6 +4,7 @@
 """
 from collections import namedtuple
 
+import refused_rows
 from common import CALL, EMPTY, ENDCHAR, RETURN, TOP, TRAILER, WIDTH, as_pfb, bytes_of, example, made_font, number, page_rows
 
 # Stands for a text that clap writes.
@@ -75,6 +76,8 @@ def files():
     given["whole.font"] = small_font(b"Small", [STUB] * 4 + [ACROSS, UP], {b"A": 4, b"B": 5})
     given["coded.font"] = small_font(b"Small", [STUB] * 4 + [ACROSS, UP], {b"A": 4, b"B": 5}, encoding_of({7: b"B", 65: b"A", 200: b"Lost"}))
     given["other.font"] = small_font(b"Small", [STUB] * 4 + [ACROSS], {b"A": 4}, b"/Encoding ISOLatin1Encoding def\n")
+    given["values.font"] = made_font(SPELLED, [], {b".notdef": EMPTY})
+    given["private.font"] = refused_rows.made(private=refused_rows.PRIVATE + b"/UniqueID 77 def\n")
     given["one.names"], given["two.names"], given["bad.names"] = b"B", b"\r\nB\r\n", b"B\nZed\nA"
     given["spelled.font"] = given["one.cut"].replace(word + b" def", word + b" % a comment\n readonly def")
     given["tested.font"] = given["one.cut"].replace(b"/FontName", TESTED + b"/FontName")
@@ -112,6 +115,38 @@ def rows_of_fonts():
     yield Row(["show", "dashed.pfa", ".notdef"], 0, b"fault NoWidth\n")
     yield Row(["show", "dashed.pfa", "Zed"], 1, b"", b"refused: no glyph Zed\n")
     yield Row(["show", "absent", "Zed"], 3, b"", b"failed: read\n")
+
+
+# The values of a dictionary as fonts spell them, and the lines of these.
+SPELLED = b"""\
+%!
+/UniqueID 5000793 def
+/FontNames /No def
+/FontName/Sp\x80elled def
+/FontMatrix\t[ 0.001 0
+0 .001 0 0]readonly def
+/FontBBox{-1 -2 3e1 4}readonly def
+/Encoding StandardEncoding def
+/UniqueID 7 def
+"""
+SPELLED_LISTED = b"""\
+name Sp\\x80elled
+matrix  0.001 0 0 .001 0 0
+box -1 -2 3e1 4
+unique 5000793
+"""
+
+
+def rows_of_full():
+    """What `list` prints in full."""
+    yield Row(["list", "--full", "dashed.pfa"], 0, LISTED + b"width -a 250 0\nwidth .notdef fault NoWidth\n")
+    glyph = b"encoding StandardEncoding\nglyph .notdef 5\n"
+    yield Row(["list", "values.font", "--full"], 0, glyph + SPELLED_LISTED + b"width .notdef 250 0\n")
+    yield Row(["list", "values.font"], 0, glyph)
+    private = b"code 65 A\n" + b"".join(b"subr %d 1\n" % at for at in range(4)) + b"subr 4 3\nglyph .notdef 5\nglyph A 7\n"
+    widths = b"width .notdef 250 0\nwidth A 250 0\n"
+    yield Row(["list", "--full", "private.font"], 0, private + b"name Made\nunique 77\n" + widths)
+    yield Row(["list", "--full", "no.font"], 1, b"", b"refused: no eexec\n")
 
 
 def rows_of_several():
@@ -284,5 +319,5 @@ def rows_of_listings():
 
 
 def all_rows(given):
-    rows = [*rows_of_words(), *rows_of_fonts(), *rows_of_several(), *rows_of_explained(), *rows_of_outputs(given)]
+    rows = [*rows_of_words(), *rows_of_fonts(), *rows_of_full(), *rows_of_several(), *rows_of_explained(), *rows_of_outputs(given)]
     return [*rows, *rows_of_names(), *rows_of_codes(), *rows_of_rejoined(), *rows_of_mended(), *rows_of_listings()]

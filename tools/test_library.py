@@ -35,7 +35,7 @@ SANITIZERS = ["-fsanitize=address,undefined", "-fno-sanitize-recover=all"]
 # Numbers that no word over the library answers: growths.c and edges.c meet them, but for that of codes, which no call takes.
 ELSEWHERE = {"ok", "memory", "bad_call", "file_too_long", "nothing_to_merge", "no_code"}
 # Options that no call has.
-OWN_OPTIONS = {"--names", "--codes", "--text", "--explain"}
+OWN_OPTIONS = {"--names", "--codes", "--text", "--explain", "--full"}
 
 
 class Library:

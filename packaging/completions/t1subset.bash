@@ -10,7 +10,7 @@ _t1subset() {
     rejoin) options='--explain --pfb --help' takes='-' names=0 ;;
     mend) options='--explain --pfb --help' takes='-' names=0 ;;
     check) options='--explain --help' takes='-' names=0 ;;
-    list) options='--explain --help' takes='-' names=0 ;;
+    list) options='--explain --full --help' takes='-' names=0 ;;
     show) options='--explain --help' takes='-' names=2 ;;
     pfa) options='--explain --help' takes='-' names=0 ;;
     pfb) options='--explain --help' takes='-' names=0 ;;

@@ -16,3 +16,4 @@ pub mod WrittenSubsets
 pub mod Mends
 pub mod Cuts
 pub mod CodeLists
+pub mod FullText

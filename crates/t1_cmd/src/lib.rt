@@ -3,7 +3,7 @@
 //! Each engine reads whole inputs, makes its whole result, and writes it last. What is written is a stated function
 //! of the bytes that were read; after a refusal, or if a reader failed, nothing is written.
 //!
-//! Beside the engines stand calls over files in memory, which answer the same texts: [`check_file`], [`list_file`],
+//! Beside the engines stand calls over files in memory, which answer the same texts: [`check_file`], [`list_file`], [`list_file_full`],
 //! [`show_file`], [`convert_file`], [`subset_file`], [`subset_file_with_codes`], [`merge_files`], [`rejoin_files`] and [`join_listings`].
 //!
 //! ```text
@@ -19,6 +19,7 @@ mod code_lists;
 mod counting;
 mod faults;
 mod fonts;
+mod full;
 pub mod laws;
 mod list;
 mod listings;
@@ -39,6 +40,7 @@ pub use code_lists::read_codes;
 pub use counting::Counted;
 pub use faults::{FilesRefusal, Name, Reason, RunFault, status};
 pub use fonts::{check_file, convert_file, run_check, run_check_of, run_convert};
+pub use full::{list_file_full, run_list_full};
 pub use list::{list_file, run_list};
 pub use listings::{join_listings, run_join};
 pub use mends::{list_mends, mend_file, run_mend};

@@ -226,15 +226,27 @@ const LIST_HELP: &str = "\
 Prints `encoding WORD`, or a line `code C NAME` for each code; then `subr I
 LENGTH` for each Subr that is present; then `glyph NAME LENGTH` for each glyph
 by the bytes of its name. Lengths are those of the plain charstrings. A byte
-outside 33 to 126, and the backslash, is printed as `\\x` and two digits.
+outside 33 to 126, and the backslash, is printed as `\\x` and two digits. With
+--full then `name NAME`, `matrix NUMBERS`, `box NUMBERS` and `unique NUMBER` as
+the font spells them, those that it has; and for each glyph `width NAME WX WY`
+in charstring units, or `width NAME fault X` if it can't be drawn.
 
 Example: t1subset list font.pfb";
+
+/// The option that lists more.
+fn full_option<'a>(alloc: Global) -> Arg<'a> {
+    Arg::new(alloc, "full")
+        .long("full")
+        .action(ArgAction::SetTrue)
+        .help("Prints the font's name, matrix, box and number, and widths, too")
+}
 
 fn list_command<'a>(alloc: Global) -> Result<Command<'a>, AllocError> {
     Command::new(alloc, "list")
         .about("Lists a font's codes, Subrs and glyphs")
         .after_help(LIST_HELP)
-        .arg(word(alloc, "IN", "The font"))
+        .arg(word(alloc, "IN", "The font"))?
+        .arg(full_option(alloc))
 }
 
 const SHOW_HELP: &str = "\

@@ -9,7 +9,7 @@ use std::rt::Files;
 use std::{fs, io};
 use t1_cmd::{
     Counted, FILE_LIMIT, Reason, RunFault, read_all, read_codes, run_check, run_check_of,
-    run_convert, run_join, run_list, run_mend, run_merge, run_rejoin, run_show,
+    run_convert, run_join, run_list, run_list_full, run_mend, run_merge, run_rejoin, run_show,
     run_subset_with_codes, status, write_fault, write_fault_of,
 };
 use t1_font::Form;
@@ -139,7 +139,11 @@ fn list<'p, R: Files, O: Write + Drop>(
 ) -> Result<(), RunFault> {
     let mut input = font(rt, given, seen)?;
     let mut out = Counted::new(out);
-    run_list(alloc, &mut input, &mut out)?;
+    if given.get_flag("full") {
+        run_list_full(alloc, &mut input, &mut out)?;
+    } else {
+        run_list(alloc, &mut input, &mut out)?;
+    }
     flush(out)
 }
 

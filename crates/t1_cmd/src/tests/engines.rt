@@ -2,9 +2,9 @@
 use super::changed::tiny_encoded;
 use super::{FINE, Feed, Plan, Sink, line_of, word};
 use crate::{
-    Counted, Reason, RunFault, check_file, convert_file, list_file, list_mends, mend_file,
-    run_check, run_check_of, run_convert, run_list, run_mend, run_show, run_subset,
-    run_subset_with_codes, show_file, subset_file, subset_file_with_codes,
+    Counted, Reason, RunFault, check_file, convert_file, list_file, list_file_full, list_mends,
+    mend_file, run_check, run_check_of, run_convert, run_list, run_list_full, run_mend, run_show,
+    run_subset, run_subset_with_codes, show_file, subset_file, subset_file_with_codes,
 };
 use std::alloc::Global;
 use std::io::{ErrorKind, Read, Write};
@@ -18,6 +18,7 @@ pub enum Engine<'a> {
     Check,
     CheckOf(&'a [u8]),
     List,
+    ListFull,
     Show(&'a [u8]),
     Convert(Form),
     Mend(Form),
@@ -36,6 +37,7 @@ pub fn run<R: Read, W: Write>(
         Engine::Check => run_check(alloc, reader, writer),
         Engine::CheckOf(path) => run_check_of(alloc, reader, path, writer),
         Engine::List => run_list(alloc, reader, writer),
+        Engine::ListFull => run_list_full(alloc, reader, writer),
         Engine::Show(name) => run_show(alloc, reader, name, writer),
         Engine::Convert(form) => run_convert(alloc, reader, form, writer),
         Engine::Mend(form) => match run_mend(alloc, reader, form, writer) {
@@ -67,6 +69,7 @@ pub fn made(alloc: Global, engine: Engine<'_>, file: &[u8]) -> Result<Vec<u8>, R
         Engine::Check => check_file(alloc, file),
         Engine::CheckOf(path) => checked_of(alloc, path, file),
         Engine::List => list_file(alloc, file),
+        Engine::ListFull => list_file_full(alloc, file),
         Engine::Show(name) => show_file(alloc, file, name),
         Engine::Convert(form) => convert_file(alloc, file, form),
         Engine::Mend(form) => mend_file(alloc, file, form),
@@ -230,6 +233,38 @@ fn tiny_is_listed(rt: HostRuntime) {
     assert!(rt; answers(rt.alloc(), Engine::List, PFB, TINY_LISTED));
 }
 
+/// What is listed of Tiny in full, behind the same lines.
+pub const TINY_IN_FULL: &[u8] = b"name Tiny
+matrix 0.001 0 0 0.001 0 0
+box 0 0 500 700
+width .notdef 250 0
+width A 500 0
+width Aacute 500 0
+width B 500 0
+width F 500 0
+width H 500 0
+width L fault Nesting
+width N fault NestedSeac
+width X 300 0
+width Y 500 0
+width acute 300 0
+";
+
+/// Whether a text is one and then another.
+pub fn is_both(text: &[u8], one: &[u8], other: &[u8]) -> bool {
+    text.len() == one.len().saturating_add(other.len())
+        && text.starts_with(one)
+        && text.ends_with(other)
+}
+
+// meets run_list_full Ok at 11 glyphs
+// like run_list_full: list_file_full
+#[test]
+fn tiny_is_listed_in_full(rt: HostRuntime) {
+    let text = answer(rt.alloc(), Engine::ListFull, PFB);
+    assert!(rt; is_both(text.as_slice(), TINY_LISTED, TINY_IN_FULL));
+}
+
 /// What spells an Encoding, and what a font of it is listed with first.
 const ENCODINGS: &[(&[u8], &[u8], &str)] = &[
     (
@@ -308,6 +343,7 @@ pub const ENGINES: &[Engine] = &[
     Engine::Check,
     Engine::CheckOf(b"tiny.pfa"),
     Engine::List,
+    Engine::ListFull,
     Engine::Show(b"Aacute"),
     Engine::Convert(Form::Pfa),
     Engine::Convert(Form::Pfb),

@@ -114,6 +114,14 @@ fn subsets(alloc: Global) -> Result<bool, AllocError> {
     }
 }
 
+/// Whether Tiny is listed in full.
+fn lists_in_full(alloc: Global) -> Result<bool, AllocError> {
+    let mut want = Vec::from_slice(alloc, super::engines::TINY_LISTED)?;
+    want.extend_from_slice(super::engines::TINY_IN_FULL)?;
+    let is_written = writes(alloc, Engine::ListFull, PFA, want.as_slice())?;
+    Ok(is_written && makes(alloc, Engine::ListFull, PFA, want.as_slice())?)
+}
+
 /// Whether two listings join to this text.
 fn joins(alloc: Global, left: &[u8], right: &[u8], want: &[u8]) -> Result<bool, AllocError> {
     let mut out = Vec::with_capacity(alloc, want.len())?;
@@ -253,7 +261,11 @@ fn engines_write(alloc: Global) -> Result<bool, AllocError> {
 fn write_right(alloc: Global) -> Result<bool, AllocError> {
     let lists = makes_of_both(alloc, List::Merge(Form::Pfa))?
         && makes_of_both(alloc, List::Rejoin(Form::Pfa))?;
-    let fonts = engines_write(alloc)? && subsets(alloc)? && merges(alloc)? && rejoins(alloc)?;
+    let fonts = engines_write(alloc)?
+        && lists_in_full(alloc)?
+        && subsets(alloc)?
+        && merges(alloc)?
+        && rejoins(alloc)?;
     let texts = joins(alloc, LEFT, RIGHT, LISTED)? && joins_texts(alloc, LEFT, RIGHT, LISTED)?;
     let told = tells(alloc)? && tells_of(alloc)? && tells_nothing(alloc)?;
     Ok(lists && fonts && texts && told && reads(alloc)?)
