@@ -64,6 +64,7 @@ enum t1subset_number {
     T1SUBSET_BAD_CALL = 2,              /* the form is neither T1SUBSET_PFA nor T1SUBSET_PFB (no text) */
     T1SUBSET_FILE_TOO_LONG = 3,         /* "file too long": it has more than 268,435,456 bytes */
     T1SUBSET_NO_GLYPH = 4,              /* "no glyph NAME": the first name that the font lacks */
+    T1SUBSET_NO_CODE = 5,               /* "no code N": the Encoding has no name for it; the program's alone so far */
 
     /* A file spells no font. answer->input is its place. Offsets count from 0: in the file for a segment, in the clear
      * text for the Encoding, else in the decrypted private text. */

@@ -80,6 +80,14 @@ def printed(words, **how):
     return ran(words, **how).decode("utf-8", "replace")
 
 
+def page_rows():
+    """The texts of refusals and failures in the man page, and what it says of each."""
+    page = text_of(TOP, "docs/t1subset.1")
+    found = re.findall(r"^\.TP\n\.B (.*)\n(.*)\n", re.search(r"^\.SH DIAGNOSTICS\n(.*?)^\.SH ", page, re.M | re.S)[1], re.M)
+    plain = [[re.sub(r"\\f[BIRP]", "", text).replace("\\-", "-") for text in row] for row in found]
+    return {text: about for texts, about in plain for text in re.split("[,;] ", texts.replace(", used", " used"))}
+
+
 def glyphs_in(listed):
     """The names of glyphs in what `list` prints, as they stand there."""
     return [line.split(" ")[1] for line in listed.splitlines() if line.startswith("glyph ")]

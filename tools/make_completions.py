@@ -15,8 +15,8 @@ MADE = "# Made by tools/make_completions.py from what t1subset says of itself."
 
 
 class Word:
-    """A word of the program: what it does, its options with what each does, which of them take a file, and its arguments, each
-    with whether it may stand more than once."""
+    """A word of the program: what it does, its options with what each does, which of them take a value and what it is, and its
+    arguments, each with whether it may stand more than once."""
 
     def __init__(self, program, name, about):
         self.name, self.about = name, about
@@ -24,9 +24,9 @@ class Word:
         usage = re.search(r"^Usage: t1subset \S+(.*)$", text, re.M)[1]
         self.arguments = {name: bool(dots) for name, dots in re.findall(r"[<\[](\w+)[>\]](\.\.\.)?", usage) if name != "OPTIONS"}
         options = re.search(r"^Options:\n(.*?)\n\n", text, re.M | re.S)[1]
-        found = re.findall(r"^ +(?:-\w, |    )(--[\w-]+)( <FILE>)?  +(\S.*)$", options, re.M)
+        found = re.findall(r"^ +(?:-\w, |    )(--[\w-]+)(?: <(\w+)>)? +(\S.*)$", options, re.M)
         self.options = {option: about for option, _, about in found}
-        self.takes_file = [option for option, file, _ in found if file]
+        self.takes = {option: value for option, value, _ in found if value}
 
     def names_from(self):
         """From which argument on names of glyphs stand, or 0 if none does. The font is the first argument."""
@@ -38,7 +38,7 @@ def words_of(program):
     text = printed([program, "--help"])
     listed = re.search(r"^Commands:\n(.*?)\n\n", text, re.M | re.S)[1]
     pairs = re.findall(r"^  (\w+) +(\S.*)$", listed, re.M)
-    own = re.findall(r"^ +-\w, (--[\w-]+) ", re.search(r"^Options:\n(.*?)\n\n", text, re.M | re.S)[1], re.M)
+    own = re.findall(r"^ +(?:-\w, )?(--[\w-]+) ", re.search(r"^Options:\n(.*?)\n\n", text, re.M | re.S)[1], re.M)
     return [Word(program, name, about) for name, about in pairs if name != "help"], own
 
 
@@ -47,14 +47,16 @@ def bash(words, own):
     names = " ".join(word.name for word in words)
     cases = []
     for word in words:
-        takes = "|".join(word.takes_file) or "-"
+        takes = "|".join(word.takes) or "-"
         cases.append(f"    {word.name}) options='{' '.join(word.options)}' takes='{takes}' names={word.names_from()} ;;")
     lines = [
         MADE,
         "_t1subset() {",
-        "    local cur=${COMP_WORDS[COMP_CWORD]} options takes names name font at=1 place=0",
+        "    local cur=${COMP_WORDS[COMP_CWORD]} options takes names name font first=1 at place=0",
         "    COMPREPLY=()",
-        "    case ${COMP_WORDS[1]} in",
+        "    [ \"${COMP_WORDS[1]}\" = --explain ] && [ \"$COMP_CWORD\" -gt 1 ] && first=2",
+        "    at=$first",
+        "    case ${COMP_WORDS[first]} in",
         *cases,
         "    *) options= takes=- names=0 ;;",
         "    esac",
@@ -65,8 +67,8 @@ def bash(words, own):
         "        *) [ $((place += 1)) -eq 1 ] && font=${COMP_WORDS[at]} ;;",
         "        esac",
         "    done",
-        f"    if [ \"$COMP_CWORD\" -eq 1 ]; then options='{names} help {' '.join(own)}'",
-        f"    elif [ \"${{COMP_WORDS[1]}}\" = help ]; then options='{names}'",
+        f"    if [ \"$COMP_CWORD\" -eq \"$first\" ]; then options='{names} help {' '.join(own)}'",
+        f"    elif [ \"${{COMP_WORDS[first]}}\" = help ]; then options='{names}'",
         "    elif [[ ${COMP_WORDS[COMP_CWORD - 1]} =~ ^($takes)$ ]]; then return",
         "    elif [[ $cur != -* ]]; then",
         "        [ \"$names\" -gt 0 ] && [ $((place + 1)) -ge \"$names\" ] || return",
@@ -96,7 +98,8 @@ def plain(text):
 def zsh_arguments(word):
     """What zsh's _arguments takes for a word."""
     for option, about in word.options.items():
-        yield quoted(f"{option}[{plain(about)}]" + (":file:_files" if option in word.takes_file else ""))
+        value = word.takes.get(option, "")
+        yield quoted(f"{option}[{plain(about)}]" + (f":{value}:{'_files' if value == 'FILE' else ' '}" if value else ""))
     for name, many in word.arguments.items():
         yield quoted(f"{'*' if many else ''}:{name}:{'_t1subset_names' if name == 'NAME' else '_files'}")
 
@@ -114,6 +117,10 @@ def zsh(words, own):
         "}",
         "_t1subset() {",
         "    local -a words_of_it line",
+        "    if ((CURRENT > 2)) && [[ $words[2] == --explain ]]; then",
+        "        shift words",
+        "        ((CURRENT -= 1))",
+        "    fi",
         "    if ((CURRENT == 2)); then",
         "        words_of_it=(",
         *[f"            {quoted(word.name + ':' + plain(word.about))}" for word in words],

@@ -4,7 +4,8 @@
 """
 from collections import namedtuple
 
-from common import CALL, EMPTY, ENDCHAR, RETURN, TOP, TRAILER, WIDTH, as_pfb, bytes_of, example, made_font, number
+import refused_rows
+from common import CALL, EMPTY, ENDCHAR, RETURN, TOP, TRAILER, WIDTH, as_pfb, bytes_of, example, made_font, number, page_rows
 
 # Stands for a text that clap writes.
 SOME = object()
@@ -43,11 +44,17 @@ TESTED = (b"FontDirectory/Small known{/Small findfont dup/UniqueID known{dup/Uni
 Row = namedtuple("Row", "words status out err left", defaults=(b"", b"", {}))
 
 
-def small_font(name, subrs, callers):
+def encoding_of(names):
+    """The Encoding with names for these codes, as the canonical file has it."""
+    entries = b"".join(b"dup %d /%s put\n" % entry for entry in sorted(names.items()))
+    return b"/Encoding 256 array\n0 1 255 {1 index exch /.notdef put} for\n" + entries + b"readonly def\n"
+
+
+def small_font(name, subrs, callers, encoding=b"/Encoding StandardEncoding def\n"):
     """The canonical PFA of a font of this name: its Subrs, and glyphs that each call one of them."""
     glyphs = {b".notdef": EMPTY}
     glyphs.update((glyph, WIDTH + number(index) + CALL + ENDCHAR) for glyph, index in callers.items())
-    return made_font(b"%%!\n/FontName /%s def\n/Encoding StandardEncoding def\n" % name, subrs, glyphs)
+    return made_font(b"%%!\n/FontName /%s def\n" % name + encoding, subrs, glyphs)
 
 
 def version_of_the_man_page():
@@ -67,6 +74,10 @@ def files():
     given["spaced.cut"] = given["two.cut"].replace(b"/FontName ", b"% ZYXWVU+Small\t1\r\n /UniqueID 7  readonly\tdef\n\n/FontName\r")
     given["wide.cut"] = given["two.cut"].replace(b"%!\n/FontName ", b"%!\r\n/UniqueID 7 def\r\n\r\n/FontName \t")
     given["whole.font"] = small_font(b"Small", [STUB] * 4 + [ACROSS, UP], {b"A": 4, b"B": 5})
+    given["coded.font"] = small_font(b"Small", [STUB] * 4 + [ACROSS, UP], {b"A": 4, b"B": 5}, encoding_of({7: b"B", 65: b"A", 200: b"Lost"}))
+    given["other.font"] = small_font(b"Small", [STUB] * 4 + [ACROSS], {b"A": 4}, b"/Encoding ISOLatin1Encoding def\n")
+    given["values.font"] = made_font(SPELLED, [], {b".notdef": EMPTY})
+    given["private.font"] = refused_rows.made(private=refused_rows.PRIVATE + b"/UniqueID 77 def\n")
     given["one.names"], given["two.names"], given["bad.names"] = b"B", b"\r\nB\r\n", b"B\nZed\nA"
     given["spelled.font"] = given["one.cut"].replace(word + b" def", word + b" % a comment\n readonly def")
     given["tested.font"] = given["one.cut"].replace(b"/FontName", TESTED + b"/FontName")
@@ -86,7 +97,7 @@ def rows_of_words():
         yield Row([command], 2, b"", SOME)
     yield Row([], 2, b"", SOME)
     yield Row(["tiny.pfa"], 2, b"", SOME)
-    yield Row(["check", "tiny.pfa", "more"], 2, b"", SOME)
+    yield Row(["list", "tiny.pfa", "more"], 2, b"", SOME)
     yield Row(["merge", "out"], 2, b"", SOME)
     yield Row(["rejoin", "out"], 2, b"", SOME)
     yield Row(["show", "dashed.pfa", "-a"], 2, b"", SOME)
@@ -104,6 +115,84 @@ def rows_of_fonts():
     yield Row(["show", "dashed.pfa", ".notdef"], 0, b"fault NoWidth\n")
     yield Row(["show", "dashed.pfa", "Zed"], 1, b"", b"refused: no glyph Zed\n")
     yield Row(["show", "absent", "Zed"], 3, b"", b"failed: read\n")
+
+
+# The values of a dictionary as fonts spell them, and the lines of these.
+SPELLED = b"""\
+%!
+/UniqueID 5000793 def
+/FontNames /No def
+/FontName/Sp\x80elled def
+/FontMatrix\t[ 0.001 0
+0 .001 0 0]readonly def
+/FontBBox{-1 -2 3e1 4}readonly def
+/Encoding StandardEncoding def
+/UniqueID 7 def
+"""
+SPELLED_LISTED = b"""\
+name Sp\\x80elled
+matrix  0.001 0 0 .001 0 0
+box -1 -2 3e1 4
+unique 5000793
+"""
+
+
+def rows_of_full():
+    """What `list` prints in full."""
+    yield Row(["list", "--full", "dashed.pfa"], 0, LISTED + b"width -a 250 0\nwidth .notdef fault NoWidth\n")
+    glyph = b"encoding StandardEncoding\nglyph .notdef 5\n"
+    yield Row(["list", "values.font", "--full"], 0, glyph + SPELLED_LISTED + b"width .notdef 250 0\n")
+    yield Row(["list", "values.font"], 0, glyph)
+    private = b"code 65 A\n" + b"".join(b"subr %d 1\n" % at for at in range(4)) + b"subr 4 3\nglyph .notdef 5\nglyph A 7\n"
+    widths = b"width .notdef 250 0\nwidth A 250 0\n"
+    yield Row(["list", "--full", "private.font"], 0, private + b"name Made\nunique 77\n" + widths)
+    yield Row(["list", "--full", "no.font"], 1, b"", b"refused: no eexec\n")
+
+
+def rows_of_several():
+    """Several files are checked one after the other; the worst status is answered."""
+    dashed, tiny = b"dashed.pfa: ok 2 glyphs, 0 subrs, weight 579\n", b"tiny.pfb: ok 11 glyphs, 10 subrs, weight 4936\n"
+    refused, failed = b"no.font: refused: no eexec\n", b"absent: failed: read\n"
+    yield Row(["check", "dashed.pfa", "tiny.pfb"], 0, dashed + tiny)
+    yield Row(["check", "tiny.pfb", "dashed.pfa", "tiny.pfb"], 0, tiny + dashed + tiny)
+    yield Row(["check", "no.font", "dashed.pfa"], 1, dashed, refused)
+    yield Row(["check", "dashed.pfa", "absent", "no.font", "tiny.pfb"], 3, dashed + tiny, failed + refused)
+    yield Row(["check", "no.font", "no.font"], 1, b"", refused + refused)
+
+
+def rows_of_explained():
+    """Behind a refusal the file that is meant, and what the man page says."""
+    rows = page_rows()
+
+    def said(text, file, row=None):
+        return f"{text}\n{file}\n{rows[row or text.split(': ')[1]]}\n".encode()
+
+    no_font, absent = said("refused: no eexec", "file: no.font"), said("failed: read", "file: absent", "failed: read")
+    differ = said("refused: shells differ in head", "files: all of them together", "shells differ in PART")
+    bad_line = said("refused: bad line 1", "file: no.listing", "bad line N")
+    zed = said("refused: no glyph Zed", "file: whole.font", "no glyph NAME")
+    for words in (["--explain", "check", "no.font"], ["check", "--explain", "no.font"], ["check", "no.font", "--explain"]):
+        yield Row(words, 1, b"", no_font)
+    yield Row(["--explain", "check", "dashed.pfa"], 0, b"ok 2 glyphs, 0 subrs, weight 579\n")
+    checked = b"dashed.pfa: ok 2 glyphs, 0 subrs, weight 579\n"
+    yield Row(["check", "--explain", "absent", "dashed.pfa", "no.font"], 3, checked, b"absent: " + absent + b"no.font: " + no_font)
+    for word in ("merge", "rejoin"):
+        yield Row([word, "--explain", "old", "tiny.pfa", "no.font", "tiny.pfb"], 1, b"", no_font)
+        yield Row([word, "--explain", "old", "no.font", "tiny.pfa", "tiny.pfb"], 1, b"", no_font)
+        yield Row(["--explain", word, "old", "no.font", "tiny.pfa", "absent"], 3, b"", absent)
+        yield Row([word, "old", "one.cut", "other.cut", "--explain"], 1, b"", differ)
+    yield Row(["join", "--explain", "left.listing", "no.listing"], 1, b"", bad_line)
+    yield Row(["join", "--explain", "no.listing", "left.listing"], 1, b"", bad_line)
+    conflict = said("refused: subr 150 differs", "files: all of them together", "subr N differs")
+    yield Row(["join", "--explain", "left.listing", "other.listing"], 1, b"", conflict)
+    yield Row(["show", "--explain", "whole.font", "Zed"], 1, b"", zed)
+    yield Row(["subset", "--explain", "whole.font", "old", "Zed"], 1, b"", zed)
+    yield Row(["subset", "--explain", "--names", "absent", "whole.font", "old"], 3, b"", absent)
+    for words in (["list", "absent"], ["pfa", "absent", "old"], ["mend", "absent", "old"], ["join", "left.listing", "absent"]):
+        yield Row(["--explain", *words], 3, b"", absent)
+    written = said("failed: write", "file: no.folder/out", "failed: write")
+    yield Row(["pfa", "--explain", "tiny.pfb", "no.folder/out"], 3, b"", written)
+    yield Row(["merge", "--explain", "no.folder/out", "tiny.pfb"], 3, b"", written)
 
 
 def rows_of_outputs(given):
@@ -140,6 +229,47 @@ def rows_of_names():
     yield Row([*words, "bad.names"], 1, b"", b"refused: no glyph Zed\n")
     yield Row([*words, "absent"], 3, b"", b"failed: read\n")
     yield Row(["subset", "whole.font", "out", "--names"], 2, b"", SOME)
+
+
+# Lists of codes that are none.
+BAD_LISTS = ["", "65-", "-65", "66-65", "256", "65-256", "0065", "65,,66", "65,", "65-66-67", "A", "65, 66", "+65"]
+
+
+def rows_of_codes():
+    """Codes of the font's Encoding, as a list and as the bytes of a text."""
+    whole = small_font(b"Small", [STUB] * 4 + [ACROSS, UP], {b"A": 4, b"B": 5})
+    one = small_font(b"Small", [STUB] * 4 + [ACROSS, STUB], {b"A": 4})
+    words = ["subset", "whole.font", "out"]
+    for more in (["--codes", "65-66"], ["--codes", "66,65,065-65"], ["--text", "BAAB"], ["--codes", "65", "--text", "B"], ["--text=A", "B"]):
+        yield Row([*words, *more], 0, b"", b"", {"out": whole})
+    yield Row([*words, "--names", "one.names", "--codes", "65"], 0, b"", b"", {"out": whole})
+    yield Row([*words, "--codes", "65"], 0, b"", b"", {"out": one})
+    yield Row(["subset", "--text", "", "--pfb", "--codes", "065", "whole.font", "out", "A"], 0, b"", b"", {"out": as_pfb(one)})
+    yield Row(["subset", "whole.font", "out", "--text", ""], 0, b"", b"", {"out": small_font(b"Small", [STUB] * 6, {})})
+    coded = small_font(b"Small", [STUB] * 5 + [UP], {b"B": 5}, encoding_of({7: b"B"}))
+    yield Row(["subset", "coded.font", "out", "--codes", "7"], 0, b"", b"", {"out": coded})
+    for more, said in REFUSED_CODES:
+        yield Row([*words, *more], 1, b"", b"refused: %s\n" % said)
+    yield Row(["subset", "coded.font", "old", "--codes", "7-8"], 1, b"", b"refused: no code 8\n")
+    yield Row(["subset", "coded.font", "old", "--codes", "200"], 1, b"", b"refused: no glyph Lost\n")
+    yield Row(["subset", "other.font", "out", "A", "--text", "A"], 1, b"", b"refused: no code 65\n")
+    yield Row(["subset", "no.font", "out", "--codes", "128"], 1, b"", b"refused: no eexec\n")
+    yield Row(["subset", "absent", "out", "--codes", "128"], 3, b"", b"failed: read\n")
+    for text in BAD_LISTS:
+        yield Row([*words, "--codes", text], 2, b"", SOME)
+
+
+# Options and names, and what is refused: codes without a name in their order, then names before those of codes.
+REFUSED_CODES = [
+    (["--codes", "67"], b"no glyph C"),
+    (["--codes", "65,129,128"], b"no code 129"),
+    (["--codes", "67,128"], b"no code 128"),
+    (["--text", "C\u00e9", "--codes", "0-1"], b"no code 0"),
+    (["--text", "A\u00e9"], b"no glyph circumflex"),
+    (["--text", "-"], b"no glyph hyphen"),
+    (["Zed", "--codes", "128"], b"no code 128"),
+    (["Zed", "--codes", "67"], b"no glyph Zed"),
+]
 
 
 def rows_of_rejoined():
@@ -189,4 +319,5 @@ def rows_of_listings():
 
 
 def all_rows(given):
-    return [*rows_of_words(), *rows_of_fonts(), *rows_of_outputs(given), *rows_of_names(), *rows_of_rejoined(), *rows_of_mended(), *rows_of_listings()]
+    rows = [*rows_of_words(), *rows_of_fonts(), *rows_of_full(), *rows_of_several(), *rows_of_explained(), *rows_of_outputs(given)]
+    return [*rows, *rows_of_names(), *rows_of_codes(), *rows_of_rejoined(), *rows_of_mended(), *rows_of_listings()]

@@ -41,6 +41,12 @@ subr 9 1
 glyph .notdef 5
 glyph X 15
 """
+IN_FULL = b"""name Tiny
+matrix 0.001 0 0 0.001 0 0
+box 0 0 500 700
+width .notdef 250 0
+width X 300 0
+"""
 PLAIN = b"""width 300 0
 bearing 50 0
 part 0 0
@@ -188,11 +194,14 @@ def font_cases(folder):
         yield Case([form, other_form, out], example("tiny." + form), out)
     yield Case(["check", tiny], b"ok 11 glyphs, 10 subrs, weight 4936\n")
     yield Case(["list", x], LISTED)
+    yield Case(["list", "--full", x], LISTED + IN_FULL)
     yield Case(["show", tiny, "X"], PLAIN)
     yield Case(["show", tiny, "Aacute"], ACCENTED)
     yield Case(["show", tiny, "Zed"], b"", None, b"refused: no glyph Zed\n")
     yield Case(["subset", tiny, out], none, out)
     yield Case(["subset", tiny, out, "X", "Y"], both, out)
+    yield Case(["subset", "--codes", "65", "--text", "B", tiny, out, "X"], both, out)
+    yield Case(["subset", "--codes", "65-67", tiny, out], b"", out, b"refused: no code 67\n")
     yield Case(["subset", tiny, out, "Zed", "X"], b"", out, b"refused: no glyph Zed\n")
     yield Case(["merge", out, x, y], both, out)
     yield Case(["merge", out, y, x], both, out)

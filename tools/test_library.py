@@ -32,8 +32,10 @@ FONTS = 30
 WARNINGS = ["-O1", "-g", "-Wall", "-Wextra", "-Wconversion", "-Wpedantic", "-Wshadow", "-Werror"]
 IN_C = ["-std=c11", "-Wstrict-prototypes"]
 SANITIZERS = ["-fsanitize=address,undefined", "-fno-sanitize-recover=all"]
-# Numbers that no word of the program answers: growths.c and edges.c meet them.
-ELSEWHERE = {"ok", "memory", "bad_call", "file_too_long", "nothing_to_merge"}
+# Numbers that no word over the library answers: growths.c and edges.c meet them, but for that of codes, which no call takes.
+ELSEWHERE = {"ok", "memory", "bad_call", "file_too_long", "nothing_to_merge", "no_code"}
+# Options that no call has.
+OWN_OPTIONS = {"--names", "--codes", "--text", "--explain", "--full"}
 
 
 class Library:
@@ -64,9 +66,10 @@ class Library:
 
 def library_rows(given):
     """The rows that a library can be held to. Status 2 is a fault of the command line, and 3 of opening files, which are the
-    program's own; so are its help and its version, and files of names."""
+    program's own; so are its help and its version, files of names, codes, and `check` of several files."""
     rows = [row for row in program_rows.all_rows(given) if row.status < 2 and row.out is not program_rows.SOME]
-    rows = [row for row in rows if "--names" not in row.words]
+    rows = [row for row in rows if not OWN_OPTIONS.intersection(word.split("=")[0] for word in row.words if isinstance(word, str))]
+    rows = [row for row in rows if row.words[0] != "check" or len(row.words) == 2]
     return [row for row in rows if not row.words[0].startswith("--")]
 
 

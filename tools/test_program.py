@@ -11,7 +11,7 @@ import subprocess
 import sys
 import tempfile
 
-from common import BUILDS, TINY, TINY_PFB, bytes_of, example, put
+from common import BUILDS, TINY, TINY_PFB, bytes_of, example, page_rows, put
 from program_rows import SOME, STUB, all_rows, files, small_font
 
 
@@ -37,12 +37,13 @@ def wrong(program, row, given):
 
 
 def full(program):
-    """A printed result that standard output doesn't take is a failed write."""
-    with open("/dev/full", "wb") as out:
-        words = [program, "check", TINY]
-        done = subprocess.run(words, stdout=out, stderr=subprocess.PIPE, timeout=60)
-    if (done.returncode, done.stderr) != (3, b"failed: write\n"):
-        sys.exit(f"{program}: status {done.returncode}, {done.stderr!r}, where standard output is full")
+    """A printed result that standard output doesn't take is a failed write, after which no more files are checked."""
+    explained = f"failed: write\nfile: standard output\n{page_rows()['failed: write']}\n".encode()
+    for more, said in (([], b"failed: write\n"), ([TINY, "absent"], b"failed: write\n"), (["--explain"], explained)):
+        with open("/dev/full", "wb") as out:
+            done = subprocess.run([program, "check", TINY, *more], stdout=out, stderr=subprocess.PIPE, timeout=60)
+        if (done.returncode, done.stderr) != (3, said):
+            sys.exit(f"{program}: status {done.returncode}, {done.stderr!r}, where standard output is full")
 
 
 def small_files_alone():

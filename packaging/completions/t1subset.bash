@@ -1,18 +1,20 @@
 # Made by tools/make_completions.py from what t1subset says of itself.
 _t1subset() {
-    local cur=${COMP_WORDS[COMP_CWORD]} options takes names name font at=1 place=0
+    local cur=${COMP_WORDS[COMP_CWORD]} options takes names name font first=1 at place=0
     COMPREPLY=()
-    case ${COMP_WORDS[1]} in
-    subset) options='--names --pfb --help' takes='--names' names=3 ;;
-    merge) options='--pfb --help' takes='-' names=0 ;;
-    rejoin) options='--pfb --help' takes='-' names=0 ;;
-    mend) options='--pfb --help' takes='-' names=0 ;;
-    check) options='--help' takes='-' names=0 ;;
-    list) options='--help' takes='-' names=0 ;;
-    show) options='--help' takes='-' names=2 ;;
-    pfa) options='--help' takes='-' names=0 ;;
-    pfb) options='--help' takes='-' names=0 ;;
-    join) options='--help' takes='-' names=0 ;;
+    [ "${COMP_WORDS[1]}" = --explain ] && [ "$COMP_CWORD" -gt 1 ] && first=2
+    at=$first
+    case ${COMP_WORDS[first]} in
+    subset) options='--explain --names --codes --text --pfb --help' takes='--names|--codes|--text' names=3 ;;
+    merge) options='--explain --pfb --help' takes='-' names=0 ;;
+    rejoin) options='--explain --pfb --help' takes='-' names=0 ;;
+    mend) options='--explain --pfb --help' takes='-' names=0 ;;
+    check) options='--explain --help' takes='-' names=0 ;;
+    list) options='--explain --full --help' takes='-' names=0 ;;
+    show) options='--explain --help' takes='-' names=2 ;;
+    pfa) options='--explain --help' takes='-' names=0 ;;
+    pfb) options='--explain --help' takes='-' names=0 ;;
+    join) options='--explain --help' takes='-' names=0 ;;
     *) options= takes=- names=0 ;;
     esac
     # The arguments before the cursor: neither options nor what they take.
@@ -22,8 +24,8 @@ _t1subset() {
         *) [ $((place += 1)) -eq 1 ] && font=${COMP_WORDS[at]} ;;
         esac
     done
-    if [ "$COMP_CWORD" -eq 1 ]; then options='subset merge rejoin mend check list show pfa pfb join help --help --version'
-    elif [ "${COMP_WORDS[1]}" = help ]; then options='subset merge rejoin mend check list show pfa pfb join'
+    if [ "$COMP_CWORD" -eq "$first" ]; then options='subset merge rejoin mend check list show pfa pfb join help --explain --help --version'
+    elif [ "${COMP_WORDS[first]}" = help ]; then options='subset merge rejoin mend check list show pfa pfb join'
     elif [[ ${COMP_WORDS[COMP_CWORD - 1]} =~ ^($takes)$ ]]; then return
     elif [[ $cur != -* ]]; then
         [ "$names" -gt 0 ] && [ $((place + 1)) -ge "$names" ] || return

@@ -18,6 +18,8 @@ class Number(enum.IntEnum):
     """file too long"""
     NO_GLYPH = 4
     """no glyph NAME"""
+    NO_CODE = 5
+    """no code N, which no call answers so far"""
 
     BAD_SEGMENT = 10
     """bad segment at N"""

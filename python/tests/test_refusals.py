@@ -160,7 +160,7 @@ class Refusals(unittest.TestCase):
 
     def test_each_number_and_part_is_met(self) -> None:
         rows = [*rows_of_files(), *rows_of_names(), *rows_of_parts(), *rows_of_mergers(), *rows_of_listings()]
-        others = {Number.OK, Number.MEMORY, Number.BAD_CALL}
+        others = {Number.OK, Number.MEMORY, Number.BAD_CALL, Number.NO_CODE}
         self.assertEqual({row[0] for row in rows}, set(Number) - others)
         self.assertEqual({row[2] for row in rows if row[0] == Number.SHELLS_DIFFER}, set(Part))
 

@@ -43,6 +43,8 @@ numbers! {
     FileTooLong = 3,
     /// `no glyph NAME`: the first name that the font lacks.
     NoGlyph = 4,
+    /// `no code N`, which no call answers so far.
+    NoCode = 5,
     /// `bad segment at N`, an offset in the file.
     BadSegment = 10,
     /// `no eexec`: no Type 1 font program, perhaps TrueType or CFF.

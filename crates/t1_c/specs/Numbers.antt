@@ -14,7 +14,7 @@ use Rattle.t1_join.specs.declared.listing.ListFault.TheVariants as list
 use Rattle.t1_join.specs.declared.listing.JoinFault.{JoinFault}
 use Rattle.t1_join.specs.declared.listing.JoinFault.TheVariants as join
 use Rattle.t1_cmd.specs.declared.faults.Reason.{Reason}
-use Rattle.t1_cmd.specs.declared.faults.Reason.TheVariants.{TooLong, Memory, List, Join, Font, NoGlyph, Lacks, Merge}
+use Rattle.t1_cmd.specs.declared.faults.Reason.TheVariants.{TooLong, Memory, List, Join, Font, NoGlyph, NoCode, Lacks, Merge}
 
 -- ---- forms
 
@@ -47,6 +47,9 @@ file_too_long = 3
 
 abbrev pub no_glyph : ℕ
 no_glyph = 4
+
+abbrev pub no_code : ℕ
+no_code = 5
 
 abbrev pub bad_segment : ℕ
 bad_segment = 10
@@ -172,6 +175,7 @@ number_of (List f) = list_number f
 number_of (Join f) = join_number f
 number_of (Font f) = font_number f
 number_of (NoGlyph name) = no_glyph
+number_of (NoCode code) = no_code
 number_of (Lacks glyph index) = glyph_lacks_subr
 number_of (Merge c) = merge_number c
 
@@ -224,6 +228,7 @@ detail_of (Font (fault.BadSegment at)) = at
 detail_of (Font (fault.BadEncoding at)) = at
 detail_of (Font (fault.BadSubrs at)) = at
 detail_of (Font (fault.BadGlyphs at)) = at
+detail_of (NoCode code) = code
 detail_of (Lacks glyph index) = index
 detail_of (Merge (conflict.Shell p)) = part_number p
 detail_of (Merge (conflict.Code code)) = code

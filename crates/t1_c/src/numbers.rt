@@ -97,6 +97,7 @@ pub(crate) fn number_of(reason: &Reason) -> u32
         Reason::Join(fault) => join_number(fault),
         Reason::Font(fault) => font_number(fault),
         Reason::NoGlyph { .. } => 4,
+        Reason::NoCode { .. } => 5,
         Reason::Lacks { .. } => 37,
         Reason::Merge(conflict) => merge_number(conflict),
     }
@@ -130,6 +131,7 @@ pub(crate) fn detail_of(reason: &Reason) -> u64
             | ReadFault::BadSubrs { at }
             | ReadFault::BadGlyphs { at },
         ) => *at as u64,
+        Reason::NoCode { code } => u64::from(*code),
         Reason::Lacks { index, .. } => u64::from(*index),
         Reason::Merge(Conflict::Shell { part }) => part_number(*part),
         Reason::Merge(Conflict::Code { code }) => u64::from(*code),

@@ -13,3 +13,4 @@ pub mod Files
 pub mod MendLemmas
 pub mod OneAnswer
 pub mod CutLemmas
+pub mod CodeLemmas

@@ -6,7 +6,7 @@ use Rattle.std.specs.Result.{result_ok}
 use Rattle.std.specs.Io.KnownBytes.{Appends}
 use Rattle.t1_cmd.specs.declared.counting.Counted.{Counted}
 use Rattle.t1_cmd.specs.declared.faults.Reason.{Reason}
-use Rattle.t1_cmd.specs.declared.faults.Reason.TheVariants.{TooLong, Memory, List as ListReason, Join as JoinReason, Font, NoGlyph, Lacks, Merge}
+use Rattle.t1_cmd.specs.declared.faults.Reason.TheVariants.{TooLong, Memory, List as ListReason, Join as JoinReason, Font, NoGlyph, NoCode, Lacks, Merge}
 use Rattle.t1_cmd.specs.declared.faults.RunFault.{RunFault}
 use Rattle.t1_cmd.specs.declared.faults.RunFault.TheVariants.{Refused, Read, Write}
 use Rattle.t1_cmd.specs.Count.{inner_of, failed_of, last_count}
@@ -111,6 +111,7 @@ module _ {A : Type 0} (understand : List ℕ → Result A Reason) where
     stops_after front i rest (Refused (JoinReason f)) h s = inl (first_at (IsRefused understand (JoinReason f)) front i rest h s)
     stops_after front i rest (Refused (Font f)) h s = inl (first_at (IsRefused understand (Font f)) front i rest h s)
     stops_after front i rest (Refused (NoGlyph n)) h s = inl (first_at (IsRefused understand (NoGlyph n)) front i rest h s)
+    stops_after front i rest (Refused (NoCode code)) h s = inl (first_at (IsRefused understand (NoCode code)) front i rest h s)
     stops_after front i rest (Refused (Lacks g k)) h s = inl (first_at (IsRefused understand (Lacks g k)) front i rest h s)
     stops_after front i rest (Refused (Merge n)) h s = inl (first_at (IsRefused understand (Merge n)) front i rest h s)
     stops_after front i rest Read h s = first_at HasFailed front i rest h s
@@ -137,6 +138,7 @@ module _ {A : Type 0} (understand : List ℕ → Result A Reason) where
         by (JoinReason f) b = inr (together (JoinReason f) b)
         by (Font f) b = inr (together (Font f) b)
         by (NoGlyph n) b = inr (together (NoGlyph n) b)
+        by (NoCode code) b = inr (together (NoCode code) b)
         by (Lacks g k) b = inr (together (Lacks g k) b)
         by (Merge n) b = inr (together (Merge n) b)
 
@@ -184,6 +186,7 @@ module _ {A : Type 0} (understand : List ℕ → Result A Reason) where
         at xs e text a q same low (Err (Refused (JoinReason f))) h = ap Refused (refused xs text (JoinReason f) e a h.1)
         at xs e text a q same low (Err (Refused (Font f))) h = ap Refused (refused xs text (Font f) e a h.1)
         at xs e text a q same low (Err (Refused (NoGlyph n))) h = ap Refused (refused xs text (NoGlyph n) e a h.1)
+        at xs e text a q same low (Err (Refused (NoCode code))) h = ap Refused (refused xs text (NoCode code) e a h.1)
         at xs e text a q same low (Err (Refused (Lacks g k))) h = ap Refused (refused xs text (Lacks g k) e a h.1)
         at xs e text a q same low (Err (Refused (Merge n))) h = ap Refused (refused xs text (Merge n) e a h.1)
         at xs e text a q same low (Err Read) h = absurd (first_failed is h.1 q)

@@ -11,3 +11,7 @@ check_text f = codes "ok " ++ decimal (len f.glyphs) ++ codes " glyphs, " ++ dec
 
 abbrev pub check_answer : FontValue → Result (List ℕ) Reason
 check_answer f = Ok (check_text f)
+
+-- the same line behind the path of the font
+abbrev pub check_answer_of : List ℕ → FontValue → Result (List ℕ) Reason
+check_answer_of path f = Ok (path ++ codes ": " ++ check_text f)

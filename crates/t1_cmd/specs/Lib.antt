@@ -15,3 +15,5 @@ pub mod Rejoins
 pub mod WrittenSubsets
 pub mod Mends
 pub mod Cuts
+pub mod CodeLists
+pub mod FullText

@@ -6,7 +6,7 @@ use Rattle.t1_join.specs.Shown.{shown}
 use Rattle.t1_join.specs.FaultTexts.{list_text, join_text}
 use Rattle.t1_subset.specs.FaultTexts.{conflict_text}
 use Rattle.t1_cmd.specs.declared.faults.Reason.{Reason}
-use Rattle.t1_cmd.specs.declared.faults.Reason.TheVariants.{TooLong, Memory, List as ListReason, Join as JoinReason, Font, NoGlyph, Lacks, Merge}
+use Rattle.t1_cmd.specs.declared.faults.Reason.TheVariants.{TooLong, Memory, List as ListReason, Join as JoinReason, Font, NoGlyph, NoCode, Lacks, Merge}
 use Rattle.t1_cmd.specs.declared.faults.RunFault.{RunFault}
 use Rattle.t1_cmd.specs.declared.faults.RunFault.TheVariants.{Refused, Read, Write}
 
@@ -18,6 +18,7 @@ reason_text (ListReason f) = list_text f
 reason_text (JoinReason f) = join_text f
 reason_text (Font f) = fault_text f
 reason_text (NoGlyph name) = codes "no glyph " ++ shown name
+reason_text (NoCode code) = codes "no code " ++ decimal code
 reason_text (Lacks glyph index) = codes "glyph " ++ (shown glyph ++ (codes " lacks subr " ++ decimal index))
 reason_text (Merge e) = conflict_text e
 
@@ -30,3 +31,7 @@ run_fault_text Write = codes "failed: write"
 -- the line that tells of a fault
 abbrev pub fault_line : RunFault → List ℕ
 fault_line fault = run_fault_text fault ++ 10 ∷ []
+
+-- the same behind the path of a file
+abbrev pub fault_line_of : List ℕ → RunFault → List ℕ
+fault_line_of path fault = path ++ codes ": " ++ fault_line fault

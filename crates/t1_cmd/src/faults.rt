@@ -59,6 +59,8 @@ pub enum Reason {
     Font(ReadFault),
     /// The font has no glyph of this name.
     NoGlyph { name: Name },
+    /// The font's Encoding has no name for this code.
+    NoCode { code: u8 },
     /// Of fonts that are rejoined, the first that lacks a Subr which its glyph executes and another of the fonts has: a stub there
     /// would draw something else. The index is the smallest, and the glyph the smallest that executes it.
     Lacks { glyph: Name, index: u16 },
@@ -80,6 +82,7 @@ impl fmt::Display for Reason {
             Reason::Join(fault) => write!(f, "{fault}"),
             Reason::Font(fault) => write!(f, "{fault}"),
             Reason::NoGlyph { name } => write!(f, "no glyph {}", Shown(name.as_bytes())),
+            Reason::NoCode { code } => write!(f, "no code {code}"),
             Reason::Lacks { glyph, index } => {
                 write!(f, "glyph {} lacks subr {index}", Shown(glyph.as_bytes()))
             }

@@ -8,7 +8,7 @@ ghost use Rattle.t1_bytes.specs.Limits.{file_limit};
 ghost use Rattle.t1_cmd.specs.Runs.{RunEnds, Succeeds};
 ghost use Rattle.t1_cmd.specs.Answers.{Prints, MayRefuse};
 ghost use Rattle.t1_cmd.specs.Fonts.{font_input, of_file, file_answer};
-ghost use Rattle.t1_cmd.specs.CheckText.{check_answer};
+ghost use Rattle.t1_cmd.specs.CheckText.{check_answer, check_answer_of};
 
 use crate::counting::Counted;
 use crate::faults::{Reason, RunFault};
@@ -135,6 +135,35 @@ impl FontWord for Check {
     }
 }
 
+// The line for a font that can be read, behind its path.
+fn check_line_of(alloc: Global, path: &[u8], font: &Font<'_>) -> Result<Vec<u8>, AllocError>
+    ensures { IfOk result (λ text. check_answer_of path.now font.now ≡ Ok text.items) }
+{
+    let line = check_line(alloc, font)?;
+    let mut text = Vec::new(alloc);
+    text.extend_from_slice(path)?;
+    text.extend_from_slice(b": ")?;
+    text.extend_from_slice(line.as_slice())?;
+    Ok(text)
+}
+
+/// The word `check` about one of several files, of this path.
+#[derive(Drop)]
+pub(crate) struct CheckOf<'a> {
+    path: &'a [u8],
+}
+
+impl FontWord for CheckOf<'_> {
+    ghost answer = { λ word. check_answer_of word.path.now };
+
+    fn text(&self, alloc: Global, font: Font<'_>) -> Result<Vec<u8>, Reason> {
+        let text = check_line_of(alloc, self.path, &font);
+        drop(font);
+        let text = text?;
+        Ok(text)
+    }
+}
+
 /// One line that says that a file spells a font: how many glyphs it has, how many Subrs are present, and its weight.
 ///
 /// # Errors
@@ -161,4 +190,20 @@ pub fn run_check<R: Read, W: Write>(
     ensures turns { calls_counted reader.new ≤ calls_counted reader.old + (file_limit + 1) }
 {
     run_word(alloc, Taking::Spelled, &Check, reader, writer)
+}
+
+/// Writes the path of a file as it stands, a colon and a blank, and then what [`run_check`] writes of its font.
+pub fn run_check_of<R: Read, W: Write>(
+    alloc: Global,
+    reader: &mut Counted<R>,
+    path: &[u8],
+    writer: &mut Counted<W>,
+) -> Result<(), RunFault>
+    ensures ends { RunEnds font_input (Prints (check_answer_of path.now)) W.contents
+        (input_of R.remaining reader.old reader.new ∷ []) writer.old writer.new result }
+    ensures succeeds { Succeeds font_input (Prints (check_answer_of path.now))
+        (input_of R.remaining reader.old reader.new ∷ []) writer.old writer.new result }
+    ensures turns { calls_counted reader.new ≤ calls_counted reader.old + (file_limit + 1) }
+{
+    run_word(alloc, Taking::Spelled, &CheckOf { path }, reader, writer)
 }

@@ -3,12 +3,19 @@
 ghost use Rattle.t1_cmd.specs.Mends.{MendsAgain, MendsNothing, MendedIsSpelled, TellsNothing, RejoinsMended};
 ghost use Rattle.t1_cmd.specs.Rejoins.{RejoinsWhatMerges};
 ghost use Rattle.t1_cmd.specs.Cuts.{RejoinedDraw};
+ghost use Rattle.t1_cmd.specs.Subsets.{SubsetWithoutCodes};
 
 /// Fonts that merge rejoin to the file of what they merge to, with even texts, and to nothing else: where the texts are even and
 /// have no test to lose, [`run_rejoin`](crate::run_rejoin) writes what [`run_merge`](crate::run_merge) writes, unless a growth was
 /// refused.
 pub fn rejoins_what_merges()
     ensures { RejoinsWhatMerges }
+{}
+
+/// Without codes [`run_subset_with_codes`](crate::run_subset_with_codes) writes what [`run_subset`](crate::run_subset) writes of
+/// the names, unless a growth was refused.
+pub fn subset_without_codes()
+    ensures { SubsetWithoutCodes }
 {}
 
 /// What fonts rejoin to is the canonical file of a font in which each of their glyphs that is drawn without a fault is drawn the

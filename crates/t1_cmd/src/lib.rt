@@ -3,8 +3,8 @@
 //! Each engine reads whole inputs, makes its whole result, and writes it last. What is written is a stated function
 //! of the bytes that were read; after a refusal, or if a reader failed, nothing is written.
 //!
-//! Beside the engines stand calls over files in memory, which answer the same texts: [`check_file`], [`list_file`],
-//! [`show_file`], [`convert_file`], [`subset_file`], [`merge_files`], [`rejoin_files`] and [`join_listings`].
+//! Beside the engines stand calls over files in memory, which answer the same texts: [`check_file`], [`list_file`], [`list_file_full`],
+//! [`show_file`], [`convert_file`], [`subset_file`], [`subset_file_with_codes`], [`merge_files`], [`rejoin_files`] and [`join_listings`].
 //!
 //! ```text
 //! let mut text = Vec::new(alloc);
@@ -15,9 +15,11 @@
 //! ```
 #![tactic(auto)]
 
+mod code_lists;
 mod counting;
 mod faults;
 mod fonts;
+mod full;
 pub mod laws;
 mod list;
 mod listings;
@@ -34,9 +36,11 @@ mod texts;
 mod words;
 mod writing;
 
+pub use code_lists::read_codes;
 pub use counting::Counted;
 pub use faults::{FilesRefusal, Name, Reason, RunFault, status};
-pub use fonts::{check_file, convert_file, run_check, run_convert};
+pub use fonts::{check_file, convert_file, run_check, run_check_of, run_convert};
+pub use full::{list_file_full, run_list_full};
 pub use list::{list_file, run_list};
 pub use listings::{join_listings, run_join};
 pub use mends::{list_mends, mend_file, run_mend};
@@ -44,6 +48,6 @@ pub use mergers::{merge_files, run_merge};
 pub use reading::read_all;
 pub use rejoins::{rejoin_files, run_rejoin};
 pub use show::{run_show, show_file};
-pub use subsets::{run_subset, subset_file};
+pub use subsets::{run_subset, run_subset_with_codes, subset_file, subset_file_with_codes};
 pub use t1_bytes::FILE_LIMIT;
-pub use writing::{write_fault, write_text};
+pub use writing::{write_fault, write_fault_of, write_text};

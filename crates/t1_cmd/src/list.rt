@@ -116,8 +116,8 @@ fn push_glyphs(alloc: Global, out: &mut Vec<u8>, font: &Font<'_>) -> Result<(), 
     Ok(())
 }
 
-// The lines of a font.
-fn list_text(alloc: Global, font: &Font<'_>) -> Result<Vec<u8>, AllocError>
+/// The lines of a font.
+pub(crate) fn list_text(alloc: Global, font: &Font<'_>) -> Result<Vec<u8>, AllocError>
     ensures { IfOk result (λ text. list_answer font.now ≡ Ok text.items) }
 {
     let mut text = Vec::new(alloc);

@@ -51,8 +51,8 @@ fn push_counts(alloc: Global, out: &mut Vec<u8>, counts: &[i64]) -> Result<(), A
     Ok(())
 }
 
-// A word and its numbers.
-fn push_line(
+/// A word and its numbers.
+pub(crate) fn push_line(
     alloc: Global,
     out: &mut Vec<u8>,
     word: &[u8],
@@ -166,7 +166,8 @@ fn drawn(
     Ok(lines.text)
 }
 
-fn fault_text(alloc: Global, fault: DrawFault) -> Result<Vec<u8>, AllocError>
+/// The line of a fault.
+pub(crate) fn fault_text(alloc: Global, fault: DrawFault) -> Result<Vec<u8>, AllocError>
     ensures { IfOk result (λ text. text.items ≡ fault_line fault) }
 {
     let mut text = Vec::new(alloc);

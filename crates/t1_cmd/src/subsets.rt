@@ -1,5 +1,7 @@
 //! The engine that subsets a font.
 ghost use Rattle.std.specs.Prelude.{◌≡◌, ◌+◌, ◌≤◌, ◌∷◌, [], List, ℕ, None, Ok, OnOk, IfOk, IfErr};
+ghost use Rattle.std.specs.Option.{option_map};
+ghost use Rattle.std.specs.Str.{bytes_eq};
 ghost use Rattle.t1_algebra.specs.Profile.{profile};
 ghost use Rattle.t1_algebra.specs.Keep.{subset};
 ghost use Rattle.t1_subset.specs.NameSets.{lent, asked};
@@ -9,7 +11,7 @@ ghost use Rattle.t1_bytes.specs.Limits.{file_limit};
 ghost use Rattle.t1_cmd.specs.Runs.{RunEnds, Succeeds};
 ghost use Rattle.t1_cmd.specs.Answers.{Prints, MayRefuse};
 ghost use Rattle.t1_cmd.specs.Fonts.{font_input, of_file};
-ghost use Rattle.t1_cmd.specs.Subsets.{first_absent, unless_absent, subset_answer};
+ghost use Rattle.t1_cmd.specs.Subsets.{first_absent, unless_absent, subset_answer, standard_word, code_name, names_with, subset_with_codes};
 
 use crate::counting::Counted;
 use crate::faults::{Name, Reason, RunFault};
@@ -18,6 +20,7 @@ use crate::words::{FontWord, Taking, run_word, text_of_bytes};
 use std::alloc::Global;
 use std::io::{Read, Write};
 use t1_font::{Font, Form};
+use t1_run::standard_name;
 use t1_subset::{SubsetFault, subset};
 
 // The subset of a font.
@@ -60,6 +63,73 @@ fn file_of_cut(
     Ok(text)
 }
 
+// Whether the word of an Encoding is StandardEncoding.
+fn is_standard(word: &[u8]) -> bool
+    ensures { result ≡ bytes_eq word.now standard_word }
+{
+    word == b"StandardEncoding".as_slice()
+}
+
+// The name of a code in a font's Encoding, if it has one.
+fn name_of_code<'a>(font: &Font<'a>, code: u8) -> Option<&'a [u8]>
+    ensures { option_map (λ n. n.now) result ≡ code_name font.now.encoding code }
+{
+    let Some(word) = font.encoding_word() else {
+        return font.encoding_at(code);
+    };
+    if !is_standard(word) {
+        return None;
+    }
+    match standard_name(code) {
+        Some(name) => Some(name.as_bytes()),
+        None => None,
+    }
+}
+
+// Names, and behind them the names of codes in a font's Encoding.
+fn names_and_codes<'t, 'a: 't>(
+    alloc: Global,
+    font: &Font<'a>,
+    names: &[&'t [u8]],
+    codes: &[u8],
+) -> Result<Vec<&'t [u8]>, Reason>
+    ensures names { IfOk result (λ all. names_with font.now.encoding (lent names.now) codes.now
+        ≡ Ok (lent all.items)) }
+    ensures refused { IfErr result
+        (MayRefuse (λ a. a ≡ names_with font.now.encoding (lent names.now) codes.now)) }
+{
+    let mut all = names.to_vec(alloc)?;
+    'codes: for code in codes {
+        let Some(name) = name_of_code(font, *code) else {
+            return Err(Reason::NoCode { code: *code });
+        };
+        if all.push(name).is_err() {
+            return Err(Reason::Memory);
+        }
+    }
+    Ok(all)
+}
+
+// The canonical file of a font's subset over names and the names of codes.
+fn file_with_codes(
+    alloc: Global,
+    font: Font<'_>,
+    names: &[&[u8]],
+    codes: &[u8],
+    form: Form,
+) -> Result<Vec<u8>, Reason>
+    ensures text { IfOk result (λ text. subset_with_codes form (lent names.now) codes.now font.entry
+        ≡ Ok text.items) }
+    ensures refused { IfErr result
+        (MayRefuse (λ a. a ≡ subset_with_codes form (lent names.now) codes.now font.entry)) }
+{
+    let all = match names_and_codes(alloc, &font, names, codes) {
+        Ok(all) => all,
+        Err(reason) => return Err(reason),
+    };
+    file_of_cut(alloc, font, all.as_slice(), form)
+}
+
 /// The word `subset` with names of glyphs, and the form that it writes.
 #[derive(Drop)]
 pub(crate) struct Subset<'a> {
@@ -72,6 +142,22 @@ impl FontWord for Subset<'_> {
 
     fn text(&self, alloc: Global, font: Font<'_>) -> Result<Vec<u8>, Reason> {
         file_of_cut(alloc, font, self.names, self.form)
+    }
+}
+
+/// The word `subset` with names of glyphs and codes, and the form that it writes.
+#[derive(Drop)]
+pub(crate) struct SubsetWithCodes<'a> {
+    names: &'a [&'a [u8]],
+    codes: &'a [u8],
+    form: Form,
+}
+
+impl FontWord for SubsetWithCodes<'_> {
+    ghost answer = { λ word. subset_with_codes word.form (lent word.names.now) word.codes.now };
+
+    fn text(&self, alloc: Global, font: Font<'_>) -> Result<Vec<u8>, Reason> {
+        file_with_codes(alloc, font, self.names, self.codes, self.form)
     }
 }
 
@@ -117,6 +203,61 @@ pub fn run_subset<R: Read, W: Write>(
         alloc,
         Taking::Spelled,
         &Subset { names, form },
+        reader,
+        writer,
+    )
+}
+
+/// The canonical file, in one of the two forms, of the subset of the font of a file over these names and the names that these
+/// codes have in its Encoding, as [`run_subset_with_codes`] writes it. If the Encoding is the word StandardEncoding, the names
+/// are those of StandardEncoding; by another word no code has a name.
+///
+/// # Errors
+///
+/// [`Reason::TooLong`] or [`Reason::Font`] if the file spells no font, for its first fault; else [`Reason::NoCode`] with the
+/// first code that has no name; else [`Reason::NoGlyph`] with the first name that the font lacks, where names stand before
+/// those of codes. [`Reason::Memory`] if a growth was refused.
+pub fn subset_file_with_codes(
+    alloc: Global,
+    file: &[u8],
+    names: &[&[u8]],
+    codes: &[u8],
+    form: Form,
+) -> Result<Vec<u8>, Reason>
+    ensures text { IfOk result (λ text. of_file (subset_with_codes form (lent names.now) codes.now) file.now ≡ Ok text.items) }
+    ensures refused { IfErr result (MayRefuse (λ a. a ≡ of_file (subset_with_codes form (lent names.now) codes.now) file.now)) }
+{
+    text_of_bytes(
+        alloc,
+        Taking::Spelled,
+        &SubsetWithCodes { names, codes, form },
+        file,
+    )
+}
+
+/// Writes what [`run_subset`] writes of these names and the names that these codes have in the font's Encoding. If that is the
+/// word StandardEncoding, the names are those of StandardEncoding; by another word no code has a name.
+///
+/// A file that is not a font is refused before a code without a name, as [`Reason::NoCode`]; of several such codes the first is
+/// reported. A name that the font lacks comes after that, as [`Reason::NoGlyph`]; the names of codes stand behind the others.
+pub fn run_subset_with_codes<R: Read, W: Write>(
+    alloc: Global,
+    reader: &mut Counted<R>,
+    names: &[&[u8]],
+    codes: &[u8],
+    form: Form,
+    writer: &mut Counted<W>,
+) -> Result<(), RunFault>
+    ensures ends { RunEnds font_input (Prints (subset_with_codes form (lent names.now) codes.now)) W.contents
+        (input_of R.remaining reader.old reader.new ∷ []) writer.old writer.new result }
+    ensures succeeds { Succeeds font_input (Prints (subset_with_codes form (lent names.now) codes.now))
+        (input_of R.remaining reader.old reader.new ∷ []) writer.old writer.new result }
+    ensures turns { calls_counted reader.new ≤ calls_counted reader.old + (file_limit + 1) }
+{
+    run_word(
+        alloc,
+        Taking::Spelled,
+        &SubsetWithCodes { names, codes, form },
         reader,
         writer,
     )

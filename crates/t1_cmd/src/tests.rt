@@ -1,4 +1,5 @@
 mod changed;
+mod codes;
 mod counts;
 mod drawings;
 mod engines;
@@ -14,7 +15,7 @@ mod subsets;
 
 use crate::{
     Counted, FilesRefusal, Name, Reason, RunFault, join_listings, read_all, run_join, status,
-    write_fault,
+    write_fault, write_fault_of,
 };
 use engines::line_of_reason;
 use std::alloc::Global;
@@ -411,6 +412,33 @@ fn is_told(alloc: Global, fault: &RunFault, want: &str, code: u8) -> bool {
     let is_ok = ended.is_ok();
     drop(ended);
     is_ok && line.as_slice() == want.as_bytes() && status(fault) == code
+}
+
+/// Whether a fault is told by this line behind a path, or else to a writer that takes nothing by one call.
+fn is_told_of(alloc: Global, path: &[u8], fault: &RunFault, want: &[u8]) -> bool {
+    let mut line = Vec::new(alloc);
+    let mut full = Counted::new(Sink::new(Vec::new(alloc), Plan { most: 0, ..FINE }));
+    let is_ok = write_fault_of(alloc, path, fault, &mut Counted::new(&mut line)).is_ok();
+    let in_vain = write_fault_of(alloc, path, fault, &mut full);
+    let word = word(&in_vain);
+    drop(in_vain);
+    is_ok && line.as_slice() == want && word == "write" && full.calls() == 1
+}
+
+// meets write_fault_of Ok
+#[test]
+fn lines_of_faults_behind_paths(rt: HostRuntime) {
+    let refused = RunFault::Refused(Reason::NoCode { code: 65 });
+    assert!(rt;
+        is_told_of(
+            rt.alloc(),
+            b"/a b\xff",
+            &refused,
+            b"/a b\xff: refused: no code 65\n"
+        )
+    );
+    assert!(rt; is_told_of(rt.alloc(), b"", &RunFault::Read, b": failed: read\n"));
+    drop(refused);
 }
 
 /// The same of a refusal, whose status is 1.

@@ -2,7 +2,7 @@
 ghost use Rattle.std.specs.Prelude.{◌≡◌, ◌++◌, OnOk, IfOk};
 ghost use Rattle.std.specs.Fmt.{decimal};
 ghost use Rattle.t1_join.specs.Shown.{shown};
-ghost use Rattle.t1_cmd.specs.Texts.{fault_line};
+ghost use Rattle.t1_cmd.specs.Texts.{fault_line, fault_line_of};
 
 use crate::faults::RunFault;
 use std::alloc::{AllocError, Global};
@@ -43,4 +43,20 @@ pub fn fault_line_of(alloc: Global, fault: &RunFault) -> Result<Vec<u8>, AllocEr
     let mut line = fault.to_string(alloc)?.into_bytes();
     line.push(b'\n')?;
     Ok(line)
+}
+
+/// The same line behind the path of a file, a colon and a blank.
+pub fn fault_line_behind(
+    alloc: Global,
+    path: &[u8],
+    fault: &RunFault,
+) -> Result<Vec<u8>, AllocError>
+    ensures { IfOk result (λ line. line.items ≡ fault_line_of path.now fault.now) }
+{
+    let line = fault_line_of(alloc, fault)?;
+    let mut text = Vec::new(alloc);
+    text.extend_from_slice(path)?;
+    text.extend_from_slice(b": ")?;
+    text.extend_from_slice(line.as_slice())?;
+    Ok(text)
 }

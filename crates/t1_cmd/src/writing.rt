@@ -4,11 +4,11 @@ ghost use Rattle.std.specs.Io.KnownBytes.{Appends};
 ghost use Rattle.t1_cmd.specs.Count.{failed_of, inner_of};
 ghost use Rattle.t1_cmd.specs.Inputs.{RoseByOne};
 ghost use Rattle.t1_cmd.specs.Runs.{AppendsPrefix, WriteRefusal};
-ghost use Rattle.t1_cmd.specs.Texts.{fault_line};
+ghost use Rattle.t1_cmd.specs.Texts.{fault_line, fault_line_of};
 
 use crate::counting::Counted;
 use crate::faults::{Reason, RunFault};
-use crate::texts::fault_line_of;
+use crate::texts::{fault_line_behind, fault_line_of};
 use std::alloc::Global;
 use std::io::Write;
 
@@ -48,6 +48,26 @@ pub fn write_fault<W: Write>(
         (W.contents (inner_of writer.new)) (failed_of writer.old) (failed_of writer.new)) }
 {
     match fault_line_of(alloc, fault) {
+        Ok(line) => write_text(writer, line.as_slice()),
+        Err(_) => Err(RunFault::Refused(Reason::Memory)),
+    }
+}
+
+/// Makes the line that reports a fault behind the path of a file, as it stands, a colon and a blank, and then writes it.
+pub fn write_fault_of<W: Write>(
+    alloc: Global,
+    path: &[u8],
+    fault: &RunFault,
+    writer: &mut Counted<W>,
+) -> Result<(), RunFault>
+    ensures whole { OnOk result
+        (Appends (W.contents (inner_of writer.old)) (W.contents (inner_of writer.new))
+        (fault_line_of path.now fault.now)) }
+    ensures refused { IfErr result
+        (WriteRefusal (fault_line_of path.now fault.now) (W.contents (inner_of writer.old))
+        (W.contents (inner_of writer.new)) (failed_of writer.old) (failed_of writer.new)) }
+{
+    match fault_line_behind(alloc, path, fault) {
         Ok(line) => write_text(writer, line.as_slice()),
         Err(_) => Err(RunFault::Refused(Reason::Memory)),
     }

@@ -1,6 +1,8 @@
 //! The words of the program, and their help.
+use clap::error::ErrorKind;
 use clap::{Arg, ArgAction, ArgMatches, Command, Error};
 use std::alloc::{AllocError, Global};
+use t1_cmd::read_codes;
 
 fn word<'a>(alloc: Global, name: &'a str, help: &'a str) -> Arg<'a> {
     Arg::new(alloc, name)
@@ -33,10 +35,12 @@ glyph executes is replaced by the single command `return`; Subrs 0 to 3 are
 always kept. So subsets of one font can be merged again. Without a NAME it
 keeps only `.notdef`. Put `--` before a NAME that begins with `-`. A NAME may
 be given more than once. With --names the names of a file are kept too, a name
-a line; there may be as many as a font has glyphs. OUT is opened only when the
-result is complete.
+a line; there may be as many as a font has glyphs. With --codes and --text the
+names are kept, too, that codes have in the font's Encoding; a code that has
+none is refused. OUT is opened only when the result is complete.
 
-Example: t1subset subset font.pfb some.pfa A B Aacute";
+Examples: t1subset subset font.pfb some.pfa A B Aacute
+          t1subset subset --codes 65-90,97 --text 'Hello!' font.pfb some.pfa";
 
 /// The option that names a file of names.
 fn names_option<'a>(alloc: Global) -> Arg<'a> {
@@ -45,6 +49,25 @@ fn names_option<'a>(alloc: Global) -> Arg<'a> {
         .value_name("FILE")
         .action(ArgAction::Set)
         .help("A file of more names, a name a line; `-` is standard input")
+}
+
+/// The option that gives codes as a list.
+fn codes_option<'a>(alloc: Global) -> Arg<'a> {
+    Arg::new(alloc, "codes")
+        .long("codes")
+        .value_name("LIST")
+        .action(ArgAction::Set)
+        .help("Codes of the font's Encoding from 0 to 255, as 65-90,97")
+}
+
+/// The option that gives codes as a text.
+fn text_option<'a>(alloc: Global) -> Arg<'a> {
+    Arg::new(alloc, "text")
+        .long("text")
+        .value_name("STRING")
+        .allow_hyphen_values(true)
+        .action(ArgAction::Set)
+        .help("A text each of whose bytes is a code of the font's Encoding")
 }
 
 /// The option that writes a PFB.
@@ -70,6 +93,8 @@ fn subset_command<'a>(alloc: Global) -> Result<Command<'a>, AllocError> {
         .arg(word(alloc, "OUT", "The file that is written"))?
         .arg(names_word(alloc))?
         .arg(names_option(alloc))?
+        .arg(codes_option(alloc))?
+        .arg(text_option(alloc))?
         .arg(pfb_option(alloc))
 }
 
@@ -185,30 +210,43 @@ Prints `ok G glyphs, S subrs, weight W`, where S counts the Subrs that are
 present, and W is the weight, which is limited. It adds up the lengths of the
 texts around the tables; for each Subr 128, its lead bytes and its length,
 which counts as at least 1; and for each glyph 256, its lead bytes and its
-length. A font that doesn't parse is refused with its first fault.
+length. A font that doesn't parse is refused with its first fault. Of several
+fonts each line begins with the path, and the exit status is the worst.
 
 Example: t1subset check font.pfb";
 
 fn check_command<'a>(alloc: Global) -> Result<Command<'a>, AllocError> {
     Command::new(alloc, "check")
-        .about("Checks that a font can be read")
+        .about("Checks that fonts can be read")
         .after_help(CHECK_HELP)
-        .arg(word(alloc, "IN", "The font"))
+        .arg(fonts_word(alloc))
 }
 
 const LIST_HELP: &str = "\
 Prints `encoding WORD`, or a line `code C NAME` for each code; then `subr I
 LENGTH` for each Subr that is present; then `glyph NAME LENGTH` for each glyph
 by the bytes of its name. Lengths are those of the plain charstrings. A byte
-outside 33 to 126, and the backslash, is printed as `\\x` and two digits.
+outside 33 to 126, and the backslash, is printed as `\\x` and two digits. With
+--full then `name NAME`, `matrix NUMBERS`, `box NUMBERS` and `unique NUMBER` as
+the font spells them, those that it has; and for each glyph `width NAME WX WY`
+in charstring units, or `width NAME fault X` if it can't be drawn.
 
 Example: t1subset list font.pfb";
+
+/// The option that lists more.
+fn full_option<'a>(alloc: Global) -> Arg<'a> {
+    Arg::new(alloc, "full")
+        .long("full")
+        .action(ArgAction::SetTrue)
+        .help("Prints the font's name, matrix, box and number, and widths, too")
+}
 
 fn list_command<'a>(alloc: Global) -> Result<Command<'a>, AllocError> {
     Command::new(alloc, "list")
         .about("Lists a font's codes, Subrs and glyphs")
         .after_help(LIST_HELP)
-        .arg(word(alloc, "IN", "The font"))
+        .arg(word(alloc, "IN", "The font"))?
+        .arg(full_option(alloc))
 }
 
 const SHOW_HELP: &str = "\
@@ -274,8 +312,18 @@ fn bare_program<'a>(alloc: Global) -> Command<'a> {
         .arg_required_else_help(true)
 }
 
+/// The option that explains refusals, before a command or behind it.
+fn explain_option<'a>(alloc: Global) -> Arg<'a> {
+    Arg::new(alloc, "explain")
+        .long("explain")
+        .global(true)
+        .action(ArgAction::SetTrue)
+        .help("Says behind a refusal which file is meant, and what to do")
+}
+
 fn program<'a>(alloc: Global) -> Result<Command<'a>, AllocError> {
-    let program = with(Ok(bare_program(alloc)), subset_command(alloc));
+    let program = bare_program(alloc).arg(explain_option(alloc));
+    let program = with(program, subset_command(alloc));
     let program = with(program, merge_command(alloc));
     let program = with(program, rejoin_command(alloc));
     let program = with(program, mend_command(alloc));
@@ -287,7 +335,29 @@ fn program<'a>(alloc: Global) -> Result<Command<'a>, AllocError> {
     with(program, join_command(alloc))
 }
 
+/// The list of codes that the words give, if it can't be read.
+fn bad_list<'a>(alloc: Global, matches: &ArgMatches<'a>) -> Result<Option<&'a str>, AllocError> {
+    let Some(("subset", given)) = matches.subcommand() else {
+        return Ok(None);
+    };
+    let Some(list) = given.get_str("codes") else {
+        return Ok(None);
+    };
+    match read_codes(alloc, list.as_bytes())? {
+        Some(_) => Ok(None),
+        None => Ok(Some(list)),
+    }
+}
+
 /// What the words ask for, or clap's text if they don't parse.
 pub fn parse<'a>(alloc: Global, words: &'a [String]) -> Result<ArgMatches<'a>, Error> {
-    program(alloc)?.try_get_matches_from(words)
+    let mut program = program(alloc)?;
+    let matches = program.try_get_matches_from_mut(words)?;
+    let Some(list) = bad_list(alloc, &matches)? else {
+        return Ok(matches);
+    };
+    let text = format!(in alloc;
+        "invalid value '{list}' for '--codes <LIST>': codes are numbers from 0 to 255 and ranges of them, as 65-90,97"
+    )?;
+    Err(program.error(ErrorKind::ValueValidation, text.as_str())?)
 }

@@ -1,6 +1,7 @@
 //! The program `t1subset`.
 #![tactic(auto)]
 
+mod advice;
 mod commands;
 mod output;
 mod perform;

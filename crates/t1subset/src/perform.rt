@@ -1,4 +1,5 @@
 //! Performs what the words ask for.
+use crate::advice::explain;
 use crate::commands::parse;
 use crate::output::{Note, Out};
 use clap::{ArgMatches, Error};
@@ -7,10 +8,22 @@ use std::io::{ErrorKind, Write};
 use std::rt::Files;
 use std::{fs, io};
 use t1_cmd::{
-    Counted, FILE_LIMIT, Reason, RunFault, read_all, run_check, run_convert, run_join, run_list,
-    run_mend, run_merge, run_rejoin, run_show, run_subset, status, write_fault,
+    Counted, FILE_LIMIT, Reason, RunFault, read_all, read_codes, run_check, run_check_of,
+    run_convert, run_join, run_list, run_list_full, run_mend, run_merge, run_rejoin, run_show,
+    run_subset_with_codes, status, write_fault, write_fault_of,
 };
 use t1_font::Form;
+
+/// What is seen of a run while it goes on.
+#[derive(Drop)]
+struct Seen<'p> {
+    /// The input that was opened or read last.
+    input: &'p str,
+    /// What is said of OUT behind the result.
+    note: Note<'p>,
+    /// Lines that tell what was mended.
+    told: Vec<u8>,
+}
 
 /// How an input that can't be opened ends the run.
 fn not_opened(error: io::Error) -> RunFault {
@@ -26,63 +39,123 @@ fn flush<O: Write + Drop>(mut out: Counted<O>) -> Result<(), RunFault> {
     out.flush().map_err(|_| RunFault::Write)
 }
 
-fn join<R: Files, O: Write + Drop>(
+fn join<'p, R: Files, O: Write + Drop>(
     rt: &R,
     alloc: Global,
-    left: &str,
-    right: &str,
+    given: &ArgMatches<'p>,
     out: O,
+    seen: &mut Seen<'p>,
 ) -> Result<(), RunFault> {
-    let left = fs::open(rt, left).map_err(not_opened)?;
-    let right = fs::open(rt, right).map_err(not_opened)?;
+    let first = given.get_str("A").unwrap_or("");
+    seen.input = first;
+    let left = fs::open(rt, first).map_err(not_opened)?;
+    let mut left = Counted::new(left);
+    let second = given.get_str("B").unwrap_or("");
+    seen.input = second;
+    let right = fs::open(rt, second).map_err(not_opened)?;
+    let mut right = Counted::new(right);
     let mut out = Counted::new(out);
-    run_join(
-        alloc,
-        &mut Counted::new(left),
-        &mut Counted::new(right),
-        &mut out,
-    )?;
+    let done = run_join(alloc, &mut left, &mut right, &mut out);
+    if right.calls() == 0 {
+        seen.input = first;
+    }
+    done?;
     flush(out)
 }
 
 /// The font that the words name, opened.
-fn font<R: Files>(rt: &R, given: &ArgMatches<'_>) -> Result<Counted<R::File>, RunFault> {
-    let file = fs::open(rt, given.get_str("IN").unwrap_or("")).map_err(not_opened)?;
+fn font<'p, R: Files>(
+    rt: &R,
+    given: &ArgMatches<'p>,
+    seen: &mut Seen<'p>,
+) -> Result<Counted<R::File>, RunFault> {
+    let path = given.get_str("IN").unwrap_or("");
+    seen.input = path;
+    let file = fs::open(rt, path).map_err(not_opened)?;
     Ok(Counted::new(file))
 }
 
-fn check<R: Files, O: Write + Drop>(
+/// Checks the font of one path, and writes its line behind the path.
+fn check_of<R: Files, O: Write + Drop>(
     rt: &R,
     alloc: Global,
-    given: &ArgMatches<'_>,
-    out: O,
+    path: &str,
+    out: &mut Counted<O>,
 ) -> Result<(), RunFault> {
-    let mut input = font(rt, given)?;
+    let file = fs::open(rt, path).map_err(not_opened)?;
+    run_check_of(alloc, &mut Counted::new(file), path.as_bytes(), out)?;
+    out.flush().map_err(|_| RunFault::Write)
+}
+
+/// Checks fonts one after the other, and tells why some are refused. Answers the worst status.
+fn check_all<R: Files, O: Write + Drop, E: Write + Drop>(
+    rt: &R,
+    alloc: Global,
+    paths: &[&str],
+    out: O,
+    told: &mut Told<E>,
+) -> Result<u8, RunFault> {
+    let mut out = Counted::new(out);
+    let mut worst = 0u8;
+    for path in paths {
+        match check_of(rt, alloc, *path, &mut out) {
+            Ok(()) => {}
+            Err(RunFault::Write) => return Err(RunFault::Write),
+            Err(fault) => {
+                worst = worst.max(status(&fault));
+                let _ = write_fault_of(alloc, path.as_bytes(), &fault, &mut told.err);
+                told.explain(&fault, *path, None);
+            }
+        }
+    }
+    Ok(worst)
+}
+
+fn check<'p, R: Files, O: Write + Drop, E: Write + Drop>(
+    rt: &R,
+    alloc: Global,
+    given: &ArgMatches<'p>,
+    out: O,
+    told: &mut Told<E>,
+    seen: &mut Seen<'p>,
+) -> Result<u8, RunFault> {
+    let paths = given.get_raw("IN").unwrap_or(&[]);
+    if paths.len() > 1 {
+        return check_all(rt, alloc, paths, out, told);
+    }
+    let mut input = font(rt, given, seen)?;
     let mut out = Counted::new(out);
     run_check(alloc, &mut input, &mut out)?;
-    flush(out)
+    flush(out)?;
+    Ok(0)
 }
 
-fn list<R: Files, O: Write + Drop>(
+fn list<'p, R: Files, O: Write + Drop>(
     rt: &R,
     alloc: Global,
-    given: &ArgMatches<'_>,
+    given: &ArgMatches<'p>,
     out: O,
+    seen: &mut Seen<'p>,
 ) -> Result<(), RunFault> {
-    let mut input = font(rt, given)?;
+    let mut input = font(rt, given, seen)?;
     let mut out = Counted::new(out);
-    run_list(alloc, &mut input, &mut out)?;
+    if given.get_flag("full") {
+        run_list_full(alloc, &mut input, &mut out)?;
+    } else {
+        run_list(alloc, &mut input, &mut out)?;
+    }
     flush(out)
 }
 
-fn show<R: Files, O: Write + Drop>(
+fn show<'p, R: Files, O: Write + Drop>(
     rt: &R,
     alloc: Global,
-    given: &ArgMatches<'_>,
+    given: &ArgMatches<'p>,
     out: O,
+    seen: &mut Seen<'p>,
 ) -> Result<(), RunFault> {
     let name = given.get_str("NAME").unwrap_or("");
-    let mut input = font(rt, given)?;
+    let mut input = font(rt, given, seen)?;
     let mut out = Counted::new(out);
     run_show(alloc, &mut input, name.as_bytes(), &mut out)?;
     flush(out)
@@ -92,7 +165,7 @@ fn show<R: Files, O: Write + Drop>(
 fn out<'r, 'p, R: Files>(
     rt: &'r R,
     alloc: Global,
-    given: &'p ArgMatches<'_>,
+    given: &ArgMatches<'p>,
 ) -> Counted<Out<'r, 'p, R>> {
     let path = given.get_str("OUT").unwrap_or("");
     Counted::new(Out::new(rt, alloc, path))
@@ -102,24 +175,24 @@ fn out<'r, 'p, R: Files>(
 fn end<'p, R: Files>(
     out: Counted<Out<'_, 'p, R>>,
     done: Result<(), RunFault>,
-    note: &mut Note<'p>,
+    seen: &mut Seen<'p>,
 ) -> Result<(), RunFault> {
     let (done, said) = out.into_inner().end(done);
-    *note = said;
+    seen.note = said;
     done
 }
 
 fn convert<'p, R: Files>(
     rt: &R,
     alloc: Global,
-    given: &'p ArgMatches<'_>,
+    given: &ArgMatches<'p>,
     form: Form,
-    note: &mut Note<'p>,
+    seen: &mut Seen<'p>,
 ) -> Result<(), RunFault> {
-    let mut input = font(rt, given)?;
+    let mut input = font(rt, given, seen)?;
     let mut out = out(rt, alloc, given);
     let done = run_convert(alloc, &mut input, form, &mut out);
-    end(out, done, note)
+    end(out, done, seen)
 }
 
 /// The form that the words ask for.
@@ -135,31 +208,32 @@ fn form(given: &ArgMatches<'_>) -> Form {
 fn mend<'p, R: Files>(
     rt: &R,
     alloc: Global,
-    given: &'p ArgMatches<'_>,
-    note: &mut Note<'p>,
-    told: &mut Vec<u8>,
+    given: &ArgMatches<'p>,
+    seen: &mut Seen<'p>,
 ) -> Result<(), RunFault> {
-    let mut input = font(rt, given)?;
+    let mut input = font(rt, given, seen)?;
     let mut out = out(rt, alloc, given);
     match run_mend(alloc, &mut input, form(given), &mut out) {
         Ok(lines) => {
-            end(out, Ok(()), note)?;
-            *told = lines;
+            end(out, Ok(()), seen)?;
+            seen.told = lines;
             Ok(())
         }
-        Err(fault) => end(out, Err(fault), note),
+        Err(fault) => end(out, Err(fault), seen),
     }
 }
 
 /// The text of the file of names that the words name, if they name one.
-fn text_of_names<R: Files>(
+fn text_of_names<'p, R: Files>(
     rt: &R,
     alloc: Global,
-    given: &ArgMatches<'_>,
+    given: &ArgMatches<'p>,
+    seen: &mut Seen<'p>,
 ) -> Result<Vec<u8>, RunFault> {
     let Some(path) = given.get_str("names") else {
         return Ok(Vec::new(alloc));
     };
+    seen.input = path;
     let path = if path == "-" { "/dev/stdin" } else { path };
     let file = fs::open(rt, path).map_err(not_opened)?;
     read_all(alloc, &mut Counted::new(file), FILE_LIMIT)
@@ -192,28 +266,50 @@ fn names<'t, 'a: 't>(
     Ok(names)
 }
 
+/// The codes that the words give: those of a list, and the bytes of a text.
+fn codes(alloc: Global, given: &ArgMatches<'_>) -> Result<Vec<u8>, AllocError> {
+    let mut codes = Vec::new(alloc);
+    if let Some(list) = given.get_str("codes") {
+        if let Some(more) = read_codes(alloc, list.as_bytes())? {
+            codes.extend_from_slice(more.as_slice())?;
+        }
+    }
+    codes.extend_from_slice(given.get_str("text").unwrap_or("").as_bytes())?;
+    Ok(codes)
+}
+
 fn subset<'p, R: Files>(
     rt: &R,
     alloc: Global,
-    given: &'p ArgMatches<'_>,
-    note: &mut Note<'p>,
+    given: &ArgMatches<'p>,
+    seen: &mut Seen<'p>,
 ) -> Result<(), RunFault> {
-    let text = text_of_names(rt, alloc, given)?;
+    let text = text_of_names(rt, alloc, given, seen)?;
     let names = names(alloc, given, text.as_slice())?;
-    let mut input = font(rt, given)?;
+    let codes = codes(alloc, given)?;
+    let mut input = font(rt, given, seen)?;
     let mut out = out(rt, alloc, given);
-    let done = run_subset(alloc, &mut input, names.as_slice(), form(given), &mut out);
-    end(out, done, note)
+    let done = run_subset_with_codes(
+        alloc,
+        &mut input,
+        names.as_slice(),
+        codes.as_slice(),
+        form(given),
+        &mut out,
+    );
+    end(out, done, seen)
 }
 
 /// The fonts that the words name, all of them opened.
-fn fonts<R: Files>(
+fn fonts<'p, R: Files>(
     rt: &R,
     alloc: Global,
-    given: &ArgMatches<'_>,
+    given: &ArgMatches<'p>,
+    seen: &mut Seen<'p>,
 ) -> Result<Vec<Counted<R::File>>, RunFault> {
     let mut fonts = Vec::new(alloc);
     for path in given.get_raw("IN").unwrap_or(&[]) {
+        seen.input = *path;
         let file = fs::open(rt, *path).map_err(not_opened)?;
         if fonts.push(Counted::new(file)).is_err() {
             return Err(RunFault::Refused(Reason::Memory));
@@ -222,56 +318,89 @@ fn fonts<R: Files>(
     Ok(fonts)
 }
 
+/// How many of the fonts were read: an engine reads them one after the other, and stops at the first that it refuses.
+fn read_count<F>(fonts: &[Counted<F>]) -> usize {
+    let mut count = 0usize;
+    for font in fonts {
+        if font.calls() > 0 {
+            count = count.saturating_add(1);
+        }
+    }
+    count
+}
+
+/// The path of the last of the fonts that was read.
+fn last_read<'p, F>(given: &ArgMatches<'p>, fonts: &[Counted<F>]) -> &'p str {
+    let paths = given.get_raw("IN").unwrap_or(&[]);
+    let last = read_count(fonts).saturating_sub(1);
+    match paths.get(last) {
+        Some(path) => *path,
+        None => "",
+    }
+}
+
 fn merge<'p, R: Files>(
     rt: &R,
     alloc: Global,
-    given: &'p ArgMatches<'_>,
-    note: &mut Note<'p>,
+    given: &ArgMatches<'p>,
+    seen: &mut Seen<'p>,
 ) -> Result<(), RunFault> {
-    let mut fonts = fonts(rt, alloc, given)?;
+    let mut fonts = fonts(rt, alloc, given, seen)?;
     let mut out = out(rt, alloc, given);
     let done = run_merge(alloc, fonts.as_mut_slice(), form(given), &mut out);
-    end(out, done, note)
+    seen.input = last_read(given, fonts.as_slice());
+    end(out, done, seen)
 }
 
 fn rejoin<'p, R: Files>(
     rt: &R,
     alloc: Global,
-    given: &'p ArgMatches<'_>,
-    note: &mut Note<'p>,
+    given: &ArgMatches<'p>,
+    seen: &mut Seen<'p>,
 ) -> Result<(), RunFault> {
-    let mut fonts = fonts(rt, alloc, given)?;
+    let mut fonts = fonts(rt, alloc, given, seen)?;
     let mut out = out(rt, alloc, given);
     let done = run_rejoin(alloc, fonts.as_mut_slice(), form(given), &mut out);
-    end(out, done, note)
+    seen.input = last_read(given, fonts.as_slice());
+    end(out, done, seen)
 }
 
+/// Does what a command says, but for `check`.
 fn perform<'p, R: Files, O: Write + Drop>(
     rt: &R,
     alloc: Global,
-    matches: &'p ArgMatches<'_>,
+    word: &str,
+    given: &ArgMatches<'p>,
     out: O,
-    note: &mut Note<'p>,
-    told: &mut Vec<u8>,
+    seen: &mut Seen<'p>,
 ) -> Result<(), RunFault> {
-    let Some((word, given)) = matches.subcommand() else {
-        return Ok(());
-    };
     match word {
-        "subset" => subset(rt, alloc, given, note),
-        "merge" => merge(rt, alloc, given, note),
-        "rejoin" => rejoin(rt, alloc, given, note),
-        "mend" => mend(rt, alloc, given, note, told),
-        "check" => check(rt, alloc, given, out),
-        "list" => list(rt, alloc, given, out),
-        "show" => show(rt, alloc, given, out),
-        "pfa" => convert(rt, alloc, given, Form::Pfa, note),
-        "pfb" => convert(rt, alloc, given, Form::Pfb, note),
-        "join" => {
-            let (left, right) = (given.get_str("A"), given.get_str("B"));
-            join(rt, alloc, left.unwrap_or(""), right.unwrap_or(""), out)
-        }
+        "subset" => subset(rt, alloc, given, seen),
+        "merge" => merge(rt, alloc, given, seen),
+        "rejoin" => rejoin(rt, alloc, given, seen),
+        "mend" => mend(rt, alloc, given, seen),
+        "list" => list(rt, alloc, given, out, seen),
+        "show" => show(rt, alloc, given, out, seen),
+        "pfa" => convert(rt, alloc, given, Form::Pfa, seen),
+        "pfb" => convert(rt, alloc, given, Form::Pfb, seen),
+        "join" => join(rt, alloc, given, out, seen),
         _ => Ok(()),
+    }
+}
+
+/// Where faults are told, and whether they are explained.
+#[derive(Drop)]
+struct Told<E> {
+    err: Counted<E>,
+    explains: bool,
+}
+
+impl<E: Write + Drop> Told<E> {
+    /// Explains a fault in two more lines, if that is asked for.
+    fn explain(&mut self, fault: &RunFault, input: &str, out: Option<&str>) {
+        if self.explains {
+            let _ = explain(fault, input, out, &mut self.err);
+        }
     }
 }
 
@@ -287,6 +416,40 @@ fn tell<O: Write + Drop, E: Write + Drop>(error: &Error, mut out: O, mut err: E)
     }
 }
 
+/// Does what a command says, and answers the exit status.
+fn run_word<R: Files, O: Write + Drop, E: Write + Drop>(
+    rt: &R,
+    alloc: Global,
+    word: &str,
+    given: &ArgMatches<'_>,
+    out: O,
+    told: &mut Told<E>,
+) -> u8 {
+    let mut seen = Seen {
+        input: "",
+        note: Note::Nothing,
+        told: Vec::new(alloc),
+    };
+    let done = if word == "check" {
+        check(rt, alloc, given, out, told, &mut seen)
+    } else {
+        perform(rt, alloc, word, given, out, &mut seen).map(|()| 0u8)
+    };
+    let ended = match done {
+        Ok(status) => {
+            let _ = told.err.write_all(seen.told.as_slice());
+            status
+        }
+        Err(fault) => {
+            let _ = write_fault(alloc, &fault, &mut told.err);
+            told.explain(&fault, seen.input, given.get_str("OUT"));
+            status(&fault)
+        }
+    };
+    let _ = seen.note.tell(&mut told.err);
+    ended
+}
+
 /// Does what the words say, and answers the exit status.
 pub fn run<R: Files, O: Write + Drop, E: Write + Drop>(
     rt: &R,
@@ -299,19 +462,12 @@ pub fn run<R: Files, O: Write + Drop, E: Write + Drop>(
         Ok(matches) => matches,
         Err(error) => return tell(&error, out, err),
     };
-    let mut err = Counted::new(err);
-    let mut note = Note::Nothing;
-    let mut told = Vec::new(alloc);
-    let ended = match perform(rt, alloc, &matches, out, &mut note, &mut told) {
-        Ok(()) => {
-            let _ = err.write_all(told.as_slice());
-            0
-        }
-        Err(fault) => {
-            let _ = write_fault(alloc, &fault, &mut err);
-            status(&fault)
-        }
+    let mut told = Told {
+        err: Counted::new(err),
+        explains: matches.get_flag("explain"),
     };
-    let _ = note.tell(&mut err);
-    ended
+    match matches.subcommand() {
+        Some((word, given)) => run_word(rt, alloc, word, given, out, &mut told),
+        None => 0,
+    }
 }

@@ -2,8 +2,9 @@
 use super::changed::tiny_encoded;
 use super::{FINE, Feed, Plan, Sink, line_of, word};
 use crate::{
-    Counted, Reason, RunFault, check_file, convert_file, list_file, list_mends, mend_file,
-    run_check, run_convert, run_list, run_mend, run_show, run_subset, show_file, subset_file,
+    Counted, Reason, RunFault, check_file, convert_file, list_file, list_file_full, list_mends,
+    mend_file, run_check, run_check_of, run_convert, run_list, run_list_full, run_mend, run_show,
+    run_subset, run_subset_with_codes, show_file, subset_file, subset_file_with_codes,
 };
 use std::alloc::Global;
 use std::io::{ErrorKind, Read, Write};
@@ -15,11 +16,14 @@ use t1_tiny::{PFA, PFB};
 #[derive(Clone, Copy)]
 pub enum Engine<'a> {
     Check,
+    CheckOf(&'a [u8]),
     List,
+    ListFull,
     Show(&'a [u8]),
     Convert(Form),
     Mend(Form),
     Subset(&'a [&'a [u8]], Form),
+    Codes(&'a [&'a [u8]], &'a [u8], Form),
 }
 
 /// Runs an engine.
@@ -31,7 +35,9 @@ pub fn run<R: Read, W: Write>(
 ) -> Result<(), RunFault> {
     match engine {
         Engine::Check => run_check(alloc, reader, writer),
+        Engine::CheckOf(path) => run_check_of(alloc, reader, path, writer),
         Engine::List => run_list(alloc, reader, writer),
+        Engine::ListFull => run_list_full(alloc, reader, writer),
         Engine::Show(name) => run_show(alloc, reader, name, writer),
         Engine::Convert(form) => run_convert(alloc, reader, form, writer),
         Engine::Mend(form) => match run_mend(alloc, reader, form, writer) {
@@ -42,18 +48,35 @@ pub fn run<R: Read, W: Write>(
             Err(fault) => Err(fault),
         },
         Engine::Subset(names, form) => run_subset(alloc, reader, names, form, writer),
+        Engine::Codes(names, codes, form) => run_subset_with_codes(
+            alloc, reader, names, codes, form, writer,
+        ),
     }
+}
+
+/// The line of a file, behind a path.
+fn checked_of(alloc: Global, path: &[u8], file: &[u8]) -> Result<Vec<u8>, Reason> {
+    let line = check_file(alloc, file)?;
+    let mut text = Vec::from_slice(alloc, path)?;
+    text.extend_from_slice(b": ")?;
+    text.extend_from_slice(line.as_slice())?;
+    Ok(text)
 }
 
 /// What the call below an engine makes of a file.
 pub fn made(alloc: Global, engine: Engine<'_>, file: &[u8]) -> Result<Vec<u8>, Reason> {
     match engine {
         Engine::Check => check_file(alloc, file),
+        Engine::CheckOf(path) => checked_of(alloc, path, file),
         Engine::List => list_file(alloc, file),
+        Engine::ListFull => list_file_full(alloc, file),
         Engine::Show(name) => show_file(alloc, file, name),
         Engine::Convert(form) => convert_file(alloc, file, form),
         Engine::Mend(form) => mend_file(alloc, file, form),
         Engine::Subset(names, form) => subset_file(alloc, file, names, form),
+        Engine::Codes(names, codes, form) => subset_file_with_codes(
+            alloc, file, names, codes, form,
+        ),
     }
 }
 
@@ -121,6 +144,15 @@ fn written(alloc: Global, engine: Engine<'_>, input: &[u8]) -> Vec<u8> {
 /// Whether an engine writes this of bytes in memory, or it is the line of its fault.
 pub fn answers(alloc: Global, engine: Engine<'_>, input: &[u8], want: &[u8]) -> bool {
     answer(alloc, engine, input).as_slice() == want
+}
+
+// meets run_check_of Ok at 11 glyphs
+#[test]
+fn tiny_is_checked_behind_its_path(rt: HostRuntime) {
+    let want = b"a: b/\xff\n: ok 11 glyphs, 10 subrs, weight 4936\n";
+    let engine = Engine::CheckOf(b"a: b/\xff\n");
+    assert!(rt; answers(rt.alloc(), engine, PFB, want));
+    assert!(rt; answers(rt.alloc(), engine, b"", b"refused: no eexec\n"));
 }
 
 // meets run_check Ok at 11 glyphs
@@ -201,6 +233,38 @@ fn tiny_is_listed(rt: HostRuntime) {
     assert!(rt; answers(rt.alloc(), Engine::List, PFB, TINY_LISTED));
 }
 
+/// What is listed of Tiny in full, behind the same lines.
+pub const TINY_IN_FULL: &[u8] = b"name Tiny
+matrix 0.001 0 0 0.001 0 0
+box 0 0 500 700
+width .notdef 250 0
+width A 500 0
+width Aacute 500 0
+width B 500 0
+width F 500 0
+width H 500 0
+width L fault Nesting
+width N fault NestedSeac
+width X 300 0
+width Y 500 0
+width acute 300 0
+";
+
+/// Whether a text is one and then another.
+pub fn is_both(text: &[u8], one: &[u8], other: &[u8]) -> bool {
+    text.len() == one.len().saturating_add(other.len())
+        && text.starts_with(one)
+        && text.ends_with(other)
+}
+
+// meets run_list_full Ok at 11 glyphs
+// like run_list_full: list_file_full
+#[test]
+fn tiny_is_listed_in_full(rt: HostRuntime) {
+    let text = answer(rt.alloc(), Engine::ListFull, PFB);
+    assert!(rt; is_both(text.as_slice(), TINY_LISTED, TINY_IN_FULL));
+}
+
 /// What spells an Encoding, and what a font of it is listed with first.
 const ENCODINGS: &[(&[u8], &[u8], &str)] = &[
     (
@@ -277,7 +341,9 @@ fn each_read_fails(rt: HostRuntime) {
 
 pub const ENGINES: &[Engine] = &[
     Engine::Check,
+    Engine::CheckOf(b"tiny.pfa"),
     Engine::List,
+    Engine::ListFull,
     Engine::Show(b"Aacute"),
     Engine::Convert(Form::Pfa),
     Engine::Convert(Form::Pfb),
@@ -285,6 +351,7 @@ pub const ENGINES: &[Engine] = &[
     Engine::Mend(Form::Pfb),
     Engine::Subset(&[b"X"], Form::Pfa),
     Engine::Subset(&[b"X"], Form::Pfb),
+    Engine::Codes(&[b"X"], b"B", Form::Pfa),
 ];
 
 /// How an engine ends over a writer of a plan, as a word, how many calls of that writer failed, and whether a prefix of the

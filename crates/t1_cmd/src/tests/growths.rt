@@ -5,8 +5,8 @@ use super::engines::{Engine, made, run};
 use super::lists::{List, made_of};
 use super::{LEFT, RIGHT};
 use crate::{
-    Counted, FilesRefusal, Reason, RunFault, join_listings, list_mends, read_all, run_join,
-    run_merge, run_rejoin, write_fault,
+    Counted, FilesRefusal, Reason, RunFault, join_listings, list_mends, read_all, read_codes,
+    run_join, run_merge, run_rejoin, write_fault, write_fault_of,
 };
 use std::alloc::{AllocError, Global};
 use std::test::Fail;
@@ -83,6 +83,16 @@ fn subset_of_x(alloc: Global) -> Result<Option<Vec<u8>>, AllocError> {
     written(out, ended)
 }
 
+/// Whether the subset of the code of X is this, and the list of this code is read.
+fn subsets_by_codes(alloc: Global, want: &[u8]) -> Result<bool, AllocError> {
+    let engine = Engine::Codes(&[], b"A", Form::Pfa);
+    let is_written = writes(alloc, engine, PFA, want)? && makes(alloc, engine, PFA, want)?;
+    match read_codes(alloc, b"65")? {
+        Some(codes) => Ok(is_written && codes.as_slice() == b"A".as_slice()),
+        None => Ok(false),
+    }
+}
+
 /// Whether it has its size, and is the same when it is cut again.
 fn subsets(alloc: Global) -> Result<bool, AllocError> {
     match (subset_of_x(alloc)?, subset_of_x(alloc)?) {
@@ -93,10 +103,23 @@ fn subsets(alloc: Global) -> Result<bool, AllocError> {
                 PFA,
                 one.as_slice(),
             )?;
-            Ok(again && one.len() == 2224 && one.as_slice() == other.as_slice())
+            Ok(
+                again
+                    && subsets_by_codes(alloc, one.as_slice())?
+                    && one.len() == 2224
+                    && one.as_slice() == other.as_slice(),
+            )
         }
         _ => Ok(false),
     }
+}
+
+/// Whether Tiny is listed in full.
+fn lists_in_full(alloc: Global) -> Result<bool, AllocError> {
+    let mut want = Vec::from_slice(alloc, super::engines::TINY_LISTED)?;
+    want.extend_from_slice(super::engines::TINY_IN_FULL)?;
+    let is_written = writes(alloc, Engine::ListFull, PFA, want.as_slice())?;
+    Ok(is_written && makes(alloc, Engine::ListFull, PFA, want.as_slice())?)
 }
 
 /// Whether two listings join to this text.
@@ -147,6 +170,14 @@ fn tells(alloc: Global) -> Result<bool, AllocError> {
     Ok(written(out, ended)?.is_some_and(|text| text.as_slice() == b"failed: read\n".as_slice()))
 }
 
+/// Whether a fault is told by its line behind a path.
+fn tells_of(alloc: Global) -> Result<bool, AllocError> {
+    let mut out = Vec::with_capacity(alloc, 20)?;
+    let ended = write_fault_of(alloc, b"a b", &RunFault::Write, &mut Counted::new(&mut out));
+    Ok(written(out, ended)?.is_some_and(|text| text.as_slice()
+        == b"a b: failed: write\n".as_slice()))
+}
+
 /// What readers merge to.
 fn merged(alloc: Global, readers: &mut [Counted<&[u8]>]) -> Result<Option<Vec<u8>>, AllocError> {
     let mut out = Vec::with_capacity(alloc, PFA.len())?;
@@ -180,6 +211,8 @@ fn rejoins(alloc: Global) -> Result<bool, AllocError> {
 
 const CHECKED: &[u8] = b"ok 11 glyphs, 10 subrs, weight 4936\n";
 
+const CHECKED_OF: &[u8] = b"tiny: ok 11 glyphs, 10 subrs, weight 4936\n";
+
 const SHOWN: &[u8] = b"width 300 0
 bearing 50 0
 part 0 0
@@ -207,6 +240,7 @@ fn tells_nothing(alloc: Global) -> Result<bool, AllocError> {
 /// The engines over Tiny's PFA, and what they write.
 const ENGINES: &[(Engine<'static>, &[u8])] = &[
     (Engine::Check, CHECKED),
+    (Engine::CheckOf(b"tiny"), CHECKED_OF),
     (Engine::List, super::engines::TINY_LISTED),
     (Engine::Show(b"X"), SHOWN),
     (Engine::Convert(Form::Pfb), PFB),
@@ -227,9 +261,14 @@ fn engines_write(alloc: Global) -> Result<bool, AllocError> {
 fn write_right(alloc: Global) -> Result<bool, AllocError> {
     let lists = makes_of_both(alloc, List::Merge(Form::Pfa))?
         && makes_of_both(alloc, List::Rejoin(Form::Pfa))?;
-    let fonts = engines_write(alloc)? && subsets(alloc)? && merges(alloc)? && rejoins(alloc)?;
+    let fonts = engines_write(alloc)?
+        && lists_in_full(alloc)?
+        && subsets(alloc)?
+        && merges(alloc)?
+        && rejoins(alloc)?;
     let texts = joins(alloc, LEFT, RIGHT, LISTED)? && joins_texts(alloc, LEFT, RIGHT, LISTED)?;
-    Ok(lists && fonts && texts && reads(alloc)? && tells(alloc)? && tells_nothing(alloc)?)
+    let told = tells(alloc)? && tells_of(alloc)? && tells_nothing(alloc)?;
+    Ok(lists && fonts && texts && told && reads(alloc)?)
 }
 
 #[test]

@@ -21,9 +21,21 @@ fn many(alloc: Global) -> Result<Vec<u8>, AllocError> {
     file_of(alloc, 0, private.as_slice())
 }
 
-/// Whether a font is told to have this many glyphs.
+/// Whether a font is told to have this many glyphs, also behind a path.
 fn has_glyphs(alloc: Global, file: &[u8], line: &[u8]) -> bool {
-    answer(alloc, Engine::Check, file).starts_with(line)
+    let told = answer(alloc, Engine::CheckOf(b""), file);
+    told.starts_with(b": ")
+        && told.as_slice()[2..].starts_with(line)
+        && answer(alloc, Engine::Check, file).starts_with(line)
+}
+
+/// Whether a font's full listing has this many lines, of which this is the last, behind those of its listing.
+fn is_listed_in_full(alloc: Global, file: &[u8], lines: usize, last: &[u8]) -> bool {
+    let text = answer(alloc, Engine::ListFull, file);
+    let listed = answer(alloc, Engine::List, file);
+    text.iter().filter(|byte| **byte == b'\n').count() == lines
+        && text.starts_with(listed.as_slice())
+        && text.ends_with(last)
 }
 
 /// Whether a font's listing has a line for the Encoding and for each glyph, of which this is the last.
@@ -65,6 +77,14 @@ fn has_the_last(alloc: Global, file: &[u8]) -> bool {
 /// Whether a name that the font lacks is refused.
 fn lacks_the_next(alloc: Global, file: &[u8]) -> bool {
     const LINE: &[u8] = b"refused: no glyph g65534\n";
+    let coded = answer(
+        alloc,
+        Engine::Codes(&[b"g1", b"g65534"], b"", Form::Pfa),
+        file,
+    );
+    if coded.as_slice() != LINE {
+        return false;
+    }
     let shown = answer(alloc, Engine::Show(b"g65534"), file);
     let cut = answer(alloc, Engine::Subset(&[b"g1", b"g65534"], Form::Pfa), file);
     shown.as_slice() == LINE && cut.as_slice() == LINE
@@ -73,15 +93,18 @@ fn lacks_the_next(alloc: Global, file: &[u8]) -> bool {
 // meets run_check Ok at 65535 glyphs
 // meets run_show NoGlyph at 65535 glyphs
 // meets run_subset NoGlyph at 65535 glyphs
-// like run_check: run_list, run_convert, run_mend, run_merge, run_rejoin, check_file, list_file, convert_file, mend_file, list_mends, merge_files, rejoin_files
+// like run_check: run_check_of, run_list, run_list_full, run_convert, run_mend, run_merge, run_rejoin
+// like run_check: check_file, list_file, list_file_full, convert_file, mend_file, list_mends, merge_files, rejoin_files
 // like run_show: show_file
-// like run_subset: subset_file
+// like run_subset: subset_file, run_subset_with_codes, subset_file_with_codes
 #[test]
 fn as_many_glyphs_as_a_font_can_have(rt: HostRuntime) -> Result<(), Fail> {
     let file = many(rt.alloc())?;
     const LINE: &[u8] = b"ok 65535 glyphs, 0 subrs, weight ";
     assert!(rt; has_glyphs(rt.alloc(), file.as_slice(), LINE));
     assert!(rt; is_listed(rt.alloc(), file.as_slice(), 65_536, b"\nglyph g9999 0\n"));
+    const LAST: &[u8] = b"\nwidth g9999 fault Unended\n";
+    assert!(rt; is_listed_in_full(rt.alloc(), file.as_slice(), 131_071, LAST));
     assert!(rt; is_rewritten(rt.alloc(), file.as_slice()));
     assert!(rt; has_the_last(rt.alloc(), file.as_slice()));
     assert!(rt; lacks_the_next(rt.alloc(), file.as_slice()));

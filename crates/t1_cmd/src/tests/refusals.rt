@@ -102,8 +102,9 @@ fn third_is_refused(alloc: Global, file: &[u8], line: &[u8]) -> bool {
 // meets run_check NoClosefile
 // meets run_check NoNotdef
 // meets run_check Limit
-// like run_check: run_list, run_show, run_convert, run_mend, run_subset, run_merge, run_rejoin
-// like run_check: check_file, list_file, show_file, convert_file, mend_file, list_mends, subset_file, merge_files, rejoin_files
+// like run_check: run_check_of, run_list, run_list_full, run_show, run_convert, run_mend, run_subset, run_subset_with_codes, run_merge, run_rejoin
+// like run_check: check_file, list_file, list_file_full, show_file, convert_file, mend_file, list_mends
+// like run_check: subset_file, subset_file_with_codes, merge_files, rejoin_files
 #[test]
 fn each_fault_by_each_engine(rt: HostRuntime) -> Result<(), Fail> {
     for &(file, line) in CLEAR {
@@ -242,8 +243,9 @@ fn joined_zeros(alloc: Global, left: usize, right: usize) -> &'static str {
 // meets run_join TooLong at 268435457 bytes
 // like run_join: join_listings
 // meets run_check TooLong at 268435457 bytes
-// like run_check: run_list, run_show, run_convert, run_mend, run_subset, run_merge, run_rejoin
-// like run_check: check_file, list_file, show_file, convert_file, mend_file, list_mends, subset_file, merge_files, rejoin_files
+// like run_check: run_check_of, run_list, run_list_full, run_show, run_convert, run_mend, run_subset, run_subset_with_codes, run_merge, run_rejoin
+// like run_check: check_file, list_file, list_file_full, show_file, convert_file, mend_file, list_mends
+// like run_check: subset_file, subset_file_with_codes, merge_files, rejoin_files
 #[test]
 fn files_over_the_limit(rt: HostRuntime) -> Result<(), Fail> {
     // FILE_LIMIT is 268435456.
