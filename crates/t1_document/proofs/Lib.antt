@@ -1,0 +1,4 @@
+mod Rows
+pub mod LineLemmas
+pub mod StretchLemmas
+pub mod FrontLoop
