@@ -57,6 +57,13 @@ digits_ahead text = filter is_hex_digit (take_while hex_or_white text)
 unfoldable pub spelled_ahead : List ℕ → List ℕ
 spelled_ahead text = paired (digits_ahead text)
 
+-- Behind blanks, tabs, CR and LF, where four hexadecimal digits come, the run of such digits and white space; its value is this run.
+unfoldable pub hex_text : Grammar (List ℕ)
+hex_text = do
+  run is_blank
+  before is_hex_text
+  run hex_or_white
+
 -- the bytes of a run of hexadecimal digits and white space
 abbrev pub hex_cipher : Grammar (List ℕ)
 hex_cipher = do

@@ -8,7 +8,7 @@ use Rattle.t1_grammar.specs.Grammar.{AtFront, IsExact, count, fixed, first}
 use Rattle.t1_bytes.specs.White.{white, gap}
 use Rattle.t1_bytes.specs.Segments.{segment, end}
 use Rattle.t1_bytes.specs.FlatText.{IsFlat, IsBad}
-use Rattle.t1_bytes.specs.Eexec.{eexec_marker, blank_comes, is_hex_text, hex_cipher, cipher_text}
+use Rattle.t1_bytes.specs.Eexec.{eexec_marker, blank_comes, is_hex_text, hex_text, hex_cipher, cipher_text}
 use Rattle.t1_bytes.specs.Split.{IsSplit, SplitFails}
 use Rattle.t1_bytes.specs.Texts.{pfb_text, hex_lines, trailer}
 
@@ -23,6 +23,7 @@ pub record ReadsAsSpelled : Type 0 where
   pub ends : IsExact end
   pub markers : IsExact eexec_marker
   pub first_markers : IsExact (first eexec_marker)
+  pub hex_texts : IsExact hex_text
   pub hex_ciphers : IsExact hex_cipher
   pub ciphers : IsExact cipher_text
 

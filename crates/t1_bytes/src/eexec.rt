@@ -4,7 +4,7 @@ ghost use Rattle.std.specs.Prelude.{◌≡◌, ◌≤◌, ℕ, List, Some, Ok, E
 ghost use Rattle.std.specs.Option.{option_map};
 ghost use Rattle.t1_grammar.specs.Grammar.{run, first, exact};
 ghost use Rattle.t1_grammar.specs.Formats.{if_ok, or_fault};
-ghost use Rattle.t1_bytes.specs.Eexec.{is_blank, blank_comes, eexec_marker, is_hex_text, cipher_text};
+ghost use Rattle.t1_bytes.specs.Eexec.{is_blank, blank_comes, eexec_marker, is_hex_text, hex_or_white, hex_text, cipher_text};
 ghost use Rattle.t1_bytes.specs.Split.{split_view, cipher_in, last_bytes, IsSplit, SplitFails, split_of};
 ghost use Rattle.t1_bytes.specs.Faults.{Answers, OrMemory};
 ghost use Rattle.t1_bytes.specs.declared.fault.BytesFault.{BytesFault};
@@ -12,7 +12,7 @@ ghost use Rattle.t1_bytes.specs.declared.fault.BytesFault.TheVariants.{ShortCiph
 
 use crate::digits::{hex_bytes, is_hex_digit};
 use crate::fault::BytesFault;
-use crate::texts::{find_from, fixed_at, gap_at};
+use crate::texts::{find_from, fixed_at, gap_at, is_white};
 use std::alloc::Global;
 
 /// Whether a byte is one of the four that may follow `eexec`.
@@ -43,8 +43,9 @@ fn eexec_marker_at(bytes: &[u8]) -> Option<&[u8]>
     Some(rest)
 }
 
-/// What stands after the first marker.
-fn after_eexec(flat: &[u8]) -> Option<&[u8]>
+/// What stands after the first `eexec` that stands after `currentfile` and white space and before a blank, a tab, CR or LF
+/// (Adobe Type 1 Font Format 1.1, chapter 7); `None` if there is none.
+pub fn after_eexec(flat: &[u8]) -> Option<&[u8]>
     ensures { option_map (λ x. x.now) result
         ≡ option_map (λ x. x.1) ((first eexec_marker).read flat.now) }
 {
@@ -84,6 +85,26 @@ fn after_blanks(bytes: &[u8]) -> &[u8]
 {
     let (_, rest) = bytes.split_at(blanks_len(bytes));
     rest
+}
+
+/// How many hexadecimal digits and bytes of white space come first.
+fn hex_or_white_len(bytes: &[u8]) -> usize
+    ensures { result ≡ length (take_while hex_or_white bytes.now) }
+{
+    bytes.iter().take_while(|b| is_hex_digit(**b) || is_white(**b)).count()
+}
+
+/// The hexadecimal digits and the white space of a cipher, and what stands after them: behind blanks, tabs, CR and LF the
+/// run of such digits and white space. `None` if no four digits come there, so that the cipher is binary.
+#[tactic(auto, unfolding(crate::specs::Eexec::hex_text))]
+pub fn hex_text_at(bytes: &[u8]) -> Option<(&[u8], &[u8])>
+    ensures { option_map (λ x. (x.0.now, x.1.now)) result ≡ hex_text.read bytes.now }
+{
+    let text = after_blanks(bytes);
+    if !is_hex_text(text) {
+        return None;
+    }
+    Some(text.split_at(hex_or_white_len(text)))
 }
 
 /// The cipher of a flat text: a number of bytes at the end of the text, or the bytes that hexadecimal digits spell.

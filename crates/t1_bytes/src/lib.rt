@@ -27,7 +27,7 @@ mod pfb;
 pub mod texts;
 
 pub use cipher::{CHARSTRING_KEY, EEXEC_KEY, EEXEC_LEAD, decrypt, encrypt, open, seal};
-pub use eexec::{Cipher, find_cipher, split_eexec};
+pub use eexec::{Cipher, after_eexec, find_cipher, hex_text_at, split_eexec};
 pub use fault::BytesFault;
 pub use form::Form;
 pub use hexadecimal::{LINE, hex_lines, spread_hex_lines, trailer};

@@ -77,6 +77,7 @@ pub use t1_run::{
     Curve, DrawFault, Drawing, DrawnPart, Fault, Layout, Mark, Pen, PlacedPart, Point, draw,
     lay_out, trace,
 };
+pub use tags::name_in;
 pub use writing::write;
 
 #[cfg(test)]

@@ -68,8 +68,9 @@ pub(crate) fn untagged(bytes: &[u8]) -> &[u8]
     rest
 }
 
-/// The name behind the first `/FontName`, white space and a slash of a text.
-fn name_in(text: &[u8]) -> Option<&[u8]>
+/// The name behind the first `/FontName`, white space and a slash of a text; `None` if it has no such slash. The name may
+/// be empty.
+pub fn name_in(text: &[u8]) -> Option<&[u8]>
     ensures { option_map (λ r. r.now) result ≡ name_in text.now }
 {
     let (_, _, behind) = first::<NameMarker>(text)?;

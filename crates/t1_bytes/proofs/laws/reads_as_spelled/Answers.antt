@@ -1,5 +1,5 @@
 use Rattle.t1_bytes.proofs.laws.reads_as_spelled.Goals as goal
-use Rattle.t1_bytes.specs.Eexec.{cipher_text, eexec_marker, hex_cipher}
+use Rattle.t1_bytes.specs.Eexec.{cipher_text, eexec_marker, hex_cipher, hex_text}
 use Rattle.t1_grammar.specs.Grammar.{exact, count, first, fixed}
 use Rattle.t1_bytes.specs.Segments.{end, segment}
 use Rattle.t1_bytes.specs.White.{gap, white}
@@ -14,6 +14,7 @@ returns c = record {
   ends = exact end;
   markers = exact eexec_marker;
   first_markers = exact (first eexec_marker);
+  hex_texts = exact hex_text;
   hex_ciphers = exact hex_cipher;
   ciphers = exact cipher_text;
 }
