@@ -2,3 +2,4 @@ mod Rows
 pub mod LineLemmas
 pub mod StretchLemmas
 pub mod FrontLoop
+pub mod FontLemmas

@@ -7,6 +7,7 @@ use Rattle.t1_document.specs.declared.marks.Mark.{Mark}
 use Rattle.t1_document.specs.Lines.{lines_of, line_len, line_of, breaks}
 use Rattle.t1_document.specs.Marks.{mark_of, has_mark}
 use Rattle.t1_document.specs.Stretches.{Stretch, Stretches, at_line, gathered, stretches, bytes_of, joined, AreStretches, AreThose}
+use Rattle.t1_document.specs.Documents.{next_mark}
 use Rattle.t1_document.proofs.LineLemmas.{lines_joined, lines_apart, AreLines, are_lines, line_within, line_has, first_line, breaks-front, breaks-append}
 
 -- ---- joined
@@ -150,6 +151,11 @@ pub nothing_is_no_mark : (m : Mark) → mark_of [] ≡ Some m → ⊥
 unfolding mark_of
 nothing_is_no_mark m e = cc
 
+-- nothing has no stretches
+pub no_stretches : stretches [] ≡ ([], [])
+unfolding stretches lines_of
+no_stretches = refl
+
 -- a text that is a mark has bytes
 pub mark_has : (t : List ℕ) (m : Mark) → mark_of (line_of t).0 ≡ Some m → 0 < length t
 unfolding line_len
@@ -163,6 +169,14 @@ no_more (b ∷ bs) none e =
     let t = b ∷ bs in
     let front : (line_of t).0 ++ (stretches (line_of t).1).0 ≡ [] = ap (λ (x : Stretches). x.0) (sym (past_line t (omega arith) e)) ∙ none in
     absurd (omega (arith, ap length front, length-append (line_of t).0 (stretches (line_of t).1).0, length-take-le (line_len t) t (line_within t), line_has b bs))
+
+-- the mark that such a text begins with is that of its first stretch
+pub mark_next : (t : List ℕ) → (stretches t).0 ≡ [] → mark_of (line_of t).0 ≡ next_mark (stretches t).1
+mark_next t none = by_mark (mark_of (line_of t).0) refl
+  where
+    by_mark : (m : Option Mark) → mark_of (line_of t).0 ≡ m → m ≡ next_mark (stretches t).1
+    by_mark None e = sym (ap (λ (u : List ℕ). next_mark (stretches u).1) (no_more t none e) ∙ ap (λ (x : Stretches). next_mark x.1) no_stretches)
+    by_mark (Some m) e = sym (ap (λ (x : Stretches). next_mark x.1) (at_mark t (mark_has t m e) m e))
 
 -- ---- what stands before the first mark
 

@@ -1,5 +1,7 @@
 pub mod Lines
 pub mod Marks
 pub mod Stretches
+pub mod Fonts
+pub mod Documents
 pub mod Views
 pub mod Laws

@@ -1,6 +1,21 @@
 -- What code keeps, as values.
-use Rattle.t1_document.specs.declared.stretches.Stretch.{Stretch as StretchParts}
+use Rattle.std.specs.Prelude.{map}
+use Rattle.t1_document.specs.declared.stretches.Stretch.{Stretch as CodeStretch}
+use Rattle.t1_document.specs.declared.fonts.FontText.{FontText as CodeFontText}
+use Rattle.t1_document.specs.declared.documents.Place.{Place as CodePlace}
+use Rattle.t1_document.specs.declared.documents.Document.{Document as CodeDocument}
 use Rattle.t1_document.specs.Stretches.{Stretch}
+use Rattle.t1_document.specs.Fonts.{FontText}
+use Rattle.t1_document.specs.Documents.{Place, Document}
 
-abbrev pub stretch_view : StretchParts → Stretch
+abbrev pub stretch_view : CodeStretch → Stretch
 stretch_view s = record { mark = s.mark; line = s.line.now; text = s.text.now }
+
+abbrev pub font_view : CodeFontText → FontText
+font_view f = record { name = f.name.now; text = f.text.now; rest = f.rest.now }
+
+abbrev pub place_view : CodePlace → Place
+place_view p = record { before = p.before.now; kind = p.kind; depth = p.depth; name = p.name.now; text = p.text.now; rest = p.rest.now }
+
+abbrev pub document_view : CodeDocument → Document
+document_view d = record { places = map place_view d.places.items; last = d.last.now }

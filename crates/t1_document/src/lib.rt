@@ -1,9 +1,12 @@
 //! Type 1 fonts in PostScript documents.
 #![tactic(auto)]
 
+mod documents;
+mod fonts;
 pub mod laws;
 mod lines;
 mod marks;
 mod stretches;
 
+pub use documents::{Document, Place};
 pub use marks::{Kind, Mark, Side};
