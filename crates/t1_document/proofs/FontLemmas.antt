@@ -1,9 +1,9 @@
 -- Font texts: where they stand, how they begin and end, and the head of their font.
-use Rattle.std.proofs.Common.{◌≡◌, ℕ, ◌+◌, ◌-◌, ◌≤◌, true, false, List, [], ◌∷◌, ◌++◌, length, take, drop, Option, Some, None, Result, Ok, Err, refl, sym, ap, subst, ◌∙◌, arith, append_assoc}
+use Rattle.std.proofs.Common.{◌≡◌, ℕ, ◌-◌, ◌≤◌, false, List, ◌∷◌, ◌++◌, length, take, drop, Option, Some, None, Result, Ok, refl, sym, ap, subst, ◌∙◌, arith, append_assoc}
 use Rattle.std.specs.Prelude.{codes}
 use Rattle.std.specs.Option.{option_and_then, option_map}
-use Rattle.std.proofs.lemmas.List.{length-append, take-append-drop, take_at, drop_at, take-append-le}
-use Rattle.std.proofs.lemmas.Option.{none-some, same_Some, option_and_then_some}
+use Rattle.std.proofs.lemmas.List.{length-append, take-append-drop, take_at, drop_at}
+use Rattle.std.proofs.lemmas.Option.{none-some, same_Some}
 use Rattle.std.proofs.lemmas.Slice.Eq.{bytes_eq-Decides}
 use Rattle.t1_grammar.specs.Grammar.{fixed}
 use Rattle.t1_bytes.specs.FlatText.{starts_segment}
@@ -15,7 +15,7 @@ use Rattle.t1_font.specs.FontValue.{FontValue}
 use Rattle.t1_font.specs.ReadFont.{read_font_widely}
 use Rattle.t1_font.specs.Tags.{name_in}
 use Rattle.t1_font.specs.Spelling.{SpellsWidely}
-use Rattle.t1_document.specs.Fonts.{font_shape, parted_at, if_any, name_read, spelled_name, is_memory, name_within, FontText, if_font, font_in}
+use Rattle.t1_document.specs.Fonts.{font_shape, parted_at, if_any, name_read, spelled_name, is_memory, name_within, if_font, font_in}
 
 -- ---- the shape
 
@@ -75,13 +75,14 @@ head_first text font plain s =
     let flat : text ≡ texts.flat = subst (λ b. (files.flat_when b text).Spells texts.flat) plain texts.flat_is in
     let head = s.outside.head in
     let clear : s.pieces.clear ≡ head ++ (marker.2.0 ++ s.pieces.clear_is.after) =
-        marker.1 ∙ (ap (λ (u : List ℕ). u ++ s.pieces.clear_is.after) marker.2.1 ∙ append_assoc head marker.2.0 s.pieces.clear_is.after) in
+    marker.1 ∙ (ap (λ (u : List ℕ). u ++ s.pieces.clear_is.after) marker.2.1 ∙ append_assoc head marker.2.0 s.pieces.clear_is.after) in
     let whole : text ≡ s.pieces.clear ++ drop texts.at text =
-        sym (take-append-drop texts.at text) ∙ ap (λ (u : List ℕ). u ++ drop texts.at text) (ap (take texts.at) flat ∙ sym texts.clear_is) in
-    let own = marker.2.0 ++ s.pieces.clear_is.after in
-    (own ++ drop texts.at text,
-    whole ∙ (ap (λ (u : List ℕ). u ++ drop texts.at text) clear ∙ (append_assoc head own (drop texts.at text)
-    ∙ ap (λ (f : FontValue). f.shell.head ++ (own ++ drop texts.at text)) (sym s.value))))
+    sym (take-append-drop texts.at text) ∙ ap (λ (u : List ℕ). u ++ drop texts.at text) (ap (take texts.at) flat ∙ sym texts.clear_is) in
+    let own = marker.2.0 ++ s.pieces.clear_is.after in (
+      own ++ drop texts.at text,
+      whole ∙ (ap (λ (u : List ℕ). u ++ drop texts.at text) clear ∙ (append_assoc head own (drop texts.at text)
+          ∙ ap (λ (f : FontValue). f.shell.head ++ (own ++ drop texts.at text)) (sym s.value))),
+    )
 
 -- a text that is refused, not for want of memory, spells no font
 pub refused_name : (fault : ReadFault) (r : Result FontValue ReadFault) → is_memory fault ≡ false → Refused fault r → name_read r ≡ None

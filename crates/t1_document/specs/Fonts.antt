@@ -1,7 +1,7 @@
 -- Font texts: fonts whose cipher is hexadecimal, as documents have them.
 use Rattle.std.specs.Prelude.{ℕ, ◌-◌, ◌==◌, Bool, true, false, List, length, take, get_or, codes, Option, Some, None, Result, Ok, Err, if◌then◌else◌}
 use Rattle.std.specs.Option.{option_and_then, option_map}
-use Rattle.t1_grammar.specs.Grammar.{Grammar, pure, ◌>>=◌, ◌>>◌, that, fixed, first}
+use Rattle.t1_grammar.specs.Grammar.{Grammar, ◌>>◌, that, fixed, first}
 use Rattle.t1_bytes.specs.White.{has_bytes}
 use Rattle.t1_bytes.specs.Eexec.{eexec_marker, hex_text}
 use Rattle.t1_font.specs.declared.fault.ReadFault.{ReadFault}

@@ -123,3 +123,43 @@ fn font_at<'a>(
         Ok(None)
     }
 }
+
+/// The places of a document, in the order of the text.
+///
+/// A line begins at the start and behind each CR, LF and CR LF. A place stands between a line that begins with `%%BeginFont`,
+/// `%%BeginProcSet` or `%%BeginResource` and the next line that begins with `%%Begin` or `%%End` and one of the words `Font`,
+/// `ProcSet`, `Resource`, `Document`, `Data` and `Binary`, if that line ends a part of its kind and no part `Data` or `Binary`
+/// is open. It begins with a font text: `%!`, a font that [`read_wide`](t1_font::read_wide) reads and that has a name, whose
+/// cipher is hexadecimal, through `cleartomark`.
+///
+/// # Errors
+///
+/// Only want of memory.
+pub fn read_document(alloc: Global, text: &[u8]) -> Result<Document<'_>, AllocError>
+    ensures { IfOk result (λ d. document_view d ≡ document_of text.now) }
+{
+    let mut places = Vec::new(alloc);
+    let mut around = Open {
+        documents: 0,
+        raw: 0,
+    };
+    let mut here = text;
+    let (_, mut rest) = text.split_at(unmarked_len(text));
+    'stretches: while let Some((stretch, behind)) = first_stretch(rest) {
+        if let Some(font) = font_at(alloc, around, stretch, mark_at(behind))? {
+            let (before, _) = here.split_at(here.len() - behind.len() - stretch.text.len());
+            places.push(Place {
+                before,
+                kind: stretch.mark.kind,
+                depth: around.documents,
+                name: font.name,
+                text: font.text,
+                rest: font.rest,
+            })?;
+            here = behind;
+        }
+        around = around.behind(stretch.mark);
+        rest = behind;
+    }
+    Ok(Document { places, last: here })
+}

@@ -8,5 +8,5 @@ mod lines;
 mod marks;
 mod stretches;
 
-pub use documents::{Document, Place};
+pub use documents::{Document, Place, read_document};
 pub use marks::{Kind, Mark, Side};

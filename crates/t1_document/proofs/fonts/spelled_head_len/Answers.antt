@@ -1,4 +1,4 @@
-use Rattle.std.proofs.Common.{sym, ap, ◌∙◌}
+use Rattle.std.proofs.Common.{sym, ◌∙◌}
 use Rattle.t1_document.specs.Fonts.{spelled_name}
 use Rattle.t1_font.specs.ReadFont.{read_font_widely}
 use Rattle.t1_document.proofs.FontLemmas.{name_found, head_within, refused_name}
