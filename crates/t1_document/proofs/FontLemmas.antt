@@ -1,9 +1,9 @@
 -- Font texts: where they stand, how they begin and end, and the head of their font.
-use Rattle.std.proofs.Common.{◌≡◌, ℕ, ◌-◌, ◌≤◌, false, List, ◌∷◌, ◌++◌, length, take, drop, Option, Some, None, Result, Ok, refl, sym, ap, subst, ◌∙◌, arith, append_assoc}
+use Rattle.std.proofs.Common.{◌≡◌, ℕ, ◌-◌, ◌≤◌, false, List, [], ◌∷◌, ◌++◌, length, take, drop, Option, Some, None, Result, Ok, refl, sym, ap, subst, ◌∙◌, arith, append_assoc}
 use Rattle.std.specs.Prelude.{codes}
 use Rattle.std.specs.Option.{option_and_then, option_map}
 use Rattle.std.proofs.lemmas.List.{length-append, take-append-drop, take_at, drop_at}
-use Rattle.std.proofs.lemmas.Option.{none-some, same_Some}
+use Rattle.std.proofs.lemmas.Option.{none-some, same_Some, option_and_then_some}
 use Rattle.std.proofs.lemmas.Slice.Eq.{bytes_eq-Decides}
 use Rattle.t1_grammar.specs.Grammar.{fixed}
 use Rattle.t1_bytes.specs.FlatText.{starts_segment}
@@ -15,12 +15,12 @@ use Rattle.t1_font.specs.FontValue.{FontValue}
 use Rattle.t1_font.specs.ReadFont.{read_font_widely}
 use Rattle.t1_font.specs.Tags.{name_in}
 use Rattle.t1_font.specs.Spelling.{SpellsWidely}
-use Rattle.t1_document.specs.Fonts.{font_shape, parted_at, if_any, name_read, spelled_name, is_memory, name_within, if_font, font_in}
+use Rattle.t1_document.specs.Fonts.{font_shape, parted_at, if_any, name_read, spelled_name, is_memory, name_within, if_font, font_in, FontText}
 
 -- ---- the shape
 
 -- these bytes are what spells a fixed text
-fixed_is : (w a text rest : List ℕ) → (fixed w).Spells a text rest → text ≡ w
+pub fixed_is : (w a text rest : List ℕ) → (fixed w).Spells a text rest → text ≡ w
 fixed_is w a text rest s = s.0.0 ∙ sym ((bytes_eq-Decides w a).0 s.1)
 
 -- a text of the shape at the front of bytes: it begins with `%` and ends with `leartomark`
@@ -133,3 +133,43 @@ font_in_is bytes rest e =
     let s = shaped bytes (found.0, rest) found.1 in
     ap (option_and_then (λ x. if_font (parted_at bytes x))) found.1
     ∙ ap (λ (r : List ℕ). if_font (take (length bytes - length rest) bytes, r)) (sym (left_is bytes s.own rest s.whole))
+
+-- what is known of a font text that bytes begin with
+pub record Stands (bytes : List ℕ) (f : FontText) : Type 0 where
+  pub whole : bytes ≡ f.text ++ f.rest
+  pub inner : List ℕ
+  pub starts : f.text ≡ 37 ∷ inner
+  pub front : List ℕ
+  pub ends : f.text ≡ front ++ codes "leartomark"
+  pub name : spelled_name f.text ≡ Some f.name
+
+named_font : (x : List ℕ × List ℕ) (f : FontText) → if_font x ≡ Some f → (x ≡ (f.text, f.rest)) × (spelled_name x.0 ≡ Some f.name)
+named_font x f e = by_name (spelled_name x.0) refl e
+  where
+    by_name : (o : Option (List ℕ)) → spelled_name x.0 ≡ o → option_map (λ name. record { name = name; text = x.0; rest = x.1 }) o ≡ Some f →
+        (x ≡ (f.text, f.rest)) × (spelled_name x.0 ≡ Some f.name)
+    by_name None h k = absurd (none-some f k)
+    by_name (Some name) h k =
+        let same : ◌≡◌ {A = FontText} (record { name = name; text = x.0; rest = x.1 }) f = same_Some (record { name = name; text = x.0; rest = x.1 }) f k in
+        (ap (λ (g : FontText). (g.text, g.rest)) same, h ∙ ap (λ (g : FontText). Some g.name) same)
+
+pub font_stands : (bytes : List ℕ) (f : FontText) → font_in bytes ≡ Some f → Stands bytes f
+unfolding font_in
+font_stands bytes f e = option_and_then_some (λ x. if_font (parted_at bytes x)) (font_shape.read bytes) f e (λ x h k.
+    let s = shaped bytes x h in
+    let named = named_font (parted_at bytes x) f k in
+    let own : f.text ≡ s.own = sym (ap (λ (y : List ℕ × List ℕ). y.0) named.0) ∙ parted_is bytes s.own x.1 s.whole in
+    let left : x.1 ≡ f.rest = ap (λ (y : List ℕ × List ℕ). y.1) named.0 in
+    record {
+      whole = s.whole ∙ (ap (λ (r : List ℕ). s.own ++ r) left ∙ ap (λ (u : List ℕ). u ++ f.rest) (sym own));
+      inner = s.inner;
+      starts = own ∙ s.starts;
+      front = s.front;
+      ends = own ∙ s.ends;
+      name = subst (λ (t : List ℕ). spelled_name t ≡ Some f.name) (ap (λ (y : List ℕ × List ℕ). y.0) named.0) named.1;
+    })
+
+-- nothing begins with a font text
+pub no_font : font_in [] ≡ None
+unfolding font_in font_shape
+no_font = refl

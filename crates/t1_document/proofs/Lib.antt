@@ -4,3 +4,8 @@ pub mod StretchLemmas
 pub mod FrontLoop
 pub mod FontLemmas
 pub mod DocumentSteps
+pub mod PlaceLemmas
+pub mod Breaks
+pub mod Retold
+pub mod Rewritten
+pub mod Spelled

@@ -34,7 +34,7 @@ any_mark lines = list_any (λ line. is_some (mark_of line)) lines
 unmarked_line : (line : List ℕ) (lines : List (List ℕ)) → mark_of line ≡ None → any_mark lines ≡ false → any_mark (line ∷ lines) ≡ false
 unmarked_line line lines e h = rw (e, h) refl
 
-none_in_nothing : has_mark [] ≡ false
+pub none_in_nothing : has_mark [] ≡ false
 unfolding lines_of
 none_in_nothing = refl
 

@@ -1,6 +1,16 @@
 -- The laws of documents, each the contract of a function in `laws`.
-use Rattle.std.specs.Prelude.{◌≡◌, ℕ, List}
-use Rattle.t1_document.specs.Stretches.{Stretches, stretches, joined, AreThose}
+use Rattle.std.specs.Prelude.{◌≡◌, ◌<◌, ℕ, List, [], length, map, Some, Ok}
+use Rattle.std.specs.List.{AllByRecursion}
+use Rattle.t1_font.specs.FontValue.{FontValue}
+use Rattle.t1_font.specs.ReadFont.{read_font_widely}
+use Rattle.t1_font.specs.Tags.{name_in}
+use Rattle.t1_document.specs.declared.rewriting.Way.{Way}
+use Rattle.t1_document.specs.declared.rewriting.Way.TheVariants.{Level}
+use Rattle.t1_document.specs.Stretches.{Stretches, stretches, joined, mark_lines, AreThose}
+use Rattle.t1_document.specs.Documents.{Place, Document, document_bytes, document_of}
+use Rattle.t1_document.specs.Rewriting.{NewTexts, standing, rewritten, written_from, levelled, renewed}
+
+-- ---- stretches
 
 -- the stretches of a text, joined, are the text, and they are those of a text
 pub record StretchesOfText : Type 0 where
@@ -10,3 +20,46 @@ pub record StretchesOfText : Type 0 where
 -- stretches that are those of a text are the stretches of what they are joined to
 abbrev pub ReadAgain : Type 0
 ReadAgain = (x : Stretches) → AreThose x → stretches (joined x) ≡ x
+
+-- ---- places
+
+-- the bytes of a text's document are the text
+abbrev pub DocumentOfText : Type 0
+DocumentOfText = (text : List ℕ) → document_bytes (document_of text) ≡ text
+
+-- the font that a place spells widely, whose head says the place's name
+pub record Spells (p : Place) : Type 0 where
+  pub font : FontValue
+  pub spelled : read_font_widely p.text ≡ Ok font
+  pub named : name_in font.shell.head ≡ Some p.name
+  pub some : 0 < length p.name
+
+-- each place of a document spells one
+abbrev pub PlacesSpell : Type 0
+PlacesSpell = (text : List ℕ) → AllByRecursion Spells (document_of text).places
+
+-- ---- rewriting
+
+-- what is written is read as the document that was to be written
+abbrev pub RewrittenIsRead : Type 0
+RewrittenIsRead = (way : Way) (new : NewTexts) (text : List ℕ) →
+    document_of (document_bytes (rewritten way new (document_of text))) ≡ rewritten way new (document_of text)
+
+-- its marks stay, each in its line
+abbrev pub MarksStay : Type 0
+MarksStay = (way : Way) (new : NewTexts) (text : List ℕ) →
+    mark_lines (stretches (document_bytes (rewritten way new (document_of text)))).1 ≡ mark_lines (stretches text).1
+
+-- its bytes are, place by place, those before the place and what becomes of the place, and then the last bytes
+abbrev pub OthersStay : Type 0
+OthersStay = (way : Way) (new : NewTexts) (d : Document) →
+    document_bytes (rewritten way new d) ≡ written_from way (standing new d.places) [] d.places d.last
+
+-- where fonts are levelled, each place has the new text of its name, and all else stays
+abbrev pub LevelRenews : Type 0
+LevelRenews = (new : NewTexts) (d : Document) →
+    rewritten Level new d ≡ record { places = map (renewed (standing new d.places)) d.places; last = d.last }
+
+-- to level twice is to level once
+abbrev pub LevelledTwice : Type 0
+LevelledTwice = (new : NewTexts) (text : List ℕ) → levelled new (levelled new text) ≡ levelled new text

@@ -3,5 +3,6 @@ pub mod Marks
 pub mod Stretches
 pub mod Fonts
 pub mod Documents
+pub mod Rewriting
 pub mod Views
 pub mod Laws

@@ -6,6 +6,7 @@ mod fonts;
 pub mod laws;
 mod lines;
 mod marks;
+mod rewriting;
 mod stretches;
 
 pub use documents::{Document, Place, read_document};
