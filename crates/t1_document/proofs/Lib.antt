@@ -9,3 +9,4 @@ pub mod Breaks
 pub mod Retold
 pub mod Rewritten
 pub mod Spelled
+pub mod WriteLoop

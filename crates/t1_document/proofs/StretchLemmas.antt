@@ -1,14 +1,14 @@
 -- The stretches of a text: joined, they are the text; and stretches that are those of a text are read again.
-use Rattle.std.proofs.Common.{◌≡◌, ℕ, Bool, true, false, List, [], ◌∷◌, ◌++◌, ◌<◌, ◌≤◌, length, drop, Option, Some, None, is_some, refl, sym, ap, subst, ◌∙◌, arith, append_assoc}
+use Rattle.std.proofs.Common.{◌≡◌, ℕ, Bool, true, false, List, [], ◌∷◌, ◌++◌, ◌<◌, ◌≤◌, length, drop, Option, Some, None, is_some, refl, sym, ap, subst, ◌∙◌, arith, append_assoc, inl, inr, ltb}
 use Rattle.std.specs.List.{concat, list_any}
-use Rattle.std.proofs.lemmas.Bool.{or_parts}
-use Rattle.std.proofs.lemmas.List.{append-nil, length-append, length-take-le, drop_at}
+use Rattle.std.proofs.lemmas.Bool.{or_parts, cases_Bool, cases_lt, lt-ltb, le-ltb, true≢false}
+use Rattle.std.proofs.lemmas.List.{append-nil, length-append, length-take-le, drop_at, nil_from_length}
 use Rattle.t1_document.specs.declared.marks.Mark.{Mark}
 use Rattle.t1_document.specs.Lines.{lines_of, line_len, line_of, breaks}
 use Rattle.t1_document.specs.Marks.{mark_of, has_mark}
 use Rattle.t1_document.specs.Stretches.{Stretch, Stretches, at_line, gathered, stretches, bytes_of, joined, AreStretches, AreThose}
 use Rattle.t1_document.specs.Documents.{next_mark}
-use Rattle.t1_document.proofs.LineLemmas.{lines_joined, lines_apart, AreLines, are_lines, line_within, line_has, first_line, breaks-front, breaks-append}
+use Rattle.t1_document.proofs.LineLemmas.{lines_joined, lines_apart, AreLines, are_lines, line_within, line_has, first_line, breaks-front, breaks-append, breaks-nil}
 
 -- ---- joined
 
@@ -193,3 +193,27 @@ behind_front t =
     let x = stretches t in
     let rest : drop (length x.0) t ≡ bytes_of x.1 = ap (drop (length x.0)) (front_whole t) ∙ drop_at x.0 (bytes_of x.1) (length x.0) refl in
     ap stretches rest ∙ stretches_again ([], x.1) (record { unmarked = none_in_nothing; front_ends = refl; each = (stretches_those t).each })
+
+-- ---- whether there is a mark
+
+-- there is none exactly if the whole text stands before the first one
+pub mark_test : (t : List ℕ) → ltb (length (stretches t).0) (length t) ≡ has_mark t
+unfolding stretches
+mark_test t = elim (cases_Bool (has_mark t)) [
+  | inl e ↦ elim (cases_lt (length (stretches t).0) (length t)) [
+    | inl lt ↦ lt-ltb _ _ lt ∙ sym e
+    | inr ge ↦
+        let x = stretches t in
+        let none : bytes_of x.1 ≡ [] =
+        nil_from_length (bytes_of x.1) (omega (arith, ge, ap length (front_whole t), length-append x.0 (bytes_of x.1))) in
+        let same : t ≡ x.0 = front_whole t ∙ (ap (λ (u : List ℕ). x.0 ++ u) none ∙ append-nil x.0) in
+        absurd (true≢false (sym e ∙ (ap has_mark same ∙ (stretches_those t).unmarked)))
+  ]
+  | inr e ↦
+      let x = gathered (lines_of []) in
+      let whole : gathered (lines_of (t ++ [])) ≡ (t ++ x.0, x.1) = unmarked_before t [] e (breaks-nil t) in
+      let front : (stretches t).0 ≡ t =
+      ap (λ (u : List ℕ). (gathered (lines_of u)).0) (sym (append-nil t))
+      ∙ (ap (λ (y : Stretches). y.0) whole ∙ (ap (λ (y : Stretches). t ++ y.0) nothing_gathered ∙ append-nil t)) in
+      le-ltb _ _ (omega (arith, ap length front)) ∙ sym e
+]

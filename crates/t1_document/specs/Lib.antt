@@ -4,5 +4,6 @@ pub mod Stretches
 pub mod Fonts
 pub mod Documents
 pub mod Rewriting
+pub mod Texts
 pub mod Views
 pub mod Laws

@@ -53,10 +53,14 @@ abbrev pub is_pool : Way → Bool
 is_pool Level = false
 is_pool Pool = true
 
--- a place gets its new text; where the fonts are pooled, it goes if its name was seen
+-- a place gets the new text of its name, if there is one; where fonts are pooled, it goes if its name was seen
+abbrev pub fate_by : Way → Bool → Option (List ℕ) → Fate
+fate_by way was_seen None = Stays
+fate_by way was_seen (Some text) = if is_pool way && was_seen then Goes else Becomes text
+
+-- the fate of a place behind these names, by the new text of its name
 abbrev pub fate_of : Way → List (List ℕ) → Place → Option (List ℕ) → Fate
-fate_of way seen p None = Stays
-fate_of way seen p (Some text) = if is_pool way && is_seen seen p.name then Goes else Becomes text
+fate_of way seen p new = fate_by way (is_seen seen p.name) new
 
 -- the name of a place at depth 0 is seen where the place gets a new text
 abbrev pub seen_behind : Fate → Place → List (List ℕ) → List (List ℕ)

@@ -4,9 +4,13 @@ use Rattle.t1_document.specs.declared.stretches.Stretch.{Stretch as CodeStretch}
 use Rattle.t1_document.specs.declared.fonts.FontText.{FontText as CodeFontText}
 use Rattle.t1_document.specs.declared.documents.Place.{Place as CodePlace}
 use Rattle.t1_document.specs.declared.documents.Document.{Document as CodeDocument}
+use Rattle.t1_document.specs.declared.rewriting.Fate.{Fate as CodeFate}
+use Rattle.t1_document.specs.declared.rewriting.Fate.TheVariants.{Stays, Becomes, Goes}
 use Rattle.t1_document.specs.Stretches.{Stretch}
 use Rattle.t1_document.specs.Fonts.{FontText}
 use Rattle.t1_document.specs.Documents.{Place, Document}
+use Rattle.t1_document.specs.Rewriting.{Fate}
+use Rattle.t1_document.specs.Rewriting as fates
 
 abbrev pub stretch_view : CodeStretch → Stretch
 stretch_view s = record { mark = s.mark; line = s.line.now; text = s.text.now }
@@ -19,3 +23,8 @@ place_view p = record { before = p.before.now; kind = p.kind; depth = p.depth; n
 
 abbrev pub document_view : CodeDocument → Document
 document_view d = record { places = map place_view d.places.items; last = d.last.now }
+
+abbrev pub fate_view : CodeFate → Fate
+fate_view Stays = fates.Stays
+fate_view (Becomes text) = fates.Becomes text.now
+fate_view Goes = fates.Goes

@@ -8,6 +8,8 @@ mod lines;
 mod marks;
 mod rewriting;
 mod stretches;
+mod texts;
 
 pub use documents::{Document, Place, read_document};
 pub use marks::{Kind, Mark, Side};
+pub use texts::Texts;
