@@ -78,7 +78,8 @@ fewer text rest behind n k h l m = omega arith
 
 -- the document from where this stretch comes on
 from_here : (rest behind : List ℕ) (s : Stretch) (o : Open) → Comes rest behind s →
-    document_from o (stretches rest).1 ≡ at_stretch s (place_at o s (next_mark (stretches behind).1)) (document_from (open_behind o s.mark) (stretches behind).1)
+    document_from o (stretches rest).1
+    ≡ at_stretch s (place_at o s (next_mark (stretches behind).1)) (document_from (open_behind o s.mark) (stretches behind).1)
 unfolding document_from
 from_here rest behind s o comes = ap (λ (x : Stretches). document_from o x.1) comes.first
 
@@ -95,7 +96,8 @@ walk_past text here rest behind o done s w comes none =
       parts = w.parts ∙ (ap (λ (u : List ℕ). w.mid ++ u) (comes.whole ∙ sym (append_assoc s.line s.text behind)) ∙ sym (append_assoc w.mid own behind));
       begins = comes.none;
       whole = w.whole ∙ ap (after done) (ap (prepended w.mid) on ∙ prepended-prepended w.mid own d);
-      documents = fewer text rest behind o.documents (open_behind o s.mark).documents w.documents comes.shorter (if_le (is_document s.mark.kind) s.mark.side o.documents);
+      documents = fewer text rest behind o.documents (open_behind o s.mark).documents w.documents comes.shorter
+          (if_le (is_document s.mark.kind) s.mark.side o.documents);
       raw = fewer text rest behind o.raw (open_behind o s.mark).raw w.raw comes.shorter (if_le (holds_data s.mark.kind) s.mark.side o.raw);
     }
 
@@ -129,7 +131,8 @@ walk_place text here rest behind o done s p before w comes is line front =
       begins = comes.none;
       whole = whole ∙ (ap (λ (ps : List Place). record { places = ps; last = d.last }) (sym (append_assoc done (record p { before = before } ∷ []) d.places))
           ∙ ap (after (done ++ record p { before = before } ∷ [])) (sym (prepended-nil d)));
-      documents = fewer text rest behind o.documents (open_behind o s.mark).documents w.documents comes.shorter (if_le (is_document s.mark.kind) s.mark.side o.documents);
+      documents = fewer text rest behind o.documents (open_behind o s.mark).documents w.documents comes.shorter
+          (if_le (is_document s.mark.kind) s.mark.side o.documents);
       raw = fewer text rest behind o.raw (open_behind o s.mark).raw w.raw comes.shorter (if_le (holds_data s.mark.kind) s.mark.side o.raw);
     }
 

@@ -95,11 +95,13 @@ pub name_found : (text : List ℕ) (font : FontValue) (n : ℕ) → starts_segme
 unfolding spelled_name
 name_found text font n plain s e len =
     let found = head_first text font plain s in
-    let head : take n text ≡ font.shell.head = ap (λ (k : ℕ). take k text) len ∙ (ap (take (length font.shell.head)) found.1 ∙ take_at font.shell.head found.0 _ refl) in
+    let head : take n text ≡ font.shell.head =
+    ap (λ (k : ℕ). take k text) len ∙ (ap (take (length font.shell.head)) found.1 ∙ take_at font.shell.head found.0 _ refl) in
     ap (λ (t : List ℕ). option_and_then if_any (name_in t)) head ∙ ap name_read (sym e)
 
 -- that head is within the text
-pub head_within : (text : List ℕ) (font : FontValue) (n : ℕ) → starts_segment text ≡ false → SpellsWidely text font → n ≡ length font.shell.head → n ≤ length text
+pub head_within : (text : List ℕ) (font : FontValue) (n : ℕ) → starts_segment text ≡ false → SpellsWidely text font → n ≡ length font.shell.head →
+    n ≤ length text
 head_within text font n plain s len =
     let found = head_first text font plain s in
     omega (arith, ap length found.1, length-append font.shell.head found.0)

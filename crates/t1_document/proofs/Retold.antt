@@ -204,7 +204,8 @@ module _ (way : Way) (new : NewTexts) where
       let q = place_at o s (next_mark ss) in
       let behind = open_behind o s.mark in
       let rest = retold behind (seen_at seen q) ss in
-      ap (λ (m : Mark). at_stretch (told_at seen q s) (place_at o (told_at seen q s) (next_mark rest)) (document_from (open_behind o m) rest)) (mark_same seen q s)
+      ap (λ (m : Mark). at_stretch (told_at seen q s) (place_at o (told_at seen q s) (next_mark rest)) (document_from (open_behind o m) rest))
+      (mark_same seen q s)
       ∙ (ap (λ (m : Option Mark). at_stretch (told_at seen q s) (place_at o (told_at seen q s) m) (document_from behind rest))
       (next_same behind (seen_at seen q) ss)
       ∙ step_document o s (next_mark ss) seen (document_from behind ss) (document_from behind rest) q refl all (document_retold behind (seen_at seen q) ss))
@@ -251,7 +252,8 @@ module _ (way : Way) (new : NewTexts) where
       let old : s.text ≡ 37 ∷ (stands.inner ++ f.rest) = stands.whole ∙ ap (λ (t : List ℕ). t ++ f.rest) stands.starts in
       let own : text ++ p.rest ≡ 37 ∷ (new_stands.inner ++ p.rest) = ap (λ (t : List ℕ). t ++ p.rest) new_stands.starts in
       let alike : SameStart (s.text ++ behind) ((text ++ p.rest) ++ other) =
-      subst (λ (t : List ℕ). SameStart (s.text ++ behind) (t ++ other)) (sym own) (subst (λ (t : List ℕ). SameStart (t ++ behind) ((37 ∷ (new_stands.inner ++ p.rest)) ++ other)) (sym old) refl) in
+      subst (λ (t : List ℕ). SameStart (s.text ++ behind) (t ++ other)) (sym own)
+      (subst (λ (t : List ℕ). SameStart (t ++ behind) ((37 ∷ (new_stands.inner ++ p.rest)) ++ other)) (sym old) refl) in
       let was : breaks (f.text ++ p.rest) (37 ∷ inner) ≡ true =
       ap (λ (r : List ℕ). breaks (f.text ++ r) (37 ∷ inner)) (sym rest)
       ∙ (ap (λ (t : List ℕ). breaks t (37 ∷ inner)) (sym stands.whole) ∙ (ap (breaks s.text) (sym starts) ∙ i.text_ends)) in
@@ -280,7 +282,8 @@ module _ (way : Way) (new : NewTexts) where
       begins_so behind (b ∷ bs) inner e h own = subst (λ (t : List ℕ). SameStart t (b ∷ bs)) e h
 
   -- one stretch that may be a place
-  step_stretch : (o : Open) (seen : List (List ℕ)) (s : Stretch) (ss : List Stretch) (d : Document) (other : List ℕ) → IsStretch s (bytes_of ss) → AreStretches ss →
+  step_stretch : (o : Open) (seen : List (List ℕ)) (s : Stretch) (ss : List Stretch) (d : Document) (other : List ℕ) →
+      IsStretch s (bytes_of ss) → AreStretches ss →
       SameStart (bytes_of ss) other → (q : Option Place) → place_at o s (next_mark ss) ≡ q → AllStand new (at_stretch s q d).places →
       IsStretch (told_at seen q s) other
   step_stretch o seen s ss d other i each same None e all = moved s (bytes_of ss) other i same

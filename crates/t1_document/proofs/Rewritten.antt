@@ -11,7 +11,8 @@ use Rattle.t1_document.specs.declared.rewriting.Way.{Way}
 use Rattle.t1_document.specs.declared.rewriting.Way.TheVariants.{Level}
 use Rattle.t1_document.specs.Stretches.{Stretch, Stretches, stretches, bytes_of, joined, mark_lines, AreThose}
 use Rattle.t1_document.specs.Documents.{Place, Document, document_bytes, place_bytes, none_open, open_behind, next_mark, place_at, prepended, document_from, document_of_stretches, document_of}
-use Rattle.t1_document.specs.Rewriting.{NewTexts, can_stand, is_barred, is_refused, standing, Fate, Stays, Becomes, Goes, fate_of, seen_behind, at_fate, rewritten_from, rewritten, fate_bytes, written_from, levelled, with_new, renewed}
+use Rattle.t1_document.specs.Rewriting.{NewTexts, can_stand, is_barred, is_refused, standing, Fate, Stays, Becomes, Goes, fate_of, seen_behind, at_fate}
+use Rattle.t1_document.specs.Rewriting.{rewritten_from, rewritten, fate_bytes, written_from, levelled, with_new, renewed}
 use Rattle.t1_document.proofs.StretchLemmas.{stretches_those, stretches_again}
 use Rattle.t1_document.proofs.PlaceLemmas.{prepended_bytes, from_bytes}
 use Rattle.t1_document.proofs.Breaks.{breaks-same}
@@ -108,8 +109,9 @@ unfolding retold
 told_lines way new o seen [] = refl
 told_lines way new o seen (s ∷ ss) =
     let q = place_at o s (next_mark ss) in
-    ap (λ (x : Mark). (x, (told_at way new seen q s).line) ∷ mark_lines (retold way new (open_behind o s.mark) (seen_at way new seen q) ss)) (mark_same way new seen q s)
-    ∙ (ap (λ (l : List ℕ). (s.mark, l) ∷ mark_lines (retold way new (open_behind o s.mark) (seen_at way new seen q) ss)) (line_same way new seen q s)
+    let rest = mark_lines (retold way new (open_behind o s.mark) (seen_at way new seen q) ss) in
+    ap (λ (x : Mark). (x, (told_at way new seen q s).line) ∷ rest) (mark_same way new seen q s)
+    ∙ (ap (λ (l : List ℕ). (s.mark, l) ∷ rest) (line_same way new seen q s)
     ∙ ap (λ (ls : List (Mark × List ℕ)). (s.mark, s.line) ∷ ls) (told_lines way new (open_behind o s.mark) (seen_at way new seen q) ss))
 
 pub marks_stay : (way : Way) (new : NewTexts) (text : List ℕ) →
@@ -182,7 +184,8 @@ same_name : (o : Option (List ℕ)) (p : Place) → (with_new o p).name ≡ p.na
 same_name None p = refl
 same_name (Some text) p = refl
 
-renewed_twice : (new other : NewTexts) → ((name : List ℕ) → other name ≡ new name) → (ps : List Place) → map (renewed other) (map (renewed new) ps) ≡ map (renewed new) ps
+renewed_twice : (new other : NewTexts) → ((name : List ℕ) → other name ≡ new name) → (ps : List Place) →
+    map (renewed other) (map (renewed new) ps) ≡ map (renewed new) ps
 renewed_twice new other same [] = refl
 renewed_twice new other same (p ∷ ps) =
     let q = renewed new p in
@@ -198,6 +201,7 @@ levelled_twice new text =
     let first : rewritten Level new d ≡ e = level_renews new d in
     let again : rewritten Level new e ≡ e =
     level_renews new e
-    ∙ ap (λ (ps : List Place). record { places = ps; last = d.last }) (renewed_twice stand (standing new e.places) (same_standing new stand d.places) d.places) in
+    ∙ ap (λ (ps : List Place). record { places = ps; last = d.last })
+    (renewed_twice stand (standing new e.places) (same_standing new stand d.places) d.places) in
     ap (λ (x : Document). document_bytes (rewritten Level new x)) (rewritten_is_read Level new text ∙ first)
     ∙ (ap document_bytes again ∙ ap document_bytes (sym first))

@@ -87,7 +87,8 @@ at_unmarked line x None h = refl
 at_unmarked line x (Some m) h = absurd cc
 
 -- lines without a mark stand before the stretches of those behind them
-gathered_unmarked : (lines behind : List (List ℕ)) → any_mark lines ≡ false → gathered (lines ++ behind) ≡ (concat lines ++ (gathered behind).0, (gathered behind).1)
+gathered_unmarked : (lines behind : List (List ℕ)) → any_mark lines ≡ false →
+    gathered (lines ++ behind) ≡ (concat lines ++ (gathered behind).0, (gathered behind).1)
 gathered_unmarked [] behind h = refl
 gathered_unmarked (line ∷ lines) behind h =
     let parts = or_parts (is_some (mark_of line)) (any_mark lines) h in
@@ -168,7 +169,13 @@ no_more [] none e = refl
 no_more (b ∷ bs) none e =
     let t = b ∷ bs in
     let front : (line_of t).0 ++ (stretches (line_of t).1).0 ≡ [] = ap (λ (x : Stretches). x.0) (sym (past_line t (omega arith) e)) ∙ none in
-    absurd (omega (arith, ap length front, length-append (line_of t).0 (stretches (line_of t).1).0, length-take-le (line_len t) t (line_within t), line_has b bs))
+    absurd (omega (
+      arith,
+      ap length front,
+      length-append (line_of t).0 (stretches (line_of t).1).0,
+      length-take-le (line_len t) t (line_within t),
+      line_has b bs,
+    ))
 
 -- the mark that such a text begins with is that of its first stretch
 pub mark_next : (t : List ℕ) → (stretches t).0 ≡ [] → mark_of (line_of t).0 ≡ next_mark (stretches t).1

@@ -1,5 +1,6 @@
 -- The loops that find the names that are refused, and that write a document with new texts.
-use Rattle.std.proofs.Common.{◌≡◌, ◌<◌, ◌≤◌, ◌+◌, ℕ, Bool, true, false, cond, List, [], ◌∷◌, ◌++◌, length, get_or, take, drop, map, Option, Some, None, refl, sym, ap, ◌∙◌, append_assoc, is_some, Bor, inl, inr}
+use Rattle.std.proofs.Common.{◌≡◌, ◌<◌, ◌≤◌, ◌+◌, ℕ, Bool, true, false, cond, List, [], ◌∷◌, ◌++◌, length, get_or, take, drop, map, Option, Some, None}
+use Rattle.std.proofs.Common.{refl, sym, ap, ◌∙◌, append_assoc, is_some, Bor, inl, inr}
 use Rattle.std.specs.Prelude.{◌&&◌, ◌||◌}
 use Rattle.std.specs.List.{list_any}
 use Rattle.std.specs.Option.{option_map}
@@ -86,7 +87,8 @@ pub record Writes (way : Way) (new : NewTexts) (last : List ℕ) (places : List 
   pub whole : out ++ written_from way new names (map place_view (drop i places)) last ≡ written_from way new [] (map place_view places) last
 
 -- one place more
-pub writes_more : (way : Way) (new : NewTexts) (last : List ℕ) (places : List CodePlace) (i : ℕ) (d : CodePlace) (out before wrote : List ℕ) (seen other : Texts) (f : Fate) →
+pub writes_more : (way : Way) (new : NewTexts) (last : List ℕ) (places : List CodePlace) (i : ℕ) (d : CodePlace)
+    (out before wrote : List ℕ) (seen other : Texts) (f : Fate) →
     i < length places → (w : Writes way new last places i out seen) →
     f ≡ fate_of way w.names (place_view (get_or places i d)) (new (get_or places i d).name.now) →
     ((names : List (List ℕ)) → Sees seen names → Sees other (seen_behind f (place_view (get_or places i d)) names)) →

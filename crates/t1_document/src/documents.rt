@@ -2,6 +2,8 @@
 
 ghost use Rattle.std.specs.Prelude.{◌≡◌, ◌+◌, ◌<◌, ◌^◌, [], IfOk};
 ghost use Rattle.std.specs.Option.{option_map};
+ghost use Rattle.t1_font.specs.Answers.{Answers};
+ghost use Rattle.t1_font.specs.ReadFont.{read_font_widely};
 ghost use Rattle.t1_document.specs.Marks.{counted};
 ghost use Rattle.t1_document.specs.Stretches.{stretches};
 ghost use Rattle.t1_document.specs.Documents.{open_behind, begins, ends, encloses, next_mark, placed, place_at, document_of};
@@ -12,6 +14,7 @@ use crate::lines::line_of;
 use crate::marks::{Kind, Mark, Open, Side, mark_of};
 use crate::stretches::{Stretch, first_stretch, unmarked_len};
 use std::alloc::{AllocError, Global};
+use t1_font::{ReadFault, Source, read_wide};
 
 /// A place of a font in a document: what stands between a mark `%%BeginFont`, `%%BeginProcSet` or `%%BeginResource` and the
 /// mark that ends it, where no raw data is open and a font text comes first.
@@ -29,6 +32,19 @@ pub struct Place<'a> {
     pub text: &'a [u8],
     /// What stands between the font text and the mark that ends the place.
     pub rest: &'a [u8],
+}
+
+impl<'a> Place<'a> {
+    /// Reads the font of the place.
+    ///
+    /// # Errors
+    ///
+    /// For a place of [`read_document`] only want of memory, `Memory`; else those of [`read_wide`](t1_font::read_wide).
+    pub fn source(&self, alloc: Global) -> Result<Source, ReadFault>
+        ensures { Answers (λ f. f) result (read_font_widely self.now.text.now) }
+    {
+        read_wide(alloc, self.text)
+    }
 }
 
 /// A document: its places in the order of the text, and the bytes behind the last one.

@@ -13,3 +13,6 @@ mod texts;
 pub use documents::{Document, Place, read_document};
 pub use marks::{Kind, Mark, Side};
 pub use texts::Texts;
+
+#[cfg(test)]
+mod tests;

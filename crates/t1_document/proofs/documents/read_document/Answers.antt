@@ -52,7 +52,8 @@ stretches-preserved c =
           (walk_place text here rest behind o done s p before c.stretches.invariant comes is refl w.split_at-in-Some-2.ensures.front)
       | in_default-2 w ↦
           let none : place_at o s (next_mark (stretches behind).1) ≡ None = sym found ∙ ap (option_map (λ f. placed o s (font_view f))) w.in_default-2.is in
-          walks_same text here c.match-branch-2.here.now behind (open_behind o s.mark) c.behind-around.result done (map place_view c.match-branch-2.places.items)
+          walks_same text here c.match-branch-2.here.now behind (open_behind o s.mark) c.behind-around.result done
+          (map place_view c.match-branch-2.places.items)
           (ap (λ h. h.now) w.here-is) c.behind-around.ensures (ap (λ v. map place_view v.items) w.places-is)
           (walk_past text here rest behind o done s c.stretches.invariant comes none)
     ]

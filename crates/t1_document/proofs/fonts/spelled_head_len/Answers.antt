@@ -6,7 +6,8 @@ use Rattle.t1_document.proofs.fonts.spelled_head_len.Goals as goal
 
 pub returns-in_ok-head_len-in-Ok-clause-name : goal.returns-in_ok-head_len-in-Ok-clause-name
 returns-in_ok-head_len-in-Ok-clause-name c =
-    name_found c.args.text.now c.in-Ok.source c.in_ok-head_len-in-Ok.field-0 c.requires.flat c.in-Ok.ensures.right c.in-Ok.ensures.exact c.in_ok-head_len-in-Ok.ensures
+    name_found c.args.text.now c.in-Ok.source c.in_ok-head_len-in-Ok.field-0 c.requires.flat c.in-Ok.ensures.right c.in-Ok.ensures.exact
+    c.in_ok-head_len-in-Ok.ensures
 
 pub returns-in_ok-head_len-in-Ok-clause-within : goal.returns-in_ok-head_len-in-Ok-clause-within
 returns-in_ok-head_len-in-Ok-clause-within c =

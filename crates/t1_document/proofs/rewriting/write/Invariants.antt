@@ -7,4 +7,5 @@ use Rattle.t1_document.proofs.rewriting.write.Given as goal
 
 abbrev pub invariant-places : goal.invariant-places
 invariant-places l =
-    Writes l.way (standing (text_in l.new) (map place_view l.document.places.items)) l.document.last.now l.document.places.items l.place-index l.out.items l.seen
+    Writes l.way (standing (text_in l.new) (map place_view l.document.places.items)) l.document.last.now l.document.places.items l.place-index
+    l.out.items l.seen
