@@ -10,3 +10,4 @@ pub mod Retold
 pub mod Rewritten
 pub mod Spelled
 pub mod WriteLoop
+pub mod Pooled

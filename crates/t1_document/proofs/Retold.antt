@@ -23,7 +23,7 @@ use Rattle.t1_document.proofs.Breaks.{SameStart, breaks-same, same-append, ends_
 
 -- ---- a text that can stand
 
-not_true : (b : Bool) → not b ≡ true → b ≡ false
+pub not_true : (b : Bool) → not b ≡ true → b ≡ false
 not_true true h = absurd cc
 not_true false h = refl
 

@@ -20,14 +20,14 @@ use Rattle.t1_document.proofs.Retold.{AllStand, all_behind, told_at, seen_at, ma
 
 -- ---- the new texts that stand
 
-same_bytes : (name : List ℕ) → bytes_eq name name ≡ true
+pub same_bytes : (name : List ℕ) → bytes_eq name name ≡ true
 same_bytes name = (bytes_eq-Decides name name).1 refl
 
 not_false : (b : Bool) → not b ≡ false → b ≡ true
 not_false true h = refl
 not_false false h = absurd cc
 
-where_stands : (refused : Bool) (o : Option (List ℕ)) (text : List ℕ) → cond refused None o ≡ Some text → (refused ≡ false) × (o ≡ Some text)
+pub where_stands : (refused : Bool) (o : Option (List ℕ)) (text : List ℕ) → cond refused None o ≡ Some text → (refused ≡ false) × (o ≡ Some text)
 where_stands true o text e = absurd (none-some text e)
 where_stands false o text e = (refl, e)
 

@@ -5,10 +5,10 @@ use Rattle.t1_font.specs.FontValue.{FontValue}
 use Rattle.t1_font.specs.ReadFont.{read_font_widely}
 use Rattle.t1_font.specs.Tags.{name_in}
 use Rattle.t1_document.specs.declared.rewriting.Way.{Way}
-use Rattle.t1_document.specs.declared.rewriting.Way.TheVariants.{Level}
+use Rattle.t1_document.specs.declared.rewriting.Way.TheVariants.{Level, Pool}
 use Rattle.t1_document.specs.Stretches.{Stretches, stretches, joined, mark_lines, AreThose}
 use Rattle.t1_document.specs.Documents.{Place, Document, document_bytes, document_of}
-use Rattle.t1_document.specs.Rewriting.{NewTexts, standing, rewritten, written_from, levelled, renewed}
+use Rattle.t1_document.specs.Rewriting.{NewTexts, standing, rewritten, written_from, levelled, pooled, renewed, ArePooled}
 
 -- ---- stretches
 
@@ -63,3 +63,11 @@ LevelRenews = (new : NewTexts) (d : Document) →
 -- to level twice is to level once
 abbrev pub LevelledTwice : Type 0
 LevelledTwice = (new : NewTexts) (text : List ℕ) → levelled new (levelled new text) ≡ levelled new text
+
+-- where fonts are pooled, each place of a name has its new text, and behind one at depth 0 there is no other
+abbrev pub PoolsAll : Type 0
+PoolsAll = (new : NewTexts) (d : Document) → ArePooled (standing new d.places) (rewritten Pool new d).places
+
+-- to pool twice is to pool once
+abbrev pub PooledTwice : Type 0
+PooledTwice = (new : NewTexts) (text : List ℕ) → pooled new (pooled new text) ≡ pooled new text

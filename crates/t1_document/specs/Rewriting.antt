@@ -1,5 +1,5 @@
 -- A document whose fonts get new texts: each place of a font keeps one, or one place keeps it for all that follow.
-use Rattle.std.specs.Prelude.{ℕ, ◌==◌, ◌&&◌, not, Bool, true, false, List, [], ◌∷◌, ◌++◌, Option, Some, None, if◌then◌else◌}
+use Rattle.std.specs.Prelude.{◌≡◌, ℕ, ◌==◌, ◌&&◌, not, Bool, true, false, List, [], ◌∷◌, ◌++◌, Option, Some, None, if◌then◌else◌}
 use Rattle.std.specs.List.{list_any}
 use Rattle.std.specs.Str.{bytes_eq}
 use Rattle.t1_document.specs.declared.rewriting.Way.{Way}
@@ -118,3 +118,14 @@ with_new (Some text) p = record p { text = text }
 -- a place of a name with its new text
 abbrev pub renewed : NewTexts → Place → Place
 renewed new p = with_new (new p.name) p
+
+-- ---- pooled
+
+-- no place has this name
+abbrev pub lacks_name : List ℕ → List Place → Bool
+lacks_name name ps = not (list_any (λ p. bytes_eq name p.name) ps)
+
+-- Each place of a name with a new text has that text; and behind one at depth 0 no other has its name.
+abbrev pub ArePooled : NewTexts → List Place → Type 0
+ArePooled new [] = Unit {0}
+ArePooled new (p ∷ ps) = ((text : List ℕ) → new p.name ≡ Some text → (p.text ≡ text) × ((p.depth == 0) ≡ true → lacks_name p.name ps ≡ true)) × ArePooled new ps

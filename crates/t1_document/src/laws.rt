@@ -1,7 +1,7 @@
 //! Laws of documents.
 
 ghost use Rattle.t1_document.specs.Laws.{StretchesOfText, ReadAgain, DocumentOfText, PlacesSpell};
-ghost use Rattle.t1_document.specs.Laws.{RewrittenIsRead, MarksStay, OthersStay, LevelRenews, LevelledTwice};
+ghost use Rattle.t1_document.specs.Laws.{RewrittenIsRead, MarksStay, OthersStay, LevelRenews, LevelledTwice, PoolsAll, PooledTwice};
 
 /// The stretches of a text, joined, are the text.
 pub fn stretches_of_text()
@@ -44,4 +44,15 @@ pub fn level_renews()
 /// To level twice with the same new texts is to level once.
 pub fn levelled_twice()
     ensures { LevelledTwice }
+{}
+
+/// Where fonts are pooled, each place of a name that isn't refused has its new text, and behind one at depth 0 there is no
+/// other place of that name.
+pub fn pools_all()
+    ensures { PoolsAll }
+{}
+
+/// To pool twice with the same new texts is to pool once.
+pub fn pooled_twice()
+    ensures { PooledTwice }
 {}
