@@ -11,3 +11,4 @@ pub mod Rewritten
 pub mod Spelled
 pub mod WriteLoop
 pub mod Pooled
+pub mod OwnTexts

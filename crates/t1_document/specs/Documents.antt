@@ -49,10 +49,12 @@ open_behind o m = record {
 
 -- ---- places
 
+-- a part begins
 abbrev pub begins : Side → Bool
 begins Begin = true
 begins End = false
 
+-- a part ends
 abbrev pub ends : Side → Bool
 ends Begin = false
 ends End = true

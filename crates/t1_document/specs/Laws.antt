@@ -1,5 +1,5 @@
 -- The laws of documents, each the contract of a function in `laws`.
-use Rattle.std.specs.Prelude.{◌≡◌, ◌<◌, ℕ, List, [], length, map, Some, Ok}
+use Rattle.std.specs.Prelude.{◌≡◌, ◌⊎◌, ◌<◌, ℕ, List, [], length, map, true, Some, None, Ok}
 use Rattle.std.specs.List.{AllByRecursion}
 use Rattle.t1_font.specs.FontValue.{FontValue}
 use Rattle.t1_font.specs.ReadFont.{read_font_widely}
@@ -8,7 +8,7 @@ use Rattle.t1_document.specs.declared.rewriting.Way.{Way}
 use Rattle.t1_document.specs.declared.rewriting.Way.TheVariants.{Level, Pool}
 use Rattle.t1_document.specs.Stretches.{Stretches, stretches, joined, mark_lines, AreThose}
 use Rattle.t1_document.specs.Documents.{Place, Document, document_bytes, document_of}
-use Rattle.t1_document.specs.Rewriting.{NewTexts, standing, rewritten, written_from, levelled, pooled, renewed, ArePooled}
+use Rattle.t1_document.specs.Rewriting.{NewTexts, can_stand, standing, rewritten, written_from, levelled, pooled, renewed, ArePooled}
 
 -- ---- stretches
 
@@ -59,6 +59,18 @@ OthersStay = (way : Way) (new : NewTexts) (d : Document) →
 abbrev pub LevelRenews : Type 0
 LevelRenews = (new : NewTexts) (d : Document) →
     rewritten Level new d ≡ record { places = map (renewed (standing new d.places)) d.places; last = d.last }
+
+-- the font text of each place of a document can stand there
+abbrev pub OwnTextsStand : Type 0
+OwnTextsStand = (text : List ℕ) → AllByRecursion (λ p. can_stand p.text p ≡ true) (document_of text).places
+
+-- a place has the new text of its name, or there is none
+abbrev pub HasNew : NewTexts → Place → Type 0
+HasNew new p = (new p.name ≡ None) ⊎ (new p.name ≡ Some p.text)
+
+-- where each place has its new text, levelling changes nothing
+abbrev pub OwnTextsStay : Type 0
+OwnTextsStay = (new : NewTexts) (text : List ℕ) → AllByRecursion (HasNew new) (document_of text).places → levelled new text ≡ text
 
 -- to level twice is to level once
 abbrev pub LevelledTwice : Type 0

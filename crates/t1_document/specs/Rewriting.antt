@@ -49,6 +49,7 @@ pub data Fate : Type 0 where
 abbrev pub is_seen : List (List ℕ) → List ℕ → Bool
 is_seen seen name = list_any (bytes_eq name) seen
 
+-- a place may lose its font
 abbrev pub is_pool : Way → Bool
 is_pool Level = false
 is_pool Pool = true

@@ -1,7 +1,7 @@
 //! Laws of documents.
 
 ghost use Rattle.t1_document.specs.Laws.{StretchesOfText, ReadAgain, DocumentOfText, PlacesSpell};
-ghost use Rattle.t1_document.specs.Laws.{RewrittenIsRead, MarksStay, OthersStay, LevelRenews, LevelledTwice, PoolsAll, PooledTwice};
+ghost use Rattle.t1_document.specs.Laws.{RewrittenIsRead, MarksStay, OthersStay, LevelRenews, OwnTextsStand, OwnTextsStay, LevelledTwice, PoolsAll, PooledTwice};
 
 /// The stretches of a text, joined, are the text.
 pub fn stretches_of_text()
@@ -39,6 +39,12 @@ pub fn others_stay()
 /// Where fonts are levelled, each place has the new text of its name if that isn't refused, and all else stays.
 pub fn level_renews()
     ensures { LevelRenews }
+{}
+
+/// The font text of each place can stand there, and where each place is to have its own text, levelling changes nothing.
+pub fn own_texts_stay()
+    ensures stand { OwnTextsStand }
+    ensures stay { OwnTextsStay }
 {}
 
 /// To level twice with the same new texts is to level once.
