@@ -83,7 +83,7 @@ LARGE = {
     "t1_run": {"": 1000, "Called::new": None, "Called::insert": 65_535, "Called::to_set": 65_535},
     "t1_join": {"": 60_000, "Table::new": None, "Hex::bytes": 131_070},
     "t1_font": {"": 65_535, "even_shells": 1000, "even_boxes": 1000, "fill_all": 65_535},
-    "t1_document": {"": 300, "Texts::new": None, "Place::source": None},
+    "t1_document": {"": 300, "Texts::new": None, "Place::source": None, "Place::can_stand": None},
     "t1_subset": {"": 65_535, "merge": 65_535},
     "t1_cmd": {"": 65_535, "Name::new": 127, "read_all": 268_435_456, "write_fault": None},
 }

@@ -12,3 +12,5 @@ pub mod Spelled
 pub mod WriteLoop
 pub mod Pooled
 pub mod OwnTexts
+pub mod JoinedDocuments
+pub mod LevelledApart

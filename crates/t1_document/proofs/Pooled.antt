@@ -142,7 +142,7 @@ pools_all new d = left_pooled d.last (standing new d.places) [] d.places
 
 -- ---- pooled twice
 
-refused_behind : (new : NewTexts) (name b : List ℕ) (ps : List Place) (last : List ℕ) →
+pub refused_behind : (new : NewTexts) (name b : List ℕ) (ps : List Place) (last : List ℕ) →
     is_refused new (behind_bytes b ps last).places name ≡ is_refused new ps name
 refused_behind new name b [] last = refl
 refused_behind new name b (p ∷ ps) last = by_new (new p.name)

@@ -1,5 +1,5 @@
 -- A document as its places, which hold fonts, and the bytes before, between and behind them.
-use Rattle.std.specs.Prelude.{ℕ, ◌==◌, ◌&&◌, Bool, true, false, List, [], ◌∷◌, ◌++◌, Option, Some, None, if◌then◌else◌}
+use Rattle.std.specs.Prelude.{◌≡◌, ℕ, ◌==◌, ◌&&◌, Bool, true, false, List, [], ◌∷◌, ◌++◌, Option, Some, None, if◌then◌else◌}
 use Rattle.std.specs.List.{flat_map}
 use Rattle.std.specs.Option.{option_map}
 use Rattle.t1_document.specs.declared.marks.Side.{Side}
@@ -105,3 +105,25 @@ document_of_stretches x = prepended x.0 (document_from none_open x.1)
 -- the document of a text
 unfoldable pub document_of : List ℕ → Document
 document_of text = document_of_stretches (stretches text)
+
+-- ---- one document behind another
+
+-- what is open behind stretches
+abbrev pub open_at_end : Open → List Stretch → Open
+open_at_end o [] = o
+open_at_end o (s ∷ ss) = open_at_end (open_behind o s.mark) ss
+
+-- the last mark begins a part that may be a font
+abbrev pub ends_in_part : List Stretch → Bool
+ends_in_part [] = false
+ends_in_part (s ∷ []) = begins s.mark.side && holds_fonts s.mark.kind
+ends_in_part (s ∷ t ∷ ss) = ends_in_part (t ∷ ss)
+
+-- a text leaves nothing open: no document, no raw data, and no part that may be a font
+pub record IsClosed (text : List ℕ) : Type 0 where
+  pub balanced : open_at_end none_open (stretches text).1 ≡ none_open
+  pub part : ends_in_part (stretches text).1 ≡ false
+
+-- a document behind another
+abbrev pub followed : Document → Document → Document
+followed d e = record { places = d.places ++ (prepended d.last e).places; last = (prepended d.last e).last }

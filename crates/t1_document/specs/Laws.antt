@@ -1,14 +1,15 @@
 -- The laws of documents, each the contract of a function in `laws`.
-use Rattle.std.specs.Prelude.{◌≡◌, ◌⊎◌, ◌<◌, ℕ, List, [], length, map, true, Some, None, Ok}
+use Rattle.std.specs.Prelude.{◌≡◌, ◌⊎◌, ◌<◌, ℕ, List, [], ◌++◌, length, map, true, false, Some, None, Ok}
 use Rattle.std.specs.List.{AllByRecursion}
 use Rattle.t1_font.specs.FontValue.{FontValue}
 use Rattle.t1_font.specs.ReadFont.{read_font_widely}
 use Rattle.t1_font.specs.Tags.{name_in}
 use Rattle.t1_document.specs.declared.rewriting.Way.{Way}
 use Rattle.t1_document.specs.declared.rewriting.Way.TheVariants.{Level, Pool}
+use Rattle.t1_document.specs.Lines.{breaks}
 use Rattle.t1_document.specs.Stretches.{Stretches, stretches, joined, mark_lines, AreThose}
-use Rattle.t1_document.specs.Documents.{Place, Document, document_bytes, document_of}
-use Rattle.t1_document.specs.Rewriting.{NewTexts, can_stand, standing, rewritten, written_from, levelled, pooled, renewed, ArePooled}
+use Rattle.t1_document.specs.Documents.{Place, Document, document_bytes, document_of, IsClosed, followed}
+use Rattle.t1_document.specs.Rewriting.{NewTexts, can_stand, is_refused, standing, rewritten, written_from, levelled, pooled, renewed, ArePooled}
 
 -- ---- stretches
 
@@ -37,6 +38,10 @@ pub record Spells (p : Place) : Type 0 where
 -- each place of a document spells one
 abbrev pub PlacesSpell : Type 0
 PlacesSpell = (text : List ℕ) → AllByRecursion Spells (document_of text).places
+
+-- where a line ends behind a text that leaves nothing open, the document of it and a text behind it is that of both
+abbrev pub JoinedDocuments : Type 0
+JoinedDocuments = (a b : List ℕ) → breaks a b ≡ true → IsClosed a → document_of (a ++ b) ≡ followed (document_of a) (document_of b)
 
 -- ---- rewriting
 
@@ -75,6 +80,15 @@ OwnTextsStay = (new : NewTexts) (text : List ℕ) → AllByRecursion (HasNew new
 -- to level twice is to level once
 abbrev pub LevelledTwice : Type 0
 LevelledTwice = (new : NewTexts) (text : List ℕ) → levelled new (levelled new text) ≡ levelled new text
+
+-- no new text is refused in a text
+abbrev pub NoneRefused : NewTexts → List ℕ → Type 0
+NoneRefused new text = (name : List ℕ) → is_refused new (document_of text).places name ≡ false
+
+-- where no new text is refused, two texts of which the first leaves nothing open are levelled together as each by itself
+abbrev pub LevelledApart : Type 0
+LevelledApart = (new : NewTexts) (a b : List ℕ) → breaks a b ≡ true → IsClosed a → NoneRefused new a → NoneRefused new b →
+    levelled new (a ++ b) ≡ levelled new a ++ levelled new b
 
 -- where fonts are pooled, each place of a name has its new text, and behind one at depth 0 there is no other
 abbrev pub PoolsAll : Type 0

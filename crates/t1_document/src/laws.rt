@@ -1,7 +1,7 @@
 //! Laws of documents.
 
-ghost use Rattle.t1_document.specs.Laws.{StretchesOfText, ReadAgain, DocumentOfText, PlacesSpell};
-ghost use Rattle.t1_document.specs.Laws.{RewrittenIsRead, MarksStay, OthersStay, LevelRenews, OwnTextsStand, OwnTextsStay, LevelledTwice, PoolsAll, PooledTwice};
+ghost use Rattle.t1_document.specs.Laws.{StretchesOfText, ReadAgain, DocumentOfText, PlacesSpell, JoinedDocuments};
+ghost use Rattle.t1_document.specs.Laws.{RewrittenIsRead, MarksStay, OthersStay, LevelRenews, OwnTextsStand, OwnTextsStay, LevelledTwice, LevelledApart, PoolsAll, PooledTwice};
 
 /// The stretches of a text, joined, are the text.
 pub fn stretches_of_text()
@@ -21,6 +21,11 @@ pub fn document_of_text()
 /// Each place of a document spells a font, whose head says the place's name.
 pub fn places_spell()
     ensures { PlacesSpell }
+{}
+
+/// The document of a text that leaves nothing open and of a text behind it is that of both.
+pub fn joined_documents()
+    ensures { JoinedDocuments }
 {}
 
 /// What is written for new texts is read again as it was meant: each place has its name, kind, depth, rest and the bytes before
@@ -50,6 +55,11 @@ pub fn own_texts_stay()
 /// To level twice with the same new texts is to level once.
 pub fn levelled_twice()
     ensures { LevelledTwice }
+{}
+
+/// Two texts of which the first leaves nothing open are levelled together as each by itself, where no new text is refused.
+pub fn levelled_apart()
+    ensures { LevelledApart }
 {}
 
 /// Where fonts are pooled, each place of a name that isn't refused has its new text, and behind one at depth 0 there is no

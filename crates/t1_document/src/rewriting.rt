@@ -56,18 +56,25 @@ fn is_font(found: Option<FontText<'_>>, text: &[u8], place: &Place<'_>) -> bool
     }
 }
 
-/// Whether a text can stand at a place.
-fn can_stand(alloc: Global, text: &[u8], place: &Place<'_>) -> Result<bool, AllocError>
-    ensures { IfOk result (λ b. b ≡ can_stand text.now (place_view place.now)) }
-{
-    let mut whole = Vec::with_capacity(alloc, text.len().saturating_add(place.rest.len()))?;
-    whole.extend_from_slice(text)?;
-    whole.extend_from_slice(place.rest)?;
-    if has_mark(&whole) {
-        return Ok(false);
+impl<'a> Place<'a> {
+    /// Whether a text can stand at this place: with the rest of the place behind it, it has no line that is a mark, and it is
+    /// read again as a font text of the place's name before the same rest.
+    ///
+    /// # Errors
+    ///
+    /// Only want of memory.
+    pub fn can_stand(&self, alloc: Global, text: &[u8]) -> Result<bool, AllocError>
+        ensures { IfOk result (λ b. b ≡ can_stand text.now (place_view self.now)) }
+    {
+        let mut whole = Vec::with_capacity(alloc, text.len().saturating_add(self.rest.len()))?;
+        whole.extend_from_slice(text)?;
+        whole.extend_from_slice(self.rest)?;
+        if has_mark(&whole) {
+            return Ok(false);
+        }
+        let found = font_in(alloc, &whole)?;
+        Ok(is_font(found, text, self))
     }
-    let found = font_in(alloc, &whole)?;
-    Ok(is_font(found, text, place))
 }
 
 /// Whether the new text of a place's name can't stand there.
@@ -75,7 +82,7 @@ fn is_barred(alloc: Global, new: &Texts<'_>, place: &Place<'_>) -> Result<bool, 
     ensures { IfOk result (λ b. b ≡ is_barred (text_in new.now place.now.name.now) (place_view place.now)) }
 {
     match new.get(place.name) {
-        Some(text) => Ok(!can_stand(alloc, text, place)?),
+        Some(text) => Ok(!place.can_stand(alloc, text)?),
         None => Ok(false),
     }
 }
@@ -199,9 +206,8 @@ fn rewritten(
 impl<'a> Document<'a> {
     /// The document in which each place of a name has the new text of that name. All other bytes stay.
     ///
-    /// A name gets its new text only if that can stand at each of its places: with the place's rest behind it the text has no
-    /// line that is a mark, and it is read again as a font text of this name, before the same rest. Else the places of the name
-    /// stay as they are.
+    /// A name gets its new text only if that can stand at each of its places ([`Place::can_stand`]). Else the places of the
+    /// name stay as they are.
     ///
     /// # Errors
     ///

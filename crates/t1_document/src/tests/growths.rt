@@ -20,11 +20,16 @@ fn is_read(alloc: Global, place: &Place<'_>) -> Result<bool, AllocError> {
     }
 }
 
-/// Whether a text has one place, whose font is read.
+/// Whether the font of a place is read, and its text can stand there.
+fn is_right(alloc: Global, place: &Place<'_>) -> Result<bool, AllocError> {
+    Ok(is_read(alloc, place)? && place.can_stand(alloc, place.text)?)
+}
+
+/// Whether a text has one place, for which both calls answer right.
 fn has_font(alloc: Global, text: &[u8]) -> Result<bool, AllocError> {
     let document = read_document(alloc, text)?;
     let right = match document.places.as_slice() {
-        [place] => is_read(alloc, place),
+        [place] => is_right(alloc, place),
         _ => Ok(false),
     };
     drop(document);
@@ -48,6 +53,7 @@ fn all_answer_right(alloc: Global) -> Result<bool, AllocError> {
 }
 
 // meets Place::source Ok at 1 fonts
+// meets Place::can_stand Ok at 1 texts
 #[test]
 fn growths(rt: HostRuntime) -> Result<(), Fail> {
     let right = match all_answer_right(rt.alloc()) {
