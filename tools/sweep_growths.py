@@ -21,7 +21,7 @@ from common import BUILDS, EEXEC, TINY, TINY_PFB, TOP, bytes_of, ciphered, compi
 from test_answers import calls
 
 PROGRAM = BUILDS[0]
-CRATES = ["t1_bytes", "t1_char", "t1_run", "t1_join", "t1_font", "t1_subset", "t1_example", "t1_cmd"]
+CRATES = ["t1_bytes", "t1_char", "t1_run", "t1_join", "t1_font", "t1_document", "t1_subset", "t1_example", "t1_cmd"]
 NO_MEMORY = b"refused: out of memory\n"
 # What is said where there is no memory for the words, with status 2; and all that the program said.
 NO_ROOM = b"error: out of memory\n"

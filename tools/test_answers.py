@@ -23,7 +23,7 @@ import sys
 
 from common import TOP, text_of
 
-CRATES = ["t1_bytes", "t1_char", "t1_run", "t1_join", "t1_font", "t1_subset", "t1_cmd"]
+CRATES = ["t1_bytes", "t1_char", "t1_run", "t1_join", "t1_font", "t1_document", "t1_subset", "t1_cmd"]
 MEETS = re.compile(r"^// meets (\w+(?:::\w+)?) (\w+)(?: at ([\d, ]+) ([a-z]+))?$")
 LIKE = re.compile(r"^// like (\w+(?:::\w+)?): ([\w:, ]+)$")
 CALL = re.compile(r"^( *)pub fn (\w+)(?:<[^(]*>)?\(([^)]*)\)(?: -> ([^{\n]*))?", re.M)
@@ -73,6 +73,11 @@ NEVER = {
     ("t1_bytes", "flatten_vec"): {"NoEexec", "ShortCipher"},
     ("t1_bytes", "split_eexec"): {"BadSegment"},
     ("t1_bytes", "find_cipher"): {"BadSegment"},
+    # A place of a document spells a font.
+    ("t1_document", "Place::source"): {
+        "TooLong", "BadSegment", "NoEexec", "ShortCipher", "NoEncoding", "BadEncoding", "NoCharStrings", "BadLenIV", "BadSubrs", "BadGlyphs", "Hybrid",
+        "NoClosefile", "NoNotdef", "Limit",
+    },
     # Two fonts are given.
     ("t1_subset", "merge"): {"Empty"},
 }
@@ -83,6 +88,7 @@ LARGE = {
     "t1_run": {"": 1000, "Called::new": None, "Called::insert": 65_535, "Called::to_set": 65_535},
     "t1_join": {"": 60_000, "Table::new": None, "Hex::bytes": 131_070},
     "t1_font": {"": 65_535, "even_shells": 1000, "even_boxes": 1000, "fill_all": 65_535},
+    "t1_document": {"": 300, "Texts::new": None, "Place::source": None, "Place::can_stand": None},
     "t1_subset": {"": 65_535, "merge": 65_535},
     "t1_cmd": {"": 65_535, "Name::new": 127, "read_all": 268_435_456, "write_fault": None, "write_fault_of": None},
 }

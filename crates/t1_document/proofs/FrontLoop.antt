@@ -89,5 +89,12 @@ stretch_first bytes line rest text behind m parts mark front back =
       first = whole ∙ rw (own, left) refl;
       whole = all ∙ ap (λ (u : List ℕ). line ++ u) parted;
       none = ap (λ (x : Stretches). x.0) left;
-      shorter = omega (arith, ap length back, length-drop (length (stretches rest).0) rest, ap length after, length-drop (line_len bytes) bytes, line_bytes bytes has);
+      shorter = omega (
+        arith,
+        ap length back,
+        length-drop (length (stretches rest).0) rest,
+        ap length after,
+        length-drop (line_len bytes) bytes,
+        line_bytes bytes has,
+      );
     }

@@ -1,13 +1,14 @@
 -- The stretches of a text: joined, they are the text; and stretches that are those of a text are read again.
-use Rattle.std.proofs.Common.{◌≡◌, ℕ, Bool, true, false, List, [], ◌∷◌, ◌++◌, ◌<◌, ◌≤◌, length, drop, Option, Some, None, is_some, refl, sym, ap, subst, ◌∙◌, arith, append_assoc}
+use Rattle.std.proofs.Common.{◌≡◌, ℕ, Bool, true, false, List, [], ◌∷◌, ◌++◌, ◌<◌, ◌≤◌, length, drop, Option, Some, None, is_some, refl, sym, ap, subst, ◌∙◌, arith, append_assoc, inl, inr, ltb}
 use Rattle.std.specs.List.{concat, list_any}
-use Rattle.std.proofs.lemmas.Bool.{or_parts}
-use Rattle.std.proofs.lemmas.List.{append-nil, length-append, length-take-le, drop_at}
+use Rattle.std.proofs.lemmas.Bool.{or_parts, cases_Bool, cases_lt, lt-ltb, le-ltb, true≢false}
+use Rattle.std.proofs.lemmas.List.{append-nil, length-append, length-take-le, drop_at, nil_from_length}
 use Rattle.t1_document.specs.declared.marks.Mark.{Mark}
 use Rattle.t1_document.specs.Lines.{lines_of, line_len, line_of, breaks}
 use Rattle.t1_document.specs.Marks.{mark_of, has_mark}
 use Rattle.t1_document.specs.Stretches.{Stretch, Stretches, at_line, gathered, stretches, bytes_of, joined, AreStretches, AreThose}
-use Rattle.t1_document.proofs.LineLemmas.{lines_joined, lines_apart, AreLines, are_lines, line_within, line_has, first_line, breaks-front, breaks-append}
+use Rattle.t1_document.specs.Documents.{next_mark}
+use Rattle.t1_document.proofs.LineLemmas.{lines_joined, lines_apart, AreLines, are_lines, line_within, line_has, first_line, breaks-front, breaks-append, breaks-nil}
 
 -- ---- joined
 
@@ -33,7 +34,7 @@ any_mark lines = list_any (λ line. is_some (mark_of line)) lines
 unmarked_line : (line : List ℕ) (lines : List (List ℕ)) → mark_of line ≡ None → any_mark lines ≡ false → any_mark (line ∷ lines) ≡ false
 unmarked_line line lines e h = rw (e, h) refl
 
-none_in_nothing : has_mark [] ≡ false
+pub none_in_nothing : has_mark [] ≡ false
 unfolding lines_of
 none_in_nothing = refl
 
@@ -86,7 +87,8 @@ at_unmarked line x None h = refl
 at_unmarked line x (Some m) h = absurd cc
 
 -- lines without a mark stand before the stretches of those behind them
-gathered_unmarked : (lines behind : List (List ℕ)) → any_mark lines ≡ false → gathered (lines ++ behind) ≡ (concat lines ++ (gathered behind).0, (gathered behind).1)
+gathered_unmarked : (lines behind : List (List ℕ)) → any_mark lines ≡ false →
+    gathered (lines ++ behind) ≡ (concat lines ++ (gathered behind).0, (gathered behind).1)
 gathered_unmarked [] behind h = refl
 gathered_unmarked (line ∷ lines) behind h =
     let parts = or_parts (is_some (mark_of line)) (any_mark lines) h in
@@ -150,6 +152,11 @@ pub nothing_is_no_mark : (m : Mark) → mark_of [] ≡ Some m → ⊥
 unfolding mark_of
 nothing_is_no_mark m e = cc
 
+-- nothing has no stretches
+pub no_stretches : stretches [] ≡ ([], [])
+unfolding stretches lines_of
+no_stretches = refl
+
 -- a text that is a mark has bytes
 pub mark_has : (t : List ℕ) (m : Mark) → mark_of (line_of t).0 ≡ Some m → 0 < length t
 unfolding line_len
@@ -162,7 +169,21 @@ no_more [] none e = refl
 no_more (b ∷ bs) none e =
     let t = b ∷ bs in
     let front : (line_of t).0 ++ (stretches (line_of t).1).0 ≡ [] = ap (λ (x : Stretches). x.0) (sym (past_line t (omega arith) e)) ∙ none in
-    absurd (omega (arith, ap length front, length-append (line_of t).0 (stretches (line_of t).1).0, length-take-le (line_len t) t (line_within t), line_has b bs))
+    absurd (omega (
+      arith,
+      ap length front,
+      length-append (line_of t).0 (stretches (line_of t).1).0,
+      length-take-le (line_len t) t (line_within t),
+      line_has b bs,
+    ))
+
+-- the mark that such a text begins with is that of its first stretch
+pub mark_next : (t : List ℕ) → (stretches t).0 ≡ [] → mark_of (line_of t).0 ≡ next_mark (stretches t).1
+mark_next t none = by_mark (mark_of (line_of t).0) refl
+  where
+    by_mark : (m : Option Mark) → mark_of (line_of t).0 ≡ m → m ≡ next_mark (stretches t).1
+    by_mark None e = sym (ap (λ (u : List ℕ). next_mark (stretches u).1) (no_more t none e) ∙ ap (λ (x : Stretches). next_mark x.1) no_stretches)
+    by_mark (Some m) e = sym (ap (λ (x : Stretches). next_mark x.1) (at_mark t (mark_has t m e) m e))
 
 -- ---- what stands before the first mark
 
@@ -179,3 +200,27 @@ behind_front t =
     let x = stretches t in
     let rest : drop (length x.0) t ≡ bytes_of x.1 = ap (drop (length x.0)) (front_whole t) ∙ drop_at x.0 (bytes_of x.1) (length x.0) refl in
     ap stretches rest ∙ stretches_again ([], x.1) (record { unmarked = none_in_nothing; front_ends = refl; each = (stretches_those t).each })
+
+-- ---- whether there is a mark
+
+-- there is none exactly if the whole text stands before the first one
+pub mark_test : (t : List ℕ) → ltb (length (stretches t).0) (length t) ≡ has_mark t
+unfolding stretches
+mark_test t = elim (cases_Bool (has_mark t)) [
+  | inl e ↦ elim (cases_lt (length (stretches t).0) (length t)) [
+    | inl lt ↦ lt-ltb _ _ lt ∙ sym e
+    | inr ge ↦
+        let x = stretches t in
+        let none : bytes_of x.1 ≡ [] =
+        nil_from_length (bytes_of x.1) (omega (arith, ge, ap length (front_whole t), length-append x.0 (bytes_of x.1))) in
+        let same : t ≡ x.0 = front_whole t ∙ (ap (λ (u : List ℕ). x.0 ++ u) none ∙ append-nil x.0) in
+        absurd (true≢false (sym e ∙ (ap has_mark same ∙ (stretches_those t).unmarked)))
+  ]
+  | inr e ↦
+      let x = gathered (lines_of []) in
+      let whole : gathered (lines_of (t ++ [])) ≡ (t ++ x.0, x.1) = unmarked_before t [] e (breaks-nil t) in
+      let front : (stretches t).0 ≡ t =
+      ap (λ (u : List ℕ). (gathered (lines_of u)).0) (sym (append-nil t))
+      ∙ (ap (λ (y : Stretches). y.0) whole ∙ (ap (λ (y : Stretches). t ++ y.0) nothing_gathered ∙ append-nil t)) in
+      le-ltb _ _ (omega (arith, ap length front)) ∙ sym e
+]

@@ -1,6 +1,17 @@
 -- The laws of documents, each the contract of a function in `laws`.
-use Rattle.std.specs.Prelude.{◌≡◌, ℕ, List}
-use Rattle.t1_document.specs.Stretches.{Stretches, stretches, joined, AreThose}
+use Rattle.std.specs.Prelude.{◌≡◌, ◌⊎◌, ◌<◌, ℕ, List, [], ◌++◌, length, map, true, false, Some, None, Ok}
+use Rattle.std.specs.List.{AllByRecursion}
+use Rattle.t1_font.specs.FontValue.{FontValue}
+use Rattle.t1_font.specs.ReadFont.{read_font_widely}
+use Rattle.t1_font.specs.Tags.{name_in}
+use Rattle.t1_document.specs.declared.rewriting.Way.{Way}
+use Rattle.t1_document.specs.declared.rewriting.Way.TheVariants.{Level, Pool}
+use Rattle.t1_document.specs.Lines.{breaks}
+use Rattle.t1_document.specs.Stretches.{Stretches, stretches, joined, mark_lines, AreThose}
+use Rattle.t1_document.specs.Documents.{Place, Document, document_bytes, document_of, IsClosed, followed}
+use Rattle.t1_document.specs.Rewriting.{NewTexts, can_stand, is_refused, standing, rewritten, written_from, levelled, pooled, renewed, ArePooled}
+
+-- ---- stretches
 
 -- the stretches of a text, joined, are the text, and they are those of a text
 pub record StretchesOfText : Type 0 where
@@ -10,3 +21,79 @@ pub record StretchesOfText : Type 0 where
 -- stretches that are those of a text are the stretches of what they are joined to
 abbrev pub ReadAgain : Type 0
 ReadAgain = (x : Stretches) → AreThose x → stretches (joined x) ≡ x
+
+-- ---- places
+
+-- the bytes of a text's document are the text
+abbrev pub DocumentOfText : Type 0
+DocumentOfText = (text : List ℕ) → document_bytes (document_of text) ≡ text
+
+-- the font that a place spells widely, whose head says the place's name
+pub record Spells (p : Place) : Type 0 where
+  pub font : FontValue
+  pub spelled : read_font_widely p.text ≡ Ok font
+  pub named : name_in font.shell.head ≡ Some p.name
+  pub some : 0 < length p.name
+
+-- each place of a document spells one
+abbrev pub PlacesSpell : Type 0
+PlacesSpell = (text : List ℕ) → AllByRecursion Spells (document_of text).places
+
+-- where a line ends behind a text that leaves nothing open, the document of it and a text behind it is that of both
+abbrev pub JoinedDocuments : Type 0
+JoinedDocuments = (a b : List ℕ) → breaks a b ≡ true → IsClosed a → document_of (a ++ b) ≡ followed (document_of a) (document_of b)
+
+-- ---- rewriting
+
+-- what is written is read as the document that was to be written
+abbrev pub RewrittenIsRead : Type 0
+RewrittenIsRead = (way : Way) (new : NewTexts) (text : List ℕ) →
+    document_of (document_bytes (rewritten way new (document_of text))) ≡ rewritten way new (document_of text)
+
+-- its marks stay, each in its line
+abbrev pub MarksStay : Type 0
+MarksStay = (way : Way) (new : NewTexts) (text : List ℕ) →
+    mark_lines (stretches (document_bytes (rewritten way new (document_of text)))).1 ≡ mark_lines (stretches text).1
+
+-- its bytes are, place by place, those before the place and what becomes of the place, and then the last bytes
+abbrev pub OthersStay : Type 0
+OthersStay = (way : Way) (new : NewTexts) (d : Document) →
+    document_bytes (rewritten way new d) ≡ written_from way (standing new d.places) [] d.places d.last
+
+-- where fonts are levelled, each place has the new text of its name, and all else stays
+abbrev pub LevelRenews : Type 0
+LevelRenews = (new : NewTexts) (d : Document) →
+    rewritten Level new d ≡ record { places = map (renewed (standing new d.places)) d.places; last = d.last }
+
+-- the font text of each place of a document can stand there
+abbrev pub OwnTextsStand : Type 0
+OwnTextsStand = (text : List ℕ) → AllByRecursion (λ p. can_stand p.text p ≡ true) (document_of text).places
+
+-- a place has the new text of its name, or there is none
+abbrev pub HasNew : NewTexts → Place → Type 0
+HasNew new p = (new p.name ≡ None) ⊎ (new p.name ≡ Some p.text)
+
+-- where each place has its new text, levelling changes nothing
+abbrev pub OwnTextsStay : Type 0
+OwnTextsStay = (new : NewTexts) (text : List ℕ) → AllByRecursion (HasNew new) (document_of text).places → levelled new text ≡ text
+
+-- to level twice is to level once
+abbrev pub LevelledTwice : Type 0
+LevelledTwice = (new : NewTexts) (text : List ℕ) → levelled new (levelled new text) ≡ levelled new text
+
+-- no new text is refused in a text
+abbrev pub NoneRefused : NewTexts → List ℕ → Type 0
+NoneRefused new text = (name : List ℕ) → is_refused new (document_of text).places name ≡ false
+
+-- where no new text is refused, two texts of which the first leaves nothing open are levelled together as each by itself
+abbrev pub LevelledApart : Type 0
+LevelledApart = (new : NewTexts) (a b : List ℕ) → breaks a b ≡ true → IsClosed a → NoneRefused new a → NoneRefused new b →
+    levelled new (a ++ b) ≡ levelled new a ++ levelled new b
+
+-- where fonts are pooled, each place of a name has its new text, and behind one at depth 0 there is no other
+abbrev pub PoolsAll : Type 0
+PoolsAll = (new : NewTexts) (d : Document) → ArePooled (standing new d.places) (rewritten Pool new d).places
+
+-- to pool twice is to pool once
+abbrev pub PooledTwice : Type 0
+PooledTwice = (new : NewTexts) (text : List ℕ) → pooled new (pooled new text) ≡ pooled new text

@@ -1,5 +1,9 @@
 pub mod Lines
 pub mod Marks
 pub mod Stretches
+pub mod Fonts
+pub mod Documents
+pub mod Rewriting
+pub mod Texts
 pub mod Views
 pub mod Laws

@@ -1,5 +1,5 @@
 -- A document as stretches: what stands before its first mark, and each mark with what stands behind it.
-use Rattle.std.specs.Prelude.{◌≡◌, ℕ, true, false, List, [], ◌∷◌, ◌++◌, Option, Some, None}
+use Rattle.std.specs.Prelude.{◌≡◌, ℕ, true, false, List, [], ◌∷◌, ◌++◌, map, Option, Some, None}
 use Rattle.std.specs.List.{flat_map}
 use Rattle.t1_document.specs.declared.marks.Mark.{Mark}
 use Rattle.t1_document.specs.Lines.{lines_of, breaks}
@@ -36,6 +36,14 @@ bytes_of ss = flat_map (λ s. s.line ++ s.text) ss
 -- the text that stretches are those of
 abbrev pub joined : Stretches → List ℕ
 joined x = x.0 ++ bytes_of x.1
+
+-- the mark of a stretch, and its line
+abbrev pub mark_line : Stretch → Mark × List ℕ
+mark_line s = (s.mark, s.line)
+
+-- the marks of stretches, each with its line
+abbrev pub mark_lines : List Stretch → List (Mark × List ℕ)
+mark_lines ss = map mark_line ss
 
 -- ---- which stretches are those of a text
 

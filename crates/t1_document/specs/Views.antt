@@ -1,6 +1,35 @@
 -- What code keeps, as values.
-use Rattle.t1_document.specs.declared.stretches.Stretch.{Stretch as StretchParts}
+use Rattle.std.specs.Prelude.{map}
+use Rattle.t1_document.specs.declared.stretches.Stretch.{Stretch as CodeStretch}
+use Rattle.t1_document.specs.declared.fonts.FontText.{FontText as CodeFontText}
+use Rattle.t1_document.specs.declared.documents.Place.{Place as CodePlace}
+use Rattle.t1_document.specs.declared.documents.Document.{Document as CodeDocument}
+use Rattle.t1_document.specs.declared.rewriting.Fate.{Fate as CodeFate}
+use Rattle.t1_document.specs.declared.rewriting.Fate.TheVariants.{Stays, Becomes, Goes}
 use Rattle.t1_document.specs.Stretches.{Stretch}
+use Rattle.t1_document.specs.Fonts.{FontText}
+use Rattle.t1_document.specs.Documents.{Place, Document}
+use Rattle.t1_document.specs.Rewriting.{Fate}
+use Rattle.t1_document.specs.Rewriting as fates
 
-abbrev pub stretch_view : StretchParts → Stretch
+-- a stretch of borrowed bytes
+abbrev pub stretch_view : CodeStretch → Stretch
 stretch_view s = record { mark = s.mark; line = s.line.now; text = s.text.now }
+
+-- a font text of borrowed bytes
+abbrev pub font_view : CodeFontText → FontText
+font_view f = record { name = f.name.now; text = f.text.now; rest = f.rest.now }
+
+-- a place of borrowed bytes
+abbrev pub place_view : CodePlace → Place
+place_view p = record { before = p.before.now; kind = p.kind; depth = p.depth; name = p.name.now; text = p.text.now; rest = p.rest.now }
+
+-- a document of borrowed bytes
+abbrev pub document_view : CodeDocument → Document
+document_view d = record { places = map place_view d.places.items; last = d.last.now }
+
+-- what becomes of a place, with a borrowed text
+abbrev pub fate_view : CodeFate → Fate
+fate_view Stays = fates.Stays
+fate_view (Becomes text) = fates.Becomes text.now
+fate_view Goes = fates.Goes

@@ -1,6 +1,7 @@
 //! Laws of documents.
 
-ghost use Rattle.t1_document.specs.Laws.{StretchesOfText, ReadAgain};
+ghost use Rattle.t1_document.specs.Laws.{StretchesOfText, ReadAgain, DocumentOfText, PlacesSpell, JoinedDocuments};
+ghost use Rattle.t1_document.specs.Laws.{RewrittenIsRead, MarksStay, OthersStay, LevelRenews, OwnTextsStand, OwnTextsStay, LevelledTwice, LevelledApart, PoolsAll, PooledTwice};
 
 /// The stretches of a text, joined, are the text.
 pub fn stretches_of_text()
@@ -10,4 +11,64 @@ pub fn stretches_of_text()
 /// Stretches that are those of a text are read again.
 pub fn read_again()
     ensures { ReadAgain }
+{}
+
+/// The places of a document and the bytes before, between and behind them are the document.
+pub fn document_of_text()
+    ensures { DocumentOfText }
+{}
+
+/// Each place of a document spells a font, whose head says the place's name.
+pub fn places_spell()
+    ensures { PlacesSpell }
+{}
+
+/// The document of a text that leaves nothing open and of a text behind it is that of both.
+pub fn joined_documents()
+    ensures { JoinedDocuments }
+{}
+
+/// What is written for new texts is read again as it was meant: each place has its name, kind, depth, rest and the bytes before
+/// it, those whose names are not refused have the new texts, and a place that went is no place.
+pub fn rewritten_is_read()
+    ensures { RewrittenIsRead }
+{}
+
+/// The marks of a document stay where its fonts get new texts, each in its line; and each byte stays outside the font texts
+/// and the rests of places that become something else.
+pub fn others_stay()
+    ensures marks { MarksStay }
+    ensures bytes { OthersStay }
+{}
+
+/// Where fonts are levelled, each place has the new text of its name if that isn't refused, and all else stays.
+pub fn level_renews()
+    ensures { LevelRenews }
+{}
+
+/// The font text of each place can stand there, and where each place is to have its own text, levelling changes nothing.
+pub fn own_texts_stay()
+    ensures stand { OwnTextsStand }
+    ensures stay { OwnTextsStay }
+{}
+
+/// To level twice with the same new texts is to level once.
+pub fn levelled_twice()
+    ensures { LevelledTwice }
+{}
+
+/// Two texts of which the first leaves nothing open are levelled together as each by itself, where no new text is refused.
+pub fn levelled_apart()
+    ensures { LevelledApart }
+{}
+
+/// Where fonts are pooled, each place of a name that isn't refused has its new text, and behind one at depth 0 there is no
+/// other place of that name.
+pub fn pools_all()
+    ensures { PoolsAll }
+{}
+
+/// To pool twice with the same new texts is to pool once.
+pub fn pooled_twice()
+    ensures { PooledTwice }
 {}

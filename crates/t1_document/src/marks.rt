@@ -116,3 +116,10 @@ impl Kind {
         }
     }
 }
+
+/// What is open: how many documents inside the whole one, and how many parts of raw data.
+#[derive(Clone, Copy)]
+pub(crate) struct Open {
+    pub(crate) documents: usize,
+    pub(crate) raw: usize,
+}

@@ -1,0 +1,207 @@
+-- The laws of rewriting.
+use Rattle.std.proofs.Common.{◌≡◌, ℕ, Bool, true, false, cond, List, [], ◌∷◌, ◌++◌, map, Option, Some, None, refl, sym, ap, ◌∙◌, append_assoc}
+use Rattle.std.specs.Prelude.{◌&&◌, ◌||◌, not}
+use Rattle.std.specs.Str.{bytes_eq}
+use Rattle.std.proofs.lemmas.Bool.{or_parts}
+use Rattle.std.proofs.lemmas.Option.{none-some}
+use Rattle.std.proofs.lemmas.Slice.Eq.{bytes_eq-Decides}
+use Rattle.t1_document.specs.declared.marks.Open.{Open}
+use Rattle.t1_document.specs.declared.marks.Mark.{Mark}
+use Rattle.t1_document.specs.declared.rewriting.Way.{Way}
+use Rattle.t1_document.specs.declared.rewriting.Way.TheVariants.{Level}
+use Rattle.t1_document.specs.Stretches.{Stretch, Stretches, stretches, bytes_of, joined, mark_lines, AreThose}
+use Rattle.t1_document.specs.Documents.{Place, Document, document_bytes, place_bytes, none_open, open_behind, next_mark, place_at, prepended, document_from, document_of_stretches, document_of}
+use Rattle.t1_document.specs.Rewriting.{NewTexts, can_stand, is_barred, is_refused, standing, Fate, Stays, Becomes, Goes, fate_of, seen_behind, at_fate}
+use Rattle.t1_document.specs.Rewriting.{rewritten_from, rewritten, fate_bytes, written_from, levelled, with_new, renewed}
+use Rattle.t1_document.proofs.StretchLemmas.{stretches_those, stretches_again}
+use Rattle.t1_document.proofs.PlaceLemmas.{prepended_bytes, from_bytes}
+use Rattle.t1_document.proofs.Breaks.{breaks-same}
+use Rattle.t1_document.proofs.Retold.{AllStand, all_behind, told_at, seen_at, mark_same, line_same, retold, document_retold, start_same, are_retold, rewritten-prepended}
+
+-- ---- the new texts that stand
+
+pub same_bytes : (name : List ℕ) → bytes_eq name name ≡ true
+same_bytes name = (bytes_eq-Decides name name).1 refl
+
+not_false : (b : Bool) → not b ≡ false → b ≡ true
+not_false true h = refl
+not_false false h = absurd cc
+
+pub where_stands : (refused : Bool) (o : Option (List ℕ)) (text : List ℕ) → cond refused None o ≡ Some text → (refused ≡ false) × (o ≡ Some text)
+where_stands true o text e = absurd (none-some text e)
+where_stands false o text e = (refl, e)
+
+-- each can stand at all places of its name
+pub standing_stands : (new : NewTexts) (ps : List Place) → AllStand (standing new ps) ps
+standing_stands new ps = each ps (λ name h. h)
+  where
+    at_first : (p : Place) (qs : List Place) (text : List ℕ) → is_refused new (p ∷ qs) p.name ≡ false → new p.name ≡ Some text → can_stand text p ≡ true
+    at_first p qs text h e =
+        let first = (or_parts (bytes_eq p.name p.name && is_barred (new p.name) p) (is_refused new qs p.name) h).0 in
+        let barred : is_barred (Some text) p ≡ false =
+        ap (λ (o : Option (List ℕ)). is_barred o p) (sym e) ∙ (ap (λ (b : Bool). b && is_barred (new p.name) p) (sym (same_bytes p.name)) ∙ first) in
+        not_false (can_stand text p) barred
+
+    each : (qs : List Place) → ((name : List ℕ) → is_refused new ps name ≡ false → is_refused new qs name ≡ false) → AllStand (standing new ps) qs
+    each [] h = tt
+    each (p ∷ qs) h = (
+      λ text e.
+          let w = where_stands (is_refused new ps p.name) (new p.name) text e in
+          at_first p qs text (h p.name w.0) w.1,
+      each qs (λ name k. (or_parts (bytes_eq name p.name && is_barred (new p.name) p) (is_refused new qs name) (h name k)).1),
+    )
+
+-- ---- what is written is read
+
+module _ (way : Way) (new : NewTexts) (text : List ℕ) where
+  -- the stretches of what is written
+  abbrev written_stretches : Stretches
+  written_stretches = ((stretches text).0, retold way new none_open [] (stretches text).1)
+
+  document_written : AllStand new (document_of text).places →
+      rewritten_from way new [] (document_of text).places (document_of text).last ≡ document_of_stretches written_stretches
+  unfolding document_of
+  document_written all =
+      let x = stretches text in
+      let d = document_from none_open x.1 in
+      rewritten-prepended way new [] x.0 d
+      ∙ ap (prepended x.0) (sym (document_retold way new none_open [] x.1 (all_behind new x.0 d all)))
+
+  stretches_written : AllStand new (document_of text).places → AreThose written_stretches
+  unfolding document_of
+  stretches_written all =
+      let x = stretches text in
+      let those = stretches_those text in
+      let same = start_same way new none_open [] x.1 those.each in
+      record {
+        unmarked = those.unmarked;
+        front_ends = sym (breaks-same x.0 (bytes_of x.1) (bytes_of (retold way new none_open [] x.1)) same) ∙ those.front_ends;
+        each = are_retold way new none_open [] x.1 those.each (all_behind new x.0 (document_from none_open x.1) all);
+      }
+
+  bytes_written : (x : Stretches) → document_bytes (document_of_stretches x) ≡ joined x
+  bytes_written x = prepended_bytes x.0 (document_from none_open x.1) ∙ ap (λ (t : List ℕ). x.0 ++ t) (from_bytes none_open x.1)
+
+  -- the stretches of the bytes
+  pub stretches_are : AllStand new (document_of text).places →
+      stretches (document_bytes (rewritten_from way new [] (document_of text).places (document_of text).last)) ≡ written_stretches
+  stretches_are all =
+      ap (λ (d : Document). stretches (document_bytes d)) (document_written all)
+      ∙ (ap stretches (bytes_written written_stretches) ∙ stretches_again written_stretches (stretches_written all))
+
+  -- the document of the bytes
+  pub document_is : AllStand new (document_of text).places →
+      document_of (document_bytes (rewritten_from way new [] (document_of text).places (document_of text).last))
+      ≡ rewritten_from way new [] (document_of text).places (document_of text).last
+  unfolding document_of
+  document_is all = ap document_of_stretches (stretches_are all) ∙ sym (document_written all)
+
+pub rewritten_is_read : (way : Way) (new : NewTexts) (text : List ℕ) →
+    document_of (document_bytes (rewritten way new (document_of text))) ≡ rewritten way new (document_of text)
+rewritten_is_read way new text =
+    let ps = (document_of text).places in
+    document_is way (standing new ps) text (standing_stands new ps)
+
+-- ---- its marks
+
+told_lines : (way : Way) (new : NewTexts) (o : Open) (seen : List (List ℕ)) (ss : List Stretch) → mark_lines (retold way new o seen ss) ≡ mark_lines ss
+unfolding retold
+told_lines way new o seen [] = refl
+told_lines way new o seen (s ∷ ss) =
+    let q = place_at o s (next_mark ss) in
+    let rest = mark_lines (retold way new (open_behind o s.mark) (seen_at way new seen q) ss) in
+    ap (λ (x : Mark). (x, (told_at way new seen q s).line) ∷ rest) (mark_same way new seen q s)
+    ∙ (ap (λ (l : List ℕ). (s.mark, l) ∷ rest) (line_same way new seen q s)
+    ∙ ap (λ (ls : List (Mark × List ℕ)). (s.mark, s.line) ∷ ls) (told_lines way new (open_behind o s.mark) (seen_at way new seen q) ss))
+
+pub marks_stay : (way : Way) (new : NewTexts) (text : List ℕ) →
+    mark_lines (stretches (document_bytes (rewritten way new (document_of text)))).1 ≡ mark_lines (stretches text).1
+marks_stay way new text =
+    let ps = (document_of text).places in
+    ap (λ (x : Stretches). mark_lines x.1) (stretches_are way (standing new ps) text (standing_stands new ps))
+    ∙ told_lines way (standing new ps) none_open [] (stretches text).1
+
+-- ---- its bytes
+
+fate_written : (f : Fate) (p : Place) (d : Document) → document_bytes (at_fate f p d) ≡ p.before ++ (fate_bytes f p ++ document_bytes d)
+fate_written Stays p d = append_assoc (place_bytes p) _ d.last ∙ append_assoc p.before (p.text ++ p.rest) (document_bytes d)
+fate_written (Becomes text) p d =
+    append_assoc (p.before ++ (text ++ p.rest)) _ d.last ∙ append_assoc p.before (text ++ p.rest) (document_bytes d)
+fate_written Goes p d = prepended_bytes p.before d
+
+pub written_is : (way : Way) (new : NewTexts) (seen : List (List ℕ)) (ps : List Place) (last : List ℕ) →
+    document_bytes (rewritten_from way new seen ps last) ≡ written_from way new seen ps last
+unfolding rewritten_from written_from
+written_is way new seen [] last = refl
+written_is way new seen (p ∷ ps) last =
+    let f = fate_of way seen p (new p.name) in
+    fate_written f p (rewritten_from way new (seen_behind f p seen) ps last)
+    ∙ ap (λ (t : List ℕ). p.before ++ (fate_bytes f p ++ t)) (written_is way new (seen_behind f p seen) ps last)
+
+-- ---- levelled
+
+level_fate : (seen : List (List ℕ)) (p : Place) (o : Option (List ℕ)) (d : Document) →
+    at_fate (fate_of Level seen p o) p d ≡ record { places = with_new o p ∷ d.places; last = d.last }
+level_fate seen p None d = refl
+level_fate seen p (Some text) d = refl
+
+level_is : (new : NewTexts) (seen : List (List ℕ)) (ps : List Place) (last : List ℕ) →
+    rewritten_from Level new seen ps last ≡ record { places = map (renewed new) ps; last = last }
+unfolding rewritten_from
+level_is new seen [] last = refl
+level_is new seen (p ∷ ps) last =
+    let f = fate_of Level seen p (new p.name) in
+    level_fate seen p (new p.name) (rewritten_from Level new (seen_behind f p seen) ps last)
+    ∙ ap (λ (d : Document). record { places = renewed new p ∷ d.places; last = d.last }) (level_is new (seen_behind f p seen) ps last)
+
+pub level_renews : (new : NewTexts) (d : Document) → rewritten Level new d ≡ record { places = map (renewed (standing new d.places)) d.places; last = d.last }
+level_renews new d = level_is (standing new d.places) [] d.places d.last
+
+-- a place that has a new text bars what it barred
+barred_same : (new : NewTexts) (name : List ℕ) (o : Option (List ℕ)) (p : Place) →
+    (bytes_eq name (with_new o p).name && is_barred (new (with_new o p).name) (with_new o p)) ≡ (bytes_eq name p.name && is_barred (new p.name) p)
+barred_same new name None p = refl
+barred_same new name (Some text) p = by_new (new p.name)
+  where
+    by_new : (n : Option (List ℕ)) → (bytes_eq name p.name && is_barred n (record p { text = text })) ≡ (bytes_eq name p.name && is_barred n p)
+    by_new None = refl
+    by_new (Some t) = refl
+
+refused_same : (new other : NewTexts) (ps : List Place) (name : List ℕ) → is_refused new (map (renewed other) ps) name ≡ is_refused new ps name
+refused_same new other [] name = refl
+refused_same new other (p ∷ ps) name =
+    ap (λ (b : Bool). b || is_refused new (map (renewed other) ps) name) (barred_same new name (other p.name) p)
+    ∙ ap (λ (b : Bool). (bytes_eq name p.name && is_barred (new p.name) p) || b) (refused_same new other ps name)
+
+same_standing : (new other : NewTexts) (ps : List Place) (name : List ℕ) → standing new (map (renewed other) ps) name ≡ standing new ps name
+same_standing new other ps name = ap (λ (b : Bool). cond b None (new name)) (refused_same new other ps name)
+
+new_twice : (o : Option (List ℕ)) (p : Place) → with_new o (with_new o p) ≡ with_new o p
+new_twice None p = refl
+new_twice (Some text) p = refl
+
+same_name : (o : Option (List ℕ)) (p : Place) → (with_new o p).name ≡ p.name
+same_name None p = refl
+same_name (Some text) p = refl
+
+renewed_twice : (new other : NewTexts) → ((name : List ℕ) → other name ≡ new name) → (ps : List Place) →
+    map (renewed other) (map (renewed new) ps) ≡ map (renewed new) ps
+renewed_twice new other same [] = refl
+renewed_twice new other same (p ∷ ps) =
+    let q = renewed new p in
+    ap (λ (o : Option (List ℕ)). with_new o q ∷ map (renewed other) (map (renewed new) ps)) (same q.name ∙ ap new (same_name (new p.name) p))
+    ∙ (ap (λ (r : Place). r ∷ map (renewed other) (map (renewed new) ps)) (new_twice (new p.name) p)
+    ∙ ap (λ (rs : List Place). q ∷ rs) (renewed_twice new other same ps))
+
+pub levelled_twice : (new : NewTexts) (text : List ℕ) → levelled new (levelled new text) ≡ levelled new text
+levelled_twice new text =
+    let d = document_of text in
+    let stand = standing new d.places in
+    let e : Document = record { places = map (renewed stand) d.places; last = d.last } in
+    let first : rewritten Level new d ≡ e = level_renews new d in
+    let again : rewritten Level new e ≡ e =
+    level_renews new e
+    ∙ ap (λ (ps : List Place). record { places = ps; last = d.last })
+    (renewed_twice stand (standing new e.places) (same_standing new stand d.places) d.places) in
+    ap (λ (x : Document). document_bytes (rewritten Level new x)) (rewritten_is_read Level new text ∙ first)
+    ∙ (ap document_bytes again ∙ ap document_bytes (sym first))

@@ -1,0 +1,148 @@
+-- The loops that find the names that are refused, and that write a document with new texts.
+use Rattle.std.proofs.Common.{◌≡◌, ◌<◌, ◌≤◌, ◌+◌, ℕ, Bool, true, false, cond, List, [], ◌∷◌, ◌++◌, length, get_or, take, drop, map, Option, Some, None}
+use Rattle.std.proofs.Common.{refl, sym, ap, ◌∙◌, append_assoc, is_some, Bor, inl, inr}
+use Rattle.std.specs.Prelude.{◌&&◌, ◌||◌}
+use Rattle.std.specs.List.{list_any}
+use Rattle.std.specs.Option.{option_map}
+use Rattle.std.specs.Str.{bytes_eq}
+use Rattle.std.proofs.Math.Bool.{or-false, and-true, and-false}
+use Rattle.std.proofs.lemmas.Bool.{cases_Bool, true≢false}
+use Rattle.std.proofs.lemmas.List.{at_drop_more, at_drop_all, map-append, take_more}
+use Rattle.std.proofs.lemmas.List.Folds.{list_any-append}
+use Rattle.std.proofs.lemmas.Slice.Eq.{bytes_eq-Decides}
+use Rattle.t1_document.specs.declared.documents.Place.{Place as CodePlace}
+use Rattle.t1_document.specs.declared.texts.Texts.{Texts}
+use Rattle.t1_document.specs.declared.rewriting.Way.{Way}
+use Rattle.t1_document.specs.Documents.{Place}
+use Rattle.t1_document.specs.Rewriting.{NewTexts, is_barred, is_refused, standing, is_seen, Fate, fate_by, fate_of, fate_bytes, seen_behind, written_from}
+use Rattle.t1_document.specs.Texts.{text_in, has_text, Sees}
+use Rattle.t1_document.specs.Views.{place_view}
+
+-- ---- names that are refused
+
+same_test : (a b : List ℕ) → bytes_eq a b ≡ bytes_eq b a
+same_test a b = elim (cases_Bool (bytes_eq a b)) [
+  | inl e ↦ e ∙ sym ((bytes_eq-Decides b a).1 (sym ((bytes_eq-Decides a b).0 e)))
+  | inr e ↦ elim (cases_Bool (bytes_eq b a)) [
+    | inl h ↦ absurd (true≢false (sym ((bytes_eq-Decides a b).1 (sym ((bytes_eq-Decides b a).0 h))) ∙ e))
+    | inr h ↦ e ∙ sym h
+  ]
+]
+
+-- with one place more
+refused_more : (new : NewTexts) (places : List CodePlace) (i : ℕ) (d : CodePlace) → i < length places → (name : List ℕ) →
+    is_refused new (map place_view (take (i + 1) places)) name
+    ≡ (is_refused new (map place_view (take i places)) name
+    || (bytes_eq name (get_or places i d).name.now && is_barred (new (get_or places i d).name.now) (place_view (get_or places i d))))
+refused_more new places i d h name =
+    let test : Place → Bool = λ p. bytes_eq name p.name && is_barred (new p.name) p in
+    let p = place_view (get_or places i d) in
+    ap (λ (ps : List CodePlace). list_any test (map place_view ps)) (take_more places i d h)
+    ∙ (ap (list_any test) (map-append place_view (take i places) (get_or places i d ∷ []))
+    ∙ (list_any-append test (map place_view (take i places)) (p ∷ [])
+    ∙ ap (λ (b : Bool). list_any test (map place_view (take i places)) || b) (or-false (test p))))
+
+-- these names are refused at these places
+abbrev pub Refuses : NewTexts → List Place → Texts → Type 0
+Refuses new ps r = (name : List ℕ) → has_text r name ≡ is_refused new ps name
+
+pub refused_stays : (new : NewTexts) (places : List CodePlace) (i : ℕ) (d : CodePlace) (r : Texts) (b : Bool) → i < length places →
+    Refuses new (map place_view (take i places)) r → b ≡ is_barred (new (get_or places i d).name.now) (place_view (get_or places i d)) → b ≡ false →
+    Refuses new (map place_view (take (i + 1) places)) r
+refused_stays new places i d r b h k e stands name =
+    let p = get_or places i d in
+    k name
+    ∙ sym (refused_more new places i d h name
+    ∙ (ap (λ (t : Bool). is_refused new (map place_view (take i places)) name || (bytes_eq name p.name.now && t)) (sym e ∙ stands)
+    ∙ (ap (λ (t : Bool). is_refused new (map place_view (take i places)) name || t) (and-false (bytes_eq name p.name.now)) ∙ or-false _)))
+
+put_more : (b : Bool) (v : List ℕ) (o : Option (List ℕ)) → is_some (cond b (Some v) o) ≡ (is_some o || b)
+put_more true v None = refl
+put_more true v (Some x) = refl
+put_more false v o = sym (or-false (is_some o))
+
+pub refused_grows : (new : NewTexts) (places : List CodePlace) (i : ℕ) (d : CodePlace) (r s : Texts) (b : Bool) → i < length places →
+    Refuses new (map place_view (take i places)) r → b ≡ is_barred (new (get_or places i d).name.now) (place_view (get_or places i d)) → b ≡ true →
+    ((other : List ℕ) → text_in s other ≡ cond (bytes_eq (get_or places i d).name.now other) (Some (get_or places i d).name.now) (text_in r other)) →
+    Refuses new (map place_view (take (i + 1) places)) s
+refused_grows new places i d r s b h k e bars put name =
+    let p = get_or places i d in
+    ap is_some (put name)
+    ∙ (put_more (bytes_eq p.name.now name) p.name.now (text_in r name)
+    ∙ (ap (λ (t : Bool). t || bytes_eq p.name.now name) (k name)
+    ∙ sym (refused_more new places i d h name
+    ∙ (ap (λ (t : Bool). is_refused new (map place_view (take i places)) name || (bytes_eq name p.name.now && t)) (sym e ∙ bars)
+    ∙ ap (λ (t : Bool). is_refused new (map place_view (take i places)) name || t) (and-true (bytes_eq name p.name.now) ∙ same_test name p.name.now)))))
+
+-- in a text that is the same
+pub refused_same : (new : NewTexts) (ps : List Place) (r s : Texts) → s ≡ r → Refuses new ps r → Refuses new ps s
+refused_same new ps r s e k name = ap (λ (t : Texts). has_text t name) e ∙ k name
+
+-- ---- places that are written
+
+-- so many places are written, behind which these names are seen
+pub record Writes (way : Way) (new : NewTexts) (last : List ℕ) (places : List CodePlace) (i : ℕ) (out : List ℕ) (seen : Texts) : Type 0 where
+  pub names : List (List ℕ)
+  pub sees : Sees seen names
+  pub whole : out ++ written_from way new names (map place_view (drop i places)) last ≡ written_from way new [] (map place_view places) last
+
+-- one place more
+pub writes_more : (way : Way) (new : NewTexts) (last : List ℕ) (places : List CodePlace) (i : ℕ) (d : CodePlace)
+    (out before wrote : List ℕ) (seen other : Texts) (f : Fate) →
+    i < length places → (w : Writes way new last places i out seen) →
+    f ≡ fate_of way w.names (place_view (get_or places i d)) (new (get_or places i d).name.now) →
+    ((names : List (List ℕ)) → Sees seen names → Sees other (seen_behind f (place_view (get_or places i d)) names)) →
+    before ≡ out ++ (get_or places i d).before.now → wrote ≡ before ++ fate_bytes f (place_view (get_or places i d)) →
+    Writes way new last places (i + 1) wrote other
+unfolding written_from
+writes_more way new last places i d out before wrote seen other f h w is sees front back =
+    let p = place_view (get_or places i d) in
+    let rest = map place_view (drop (i + 1) places) in
+    let next = seen_behind f p w.names in
+    let behind = written_from way new next rest last in
+    let on : written_from way new w.names (map place_view (drop i places)) last ≡ p.before ++ (fate_bytes f p ++ behind) =
+    at_drop_more (λ (ps : List CodePlace). written_from way new w.names (map place_view ps) last) places i d h
+    ∙ ap (λ (g : Fate). p.before ++ (fate_bytes g p ++ written_from way new (seen_behind g p w.names) rest last)) (sym is) in
+    let all : wrote ++ behind ≡ out ++ (p.before ++ (fate_bytes f p ++ behind)) =
+    ap (λ (t : List ℕ). t ++ behind) (back ∙ ap (λ (t : List ℕ). t ++ fate_bytes f p) front) ∙ simp append_assoc in
+    record {
+      names = next;
+      sees = sees w.names w.sees;
+      whole = all ∙ (ap (λ (t : List ℕ). out ++ t) (sym on) ∙ w.whole);
+    }
+
+-- all are written
+pub writes_all : (way : Way) (new : NewTexts) (last : List ℕ) (places : List CodePlace) (i : ℕ) (out : List ℕ) (seen : Texts) →
+    length places ≤ i → Writes way new last places i out seen → out ++ last ≡ written_from way new [] (map place_view places) last
+unfolding written_from
+writes_all way new last places i out seen h w =
+    ap (λ (t : List ℕ). out ++ t) (sym (at_drop_all (λ (ps : List CodePlace). written_from way new w.names (map place_view ps) last) places i h)) ∙ w.whole
+
+no_names : (t : Texts) → ((name : List ℕ) → text_in t name ≡ None) → Sees t []
+no_names t h = record { same = λ name. ap is_some (h name) }
+
+-- none is written
+pub writes_none : (way : Way) (new : NewTexts) (last : List ℕ) (places : List CodePlace) (out : List ℕ) (seen : Texts) →
+    out ≡ [] → ((name : List ℕ) → text_in seen name ≡ None) → Writes way new last places 0 out seen
+writes_none way new last places out seen e h = record {
+  names = [];
+  sees = no_names seen h;
+  whole = ap (λ (t : List ℕ). t ++ written_from way new [] (map place_view places) last) e;
+}
+
+pub some_mapped : {A B : Type 0} (f : A → B) (o : Option A) → is_some o ≡ is_some (option_map f o)
+some_mapped f None = refl
+some_mapped f (Some x) = refl
+
+-- what becomes of the next place
+pub fate_known : (way : Way) (new : NewTexts) (ps : List Place) (r seen : Texts) (names : List (List ℕ)) (places : List CodePlace) (i : ℕ) (d : CodePlace)
+    (f : Fate) (was : Bool) (got text : Option (Bor (List ℕ))) → Refuses new ps r → Sees seen names →
+    option_map (λ (t : Bor (List ℕ)). t.now) got ≡ text_in seen (get_or places i d).name.now → was ≡ is_some got →
+    option_map (λ (t : Bor (List ℕ)). t.now) text ≡ cond (has_text r (get_or places i d).name.now) None (new (get_or places i d).name.now) →
+    f ≡ fate_by way was (option_map (λ (t : Bor (List ℕ)). t.now) text) →
+    f ≡ fate_of way names (place_view (get_or places i d)) (standing new ps (get_or places i d).name.now)
+fate_known way new ps r seen names places i d f was got text refuses sees gets is stands by =
+    let name = (get_or places i d).name.now in
+    let was_seen : was ≡ is_seen names name = is ∙ (some_mapped (λ (t : Bor (List ℕ)). t.now) got ∙ (ap is_some gets ∙ sees.same name)) in
+    let new_text : option_map (λ (t : Bor (List ℕ)). t.now) text ≡ standing new ps name = stands ∙ ap (λ (b : Bool). cond b None (new name)) (refuses name) in
+    by ∙ (ap (λ (b : Bool). fate_by way b (option_map (λ (t : Bor (List ℕ)). t.now) text)) was_seen ∙ ap (fate_by way (is_seen names name)) new_text)

@@ -1,0 +1,64 @@
+use Rattle.std.proofs.Common.{◌≡◌, ◌++◌, ◌∷◌, [], ℕ, List, Some, None, drop, map, refl, sym, ap, subst, ◌∙◌}
+use Rattle.std.specs.Option.{option_map}
+use Rattle.std.proofs.lemmas.List.{map-append}
+use Rattle.t1_document.specs.declared.documents.Place.{Place as CodePlace}
+use Rattle.t1_document.specs.Stretches.{stretches}
+use Rattle.t1_document.specs.Documents.{none_open, open_behind, next_mark, placed, place_at}
+use Rattle.t1_document.specs.Views.{font_view, place_view, stretch_view}
+use Rattle.t1_document.proofs.StretchLemmas.{front_len}
+use Rattle.t1_document.proofs.DocumentSteps.{Walks, Comes, walk_starts, walk_past, walk_place, walk_ends, walks_same}
+use Rattle.t1_document.proofs.documents.read_document.Goals as goal
+use Rattle.t1_document.proofs.documents.read_document.Goals.{in-Some-2+in_ok-push, in_default-2}
+
+pub split_at-requires : goal.split_at-requires
+split_at-requires c = rw c.unmarked_len.ensures (front_len c.args.text.now)
+
+pub stretches-init : goal.stretches-init
+stretches-init c =
+    let text = c.args.text.now in
+    let rest = c.split_at.result.1.now in
+    let start = walk_starts text rest (c.split_at.ensures.back ∙ ap (λ (n : ℕ). drop n text) c.unmarked_len.ensures) in
+    subst (λ (ps : List CodePlace). Walks text text rest none_open (map place_view ps)) (sym c.new-places.ensures.items) start
+
+pub stretches-preserved : goal.stretches-preserved
+stretches-preserved c =
+    let text = c.args.text.now in
+    let here = c.stretches.here.now in
+    let rest = c.stretches.rest.now in
+    let behind = c.in-Some.behind.now in
+    let s = stretch_view c.in-Some.stretch in
+    let o = c.stretches.around in
+    let items = c.stretches.places.items in
+    let done = map place_view items in
+    let comes : Comes rest behind s = record {
+      first = c.in-Some.ensures.first;
+      whole = c.in-Some.ensures.whole;
+      none = c.in-Some.ensures.behind;
+      shorter = c.in-Some.ensures.shorter;
+    } in
+    let found : option_map (λ f. placed o s (font_view f)) c.in_ok-font.field-0 ≡ place_at o s (next_mark (stretches behind).1) =
+    c.in_ok-font.ensures ∙ ap (place_at o s) c.mark_at.ensures in
+    elim c.match-branch-2.branch [
+      | in-Some-2+in_ok-push w ↦
+          let p = placed o s (font_view w.in-Some-2.font) in
+          let before = w.split_at-in-Some-2.result.0.now in
+          let is : place_at o s (next_mark (stretches behind).1) ≡ Some p =
+          sym found ∙ ap (option_map (λ f. placed o s (font_view f))) w.in-Some-2.is in
+          let pushed : map place_view c.match-branch-2.places.items ≡ done ++ record p { before = before } ∷ [] =
+          ap (λ v. map place_view v.items) w.places-is ∙ (ap (map place_view) w.in_ok-push.ensures.items ∙ map-append place_view items (_ ∷ [])) in
+          walks_same text behind c.match-branch-2.here.now behind (open_behind o s.mark) c.behind-around.result
+          (done ++ record p { before = before } ∷ []) (map place_view c.match-branch-2.places.items)
+          (ap (λ h. h.now) w.here-is) c.behind-around.ensures pushed
+          (walk_place text here rest behind o done s p before c.stretches.invariant comes is refl w.split_at-in-Some-2.ensures.front)
+      | in_default-2 w ↦
+          let none : place_at o s (next_mark (stretches behind).1) ≡ None = sym found ∙ ap (option_map (λ f. placed o s (font_view f))) w.in_default-2.is in
+          walks_same text here c.match-branch-2.here.now behind (open_behind o s.mark) c.behind-around.result done
+          (map place_view c.match-branch-2.places.items)
+          (ap (λ h. h.now) w.here-is) c.behind-around.ensures (ap (λ v. map place_view v.items) w.places-is)
+          (walk_past text here rest behind o done s c.stretches.invariant comes none)
+    ]
+
+pub returns : goal.returns
+returns c =
+    sym (walk_ends c.args.text.now c.stretches.here.now c.stretches.rest.now c.stretches.around (map place_view c.stretches.places.items)
+    c.stretches.invariant c.in_default.ensures.first)

@@ -1,0 +1,8 @@
+use Rattle.std.proofs.Common.{◌≡◌, ℕ, List, take, map}
+use Rattle.t1_document.specs.Rewriting.{is_refused}
+use Rattle.t1_document.specs.Texts.{text_in, has_text}
+use Rattle.t1_document.specs.Views.{place_view}
+use Rattle.t1_document.proofs.rewriting.refused.Given as goal
+
+abbrev pub invariant-places : goal.invariant-places
+invariant-places l = (name : List ℕ) → has_text l.refused name ≡ is_refused (text_in l.new) (map place_view (take l.place-index l.places)) name
