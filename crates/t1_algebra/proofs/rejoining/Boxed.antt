@@ -213,7 +213,8 @@ module _ (f : FontValue) (h : IsFont f) (ts : List Truncated) (w : AllByRecursio
     merges = λ g p. subst (λ (j : FontValue). MergesTo g j) rejoined_same
         (r.merges g (subst (λ (fs : List FontValue). IsPermutation fs (leaves g)) (sym even_same) p));
     draws = λ n k. subst (λ (j : FontValue). DrawsAlike f j n) rejoined_same
-        (draws_as (even_rejoined boxed_font boxed_cuts) n (r.draws n (ap (λ (s : List Names). sets.contains (keep profile f (union_all s)) n) (same_sets ts) ∙ k)));
+        (draws_as (even_rejoined boxed_font boxed_cuts) n
+        (r.draws n (ap (λ (s : List Names). sets.contains (keep profile f (union_all s)) n) (same_sets ts) ∙ k)));
   }
 
 -- ---- truncated subsets rejoin
