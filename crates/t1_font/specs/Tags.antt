@@ -1,8 +1,7 @@
 -- Tags of subsets: six capitals and `+` before the name of a font (ISO 32000-1, 9.6.4), and texts without them.
-use Rattle.std.specs.Prelude.{ℕ, zero, suc, ◌&&◌, not, nat_le, nat_lt, Bool, List, length, codes, Option, Some, None, if◌then◌else◌}
+use Rattle.std.specs.Prelude.{ℕ, zero, suc, ◌&&◌, not, nat_le, nat_lt, Bool, List, length, codes, Option, Some, None, is_some, if◌then◌else◌}
 use Rattle.std.specs.List.{list_all}
 use Rattle.std.specs.Option.{option_and_then, option_map}
-use Rattle.std.specs.Str.{bytes_eq}
 use Rattle.std.proofs.Common.{ap}
 use Rattle.t1_grammar.specs.Grammar.{Grammar, ◌>>◌, that, count, fixed, first, choice, Begins}
 use Rattle.t1_bytes.specs.White.{white}
@@ -64,16 +63,16 @@ tagged_name x = option_and_then if_tagged (font_name x)
 
 -- ---- texts without it
 
--- this name loses its tags, and any other word stays
+-- a word that begins with this name loses its tags, and any other word stays
 abbrev pub renamed : List ℕ → List ℕ → List ℕ
-renamed name word = if bytes_eq name word then untagged name else word
+renamed name word = if is_some ((fixed name).read word) then untagged word else word
 
--- each word that is this name loses its tags; other words, and what stands between words, stay
+-- each word that begins with this name loses its tags; other words, and what stands between words, stay
 abbrev pub untagged_piece : List ℕ → Piece
 untagged_piece name text =
     if regular_comes text then (renamed name (parted is_regular text).0, (parted is_regular text).1) else parted (λ b. not (is_regular b)) text
 
--- a text in which this name has lost its tags wherever it stands as a word
+-- a text in which this name has lost its tags wherever a word begins with it
 abbrev pub text_untagged : List ℕ → List ℕ → List ℕ
 text_untagged name text = rewritten (untagged_piece name) text
 

@@ -75,8 +75,8 @@ impl Source {
     ///
     /// Each longest run of blanks, tabs, CR and LF becomes one LF if it has CR or LF, else one blank; runs within strings, too,
     /// which draw nothing. Then lines of the head, of the clear tail and of the private text that number the font (`/UniqueID`,
-    /// `/XUID`) go, where a name or `currentdict` follows. Then the font's name loses its tags wherever it stands as a word of
-    /// the head or of the clear tail; it is what stands behind the first `/FontName`, white space and a slash of the head, or
+    /// `/XUID`) go, where a name or `currentdict` follows. Then the font's name loses its tags in each word of the head
+    /// and of the clear tail that begins with it; it is what stands behind the first `/FontName`, white space and a slash of the head, or
     /// else of the clear tail.
     ///
     /// A step is taken where its results are again texts of a font, and stay when it and those before it are tried again. So a font

@@ -25,7 +25,7 @@ use t1_bytes::texts::fixed_at;
 pub(crate) enum Step<'a> {
     /// Lines that number the font go.
     Unnumbered,
-    /// This name loses its tags wherever it stands as a word.
+    /// Words that begin with this name lose its tags.
     Untagged(&'a [u8]),
 }
 
@@ -320,11 +320,15 @@ fn break_len(text: &[u8]) -> usize
     text.iter().take_while(|b| !is_regular(**b)).count()
 }
 
-/// A word, without its tags if it is this name.
+/// A word, without its tags if it begins with this name.
 fn renamed<'a>(name: &'a [u8], word: &'a [u8]) -> &'a [u8]
     ensures { result.now ≡ renamed name.now word.now }
 {
-    if name == word { untagged(name) } else { word }
+    if fixed_at(word, name).is_some() {
+        untagged(word)
+    } else {
+        word
+    }
 }
 
 /// The first word of a text, or what stands between words, and what stands behind it.

@@ -1,14 +1,12 @@
 -- Texts that are rewritten piece by piece: each piece has bytes, and what is put in its place is no longer.
-use Rattle.std.proofs.Common.{◌≡◌, ◌⊎◌, ◌&&◌, ◌||◌, ℕ, zero, suc, ◌≤◌, ◌<◌, arith, Bool, true, false, cond, List, [], ◌∷◌, ◌++◌, length, take, drop, Option, Some, None}
+use Rattle.std.proofs.Common.{◌≡◌, is_some, ◌⊎◌, ◌&&◌, ◌||◌, ℕ, zero, suc, ◌≤◌, ◌<◌, arith, Bool, true, false, cond, List, [], ◌∷◌, ◌++◌, length, take, drop, Option, Some, None}
 use Rattle.std.proofs.Common.{inl, inr, refl, sym, ap, subst, ◌∙◌, append_assoc, one-add, true≢false}
 use Rattle.std.specs.Prelude.{◌==◌, not}
 use Rattle.std.specs.List.{prefix_len, list_any}
-use Rattle.std.specs.Str.{bytes_eq}
 use Rattle.std.proofs.lemmas.Bool.{eqb-true}
 use Rattle.std.proofs.lemmas.List.{length-append, append-nil, length-drop, take-append-drop}
-use Rattle.std.proofs.lemmas.Slice.Eq.{bytes_eq-Decides}
 use Rattle.t1_bytes.specs.Laws.{AreBytes}
-use Rattle.t1_grammar.specs.Grammar.{Grammar, Lacks, unread}
+use Rattle.t1_grammar.specs.Grammar.{Grammar, Lacks, fixed, unread}
 use Rattle.t1_grammar.specs.Places.{occurs, absent_lacks}
 use Rattle.t1_bytes.specs.Eexec.{is_blank, blank_comes}
 use Rattle.t1_font.specs.declared.rewriting.Step.{Step}
@@ -143,19 +141,18 @@ squeezed_takes b bs = by_first (is_blank b) refl
         }
     by_first false e = own_part is_solid b bs (not_so (is_blank b) e)
 
--- a name is not shorter than what stands behind its tags
+-- a word is not shorter than what stands behind its tags
 renamed_shrinks : (name word : List ℕ) → Shrinks word (renamed name word)
-renamed_shrinks name word = by_same (bytes_eq name word) refl
+renamed_shrinks name word = by_test (is_some ((fixed name).read word))
   where
-    by_same : (x : Bool) → bytes_eq name word ≡ x → Shrinks word (cond x (untagged name) word)
-    by_same true e =
-        let same : name ≡ word = (bytes_eq-Decides name word).0 e in
-        let ends = ends_untagged (length name) name in
+    by_test : (x : Bool) → Shrinks word (cond x (untagged word) word)
+    by_test true =
+        let ends = ends_untagged (length word) word in
         record {
-          short = omega (arith, ap length ends.1, length-append ends.0 (untagged name), ap length same);
-          bytes = λ h. bytes_right ends.0 (untagged name) (subst AreBytes (sym same ∙ ends.1) h);
+          short = omega (arith, ap length ends.1, length-append ends.0 (untagged word));
+          bytes = λ h. bytes_right ends.0 (untagged word) (subst AreBytes ends.1 h);
         }
-    by_same false e = record { short = omega arith; bytes = λ h. h }
+    by_test false = record { short = omega arith; bytes = λ h. h }
 
 -- a word, or what stands between words
 pub untagged_takes : (name : List ℕ) → TakesPieces (untagged_piece name)

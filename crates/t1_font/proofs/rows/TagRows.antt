@@ -48,15 +48,15 @@ second_name : without_tags (codes "/FontName dup /FontName /ABCDEF+Tiny def", []
 unfolding first_at tag name_marker behind_tags
 second_name = refl
 
--- the name loses its tag wherever it stands as a word, also in the first line
+-- the name loses its tag wherever a word begins with it, also in the first line
 everywhere : without_tags (codes "%!PS-AdobeFont-1.0: ABCDEF+Tiny 1 /FullName (ABCDEF+Tiny) /FontName /ABCDEF+Tiny def", codes " % ABCDEF+Tiny")
     ≡ (codes "%!PS-AdobeFont-1.0: Tiny 1 /FullName (Tiny) /FontName /Tiny def", codes " % Tiny")
 unfolding first_at tag name_marker behind_tags
 everywhere = refl
 
--- a longer word is another name, and so is one with another tag
+-- so does a longer word, as where a version follows at once; within a word it stays, and so does a name with another tag
 elsewhere : without_tags (codes "ABCDEF+TinyBold XABCDEF+Tiny GHIJKL+Tiny /FontName /ABCDEF+Tiny def", [])
-    ≡ (codes "ABCDEF+TinyBold XABCDEF+Tiny GHIJKL+Tiny /FontName /Tiny def", [])
+    ≡ (codes "TinyBold XABCDEF+Tiny GHIJKL+Tiny /FontName /Tiny def", [])
 unfolding first_at tag name_marker behind_tags
 elsewhere = refl
 

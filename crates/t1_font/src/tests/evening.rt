@@ -165,9 +165,9 @@ fn heads_without_tags(rt: HostRuntime) -> Result<(), Fail> {
             "the name elsewhere",
         ),
         (
-            b"%ABCDEF+TT UVWXYZ+T\n/FontName /ABCDEF+T def ",
-            b"%ABCDEF+TT UVWXYZ+T\n/FontName /T def ",
-            "other names",
+            b"%ABCDEF+T003.002 AABCDEF+T UVWXYZ+T\n/FontName /ABCDEF+T def ",
+            b"%T003.002 AABCDEF+T UVWXYZ+T\n/FontName /T def ",
+            "a version behind the name, and other names",
         ),
         (
             b"/FontName /ABCDEF+ def ",
