@@ -91,7 +91,10 @@ fn after_blanks(bytes: &[u8]) -> &[u8]
 fn hex_or_white_len(bytes: &[u8]) -> usize
     ensures { result ≡ length (take_while hex_or_white bytes.now) }
 {
-    bytes.iter().take_while(|b| is_hex_digit(**b) || is_white(**b)).count()
+    bytes
+        .iter()
+        .take_while(|b| is_hex_digit(**b) || is_white(**b))
+        .count()
 }
 
 /// The hexadecimal digits and the white space of a cipher, and what stands after them: behind blanks, tabs, CR and LF the
