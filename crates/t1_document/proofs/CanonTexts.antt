@@ -146,6 +146,7 @@ module _ (f : FontValue) (inner : List ℕ) (h : IsFont f) (starts : f.shell.hea
 
 -- ---- where it can stand
 
+-- the canonical text of a font with such a head is found at the front of bytes
 pub canon_found : (f : FontValue) (name rest : List ℕ) → IsFont f → HasHead f name →
     font_in (canon_text f ++ rest) ≡ Some (record { name = name; text = canon_text f; rest = rest })
 canon_found f name rest h head = canon_is_font_text f head.inner h head.starts name rest head.named head.some
