@@ -8,7 +8,7 @@ use Rattle.std.proofs.lemmas.List.{length-append}
 use Rattle.hex.specs.Hex.{lower_digits, is_hex_digit}
 use Rattle.t1_grammar.specs.Grammar.{Grammar, Stops, run, either, all, before, pure, ◌>>=◌}
 use Rattle.t1_grammar.proofs.Grammars.{bind_read, that_read, run_read}
-use Rattle.t1_bytes.specs.Eexec.{is_blank, blank_comes, digit_value, paired, is_hex_text, hex_or_white, hex_cipher, has_four, cipher_text}
+use Rattle.t1_bytes.specs.Eexec.{is_blank, blank_comes, digit_value, paired, is_hex_text, hex_or_white, hex_text, hex_cipher, has_four, cipher_text}
 use Rattle.t1_bytes.specs.Texts.{hex_byte, hex_rest, hex_lines, zero_lines, trailer}
 use Rattle.t1_bytes.specs.Laws.{AreBytes, ReadsHexLines, ReadsBinary}
 
@@ -81,7 +81,7 @@ are_ok (b ∷ bs) h = let both = and_parts (hex_or_white b) (all_ok bs) h in (bo
 -- ---- what is read
 
 -- what of the trailer is taken for hexadecimal digits: the zeros and a `c`
-abbrev zeros : List ℕ
+abbrev pub zeros : List ℕ
 zeros = zero_lines 8 ++ codes "c"
 
 zeros_spell : spelled zeros ≡ replicate 256 0
@@ -133,19 +133,46 @@ lines_start [] more h long = absurd (omega arith)
 lines_start (a ∷ []) more h long = absurd (omega arith)
 lines_start (a ∷ b ∷ bs) more h long = starts_hex a b bs more h
 
+-- a cipher in lines, the zeros behind it and a `c`
+abbrev pub hex_run : List ℕ → List ℕ
+hex_run cipher = hex_lines cipher ++ zeros
+
+module _ (cipher rest : List ℕ) (long : 4 ≤ length cipher) (bytes : AreBytes cipher) (stops : Stops hex_or_white rest) where
+  run_regrouped : hex_run cipher ++ rest ≡ hex_lines cipher ++ (zeros ++ rest)
+  run_regrouped = append_assoc (hex_lines cipher) zeros rest
+
+  run_starts : is_hex_text (hex_run cipher ++ rest) ≡ true
+  run_starts = ap is_hex_text run_regrouped ∙ lines_start cipher (zeros ++ rest) bytes long
+
+  run_black : blank_comes (hex_run cipher ++ rest) ≡ false
+  run_black = ap blank_comes run_regrouped ∙ lines_black cipher (zeros ++ rest) bytes long
+
+  run_ok : AreHexOrWhite (hex_run cipher)
+  run_ok = both_ok (hex_lines cipher) zeros (lines_ok cipher bytes) (are_ok zeros refl)
+
+  -- they are read as the cipher and zeros, before a byte that is neither a digit nor white space
+  pub run_secret : cipher_text.read (hex_run cipher ++ rest) ≡ Some (cipher ++ replicate 256 0, rest)
+  run_secret =
+      let hex : hex_cipher.read (hex_run cipher ++ rest) ≡ Some (cipher ++ replicate 256 0, rest) =
+      hex_read (hex_run cipher) rest run_starts run_ok stops ∙ ap (λ (u : List ℕ). Some (u, rest)) (lines_again cipher zeros bytes) in
+      secret_read (hex_run cipher ++ rest) (cipher ++ replicate 256 0) rest run_black (either_first hex_cipher all (hex_run cipher ++ rest) _ hex)
+      (omega (arith, length-append cipher (replicate 256 0)))
+
+  -- behind a line end they are the digits of a cipher
+  pub run_digits : hex_text.read (10 ∷ (hex_run cipher ++ rest)) ≡ Some (hex_run cipher, rest)
+  unfolding hex_text
+  run_digits =
+      let text : List ℕ = hex_run cipher ++ rest in
+      bind_read (run is_blank) (λ _. before is_hex_text >>= λ _. run hex_or_white) (10 ∷ text) (10 ∷ []) text _
+      (run_read is_blank (10 ∷ []) text (refl, tt) (no_blanks text run_black))
+      (bind_read (before is_hex_text) (λ _. run hex_or_white) text tt text _ (before_read is_hex_text text run_starts)
+      (run_read hex_or_white (hex_run cipher) rest run_ok stops))
+
 pub lines_read : ReadsHexLines
 lines_read cipher long bytes =
     let rest : List ℕ = codes "leartomark" ++ 10 ∷ [] in
-    let text : List ℕ = hex_lines cipher ++ zeros in
-    let whole : text ++ rest ≡ hex_lines cipher ++ trailer = append_assoc (hex_lines cipher) zeros rest in
-    let value : spelled text ≡ cipher ++ replicate 256 0 = lines_again cipher zeros bytes in
-    let starts : is_hex_text (text ++ rest) ≡ true = ap is_hex_text whole ∙ lines_start cipher trailer bytes long in
-    let black : blank_comes (text ++ rest) ≡ false = ap blank_comes whole ∙ lines_black cipher trailer bytes long in
-    let hex : hex_cipher.read (text ++ rest) ≡ Some (cipher ++ replicate 256 0, rest) = hex_read text rest starts
-    (both_ok (hex_lines cipher) zeros (lines_ok cipher bytes) (are_ok zeros refl)) refl ∙ ap (λ (u : List ℕ). Some (u, rest)) value in
-    let secret : cipher_text.read (text ++ rest) ≡ Some (cipher ++ replicate 256 0, rest) = secret_read (text ++ rest)
-    (cipher ++ replicate 256 0) rest black (either_first hex_cipher all (text ++ rest) _ hex) (omega (arith, length-append cipher (replicate 256 0))) in
-    cipher_text.takes (hex_lines cipher ++ trailer) (cipher ++ replicate 256 0, rest) (ap cipher_text.read (sym whole) ∙ secret)
+    let whole : hex_run cipher ++ rest ≡ hex_lines cipher ++ trailer = append_assoc (hex_lines cipher) zeros rest in
+    cipher_text.takes (hex_lines cipher ++ trailer) (cipher ++ replicate 256 0, rest) (ap cipher_text.read (sym whole) ∙ run_secret cipher rest long bytes refl)
 
 pub binary_read : ReadsBinary
 binary_read cipher long black plain =

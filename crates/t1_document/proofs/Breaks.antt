@@ -27,6 +27,7 @@ breaks-same (c ∷ []) (a ∷ us) [] h = absurd h
 breaks-same (c ∷ []) (a ∷ us) (b ∷ bs) h = rw h refl
 breaks-same (c ∷ d ∷ x) a b h = breaks-same (d ∷ x) a b h
 
+-- the same text before both
 pub same-append : (t a b : List ℕ) → SameStart a b → SameStart (t ++ a) (t ++ b)
 same-append [] a b h = h
 same-append (c ∷ t) a b h = refl

@@ -40,6 +40,7 @@ pub record Walks (text here rest : List ℕ) (o : Open) (done : List Place) : Ty
   pub documents : o.documents + length rest ≤ length text
   pub raw : o.raw + length rest ≤ length text
 
+-- at the start of a text, behind what stands before its first mark
 pub walk_starts : (text rest : List ℕ) → rest ≡ drop (length (stretches text).0) text → Walks text text rest none_open []
 unfolding document_of
 walk_starts text rest e =

@@ -32,6 +32,7 @@ pub record Shaped (bytes : List ℕ) (rest : List ℕ) : Type 0 where
   pub front : List ℕ
   pub ends : own ≡ front ++ codes "leartomark"
 
+-- what is read has the shape
 pub shaped : (bytes : List ℕ) (x : List ℕ × List ℕ) → font_shape.read bytes ≡ Some x → Shaped bytes x.1
 unfolding font_shape
 shaped bytes x e =
@@ -59,6 +60,7 @@ parted_is bytes own rest e =
     let n : length bytes - length rest ≡ length own = omega (arith, ap length e, length-append own rest) in
     ap (λ (k : ℕ). take k bytes) n ∙ (ap (take (length own)) e ∙ take_at own rest (length own) refl)
 
+-- and the bytes behind it are the rest
 pub left_is : (bytes own rest : List ℕ) → bytes ≡ own ++ rest → drop (length bytes - length rest) bytes ≡ rest
 left_is bytes own rest e =
     let n : length bytes - length rest ≡ length own = omega (arith, ap length e, length-append own rest) in
@@ -119,14 +121,17 @@ ShapeLeaves bytes rest = option_map (λ (x : List ℕ × List ℕ). x.1) (font_s
 shape_of : (bytes rest : List ℕ) → ShapeLeaves bytes rest → Shaped bytes rest
 shape_of bytes rest e = let found = found_rest (font_shape.read bytes) rest e in shaped bytes (found.0, rest) found.1
 
+-- what is left is no longer than the bytes
 pub left_within : (bytes rest : List ℕ) → ShapeLeaves bytes rest → length rest ≤ length bytes
 left_within bytes rest e = let s = shape_of bytes rest e in omega (arith, ap length s.whole, length-append s.own rest)
 
+-- a text of the shape is no PFB
 pub shape_plain : (bytes rest : List ℕ) → ShapeLeaves bytes rest → starts_segment (take (length bytes - length rest) bytes) ≡ false
 shape_plain bytes rest e =
     let s = shape_of bytes rest e in
     ap starts_segment (parted_is bytes s.own rest s.whole ∙ s.starts)
 
+-- what is found in bytes that begin with the shape is made of the text before what is left
 pub font_in_is : (bytes rest : List ℕ) → ShapeLeaves bytes rest →
     font_in bytes ≡ if_font (take (length bytes - length rest) bytes, drop (length bytes - length rest) bytes)
 unfolding font_in
@@ -155,6 +160,7 @@ named_font x f e = by_name (spelled_name x.0) refl e
         let same : ◌≡◌ {A = FontText} (record { name = name; text = x.0; rest = x.1 }) f = same_Some (record { name = name; text = x.0; rest = x.1 }) f k in
         (ap (λ (g : FontText). (g.text, g.rest)) same, h ∙ ap (λ (g : FontText). Some g.name) same)
 
+-- what is found is so
 pub font_stands : (bytes : List ℕ) (f : FontText) → font_in bytes ≡ Some f → Stands bytes f
 unfolding font_in
 font_stands bytes f e = option_and_then_some (λ x. if_font (parted_at bytes x)) (font_shape.read bytes) f e (λ x h k.

@@ -35,6 +35,7 @@ pub record Passed (bytes : List ℕ) (len n k : ℕ) : Type 0 where
   pub within : len + k ≤ length bytes
   pub before : (len + k) + length (stretches (drop (len + k) bytes)).0 ≡ n
 
+-- past a line that is no mark
 pub front_more : (bytes : List ℕ) (len n : ℕ) → len < length bytes → len + length (stretches (drop len bytes)).0 ≡ n →
     is_some (mark_of (line_of (drop len bytes)).0) ≡ false → Passed bytes len n (length (line_of (drop len bytes)).0)
 front_more bytes len n room so_far absent =
@@ -70,6 +71,7 @@ pub record First (bytes line text behind : List ℕ) (m : Mark) : Type 0 where
   pub none : (stretches behind).0 ≡ []
   pub shorter : length behind < length bytes
 
+-- the stretch of a first line that is a mark, and of the text behind it
 pub stretch_first : (bytes line rest text behind : List ℕ) (m : Mark) → (line, rest) ≡ line_of bytes → mark_of line ≡ Some m →
     text ≡ take (length (stretches rest).0) rest → behind ≡ drop (length (stretches rest).0) rest → First bytes line text behind m
 stretch_first bytes line rest text behind m parts mark front back =

@@ -98,6 +98,7 @@ follow_document f (s ∷ ss) y balanced part =
     ∙ ap (λ (o : Open). followed (document_from none_open (s ∷ ss)) (prepended y.0 (document_from o y.1))) balanced)
     ∙ prepended_followed f (document_from none_open (s ∷ ss)) (document_of_stretches y)
 
+-- the document of both
 pub joined_documents : (a b : List ℕ) → breaks a b ≡ true → IsClosed a → document_of (a ++ b) ≡ followed (document_of a) (document_of b)
 unfolding document_of
 joined_documents a b h closed =

@@ -71,6 +71,7 @@ none_refused new d e name h k =
     list_any-append (λ p. bytes_eq name p.name && is_barred (new p.name) p) d.places (prepended d.last e).places
     ∙ (ap (λ (b : Bool). b || is_refused new (prepended d.last e).places name) h ∙ (refused_behind new name d.last e.places e.last ∙ k))
 
+-- both levelled are each levelled
 pub levelled_apart : (new : NewTexts) (a b : List ℕ) → breaks a b ≡ true → IsClosed a → NoneRefused new a → NoneRefused new b →
     levelled new (a ++ b) ≡ levelled new a ++ levelled new b
 levelled_apart new a b h closed none_a none_b =

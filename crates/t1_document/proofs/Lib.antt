@@ -14,3 +14,4 @@ pub mod Pooled
 pub mod OwnTexts
 pub mod JoinedDocuments
 pub mod LevelledApart
+pub mod CanonTexts

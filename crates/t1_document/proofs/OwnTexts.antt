@@ -56,6 +56,7 @@ from_own o (s ∷ ss) each =
     let behind = open_behind o s.mark in
     step_own o s (next_mark ss) (document_from behind ss) each.0.unmarked (from_own behind ss each.1) (place_at o s (next_mark ss)) refl
 
+-- each place of a text can have its own text
 pub own_texts_stand : (text : List ℕ) → AllByRecursion Own (document_of text).places
 unfolding document_of
 own_texts_stand text =
@@ -76,6 +77,7 @@ all_stay new all (p ∷ ps) h =
     ap (λ (q : Place). q ∷ map (renewed (standing new all)) ps) (new_is_own (is_refused new all p.name) new p h.0)
     ∙ ap (λ (qs : List Place). p ∷ qs) (all_stay new all ps h.1)
 
+-- a document that is to have its own texts stays
 pub own_texts_stay : (new : NewTexts) (text : List ℕ) → AllByRecursion (HasNew new) (document_of text).places → levelled new text ≡ text
 own_texts_stay new text h =
     let d = document_of text in

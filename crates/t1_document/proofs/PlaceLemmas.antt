@@ -13,6 +13,7 @@ use Rattle.t1_document.proofs.FontLemmas.{font_stands}
 
 -- ---- a stretch that is a place
 
+-- the font text of a stretch that is a place
 pub record IsPlace (o : Open) (s : Stretch) (next : Option Mark) (p : Place) : Type 0 where
   pub font : FontText
   pub test : (encloses s.mark next && (o.raw == 0)) ≡ true
@@ -27,6 +28,7 @@ if_some : {A : Type 0} (test : Bool) (o : Option A) (y : A) → cond test o None
 if_some true o y e = (refl, e)
 if_some false o y e = absurd (none-some y e)
 
+-- a place has one
 pub is_place : (o : Open) (s : Stretch) (next : Option Mark) (p : Place) → place_at o s next ≡ Some p → IsPlace o s next p
 is_place o s next p e =
     let t = if_some (encloses s.mark next && (o.raw == 0)) (option_map (placed o s) (font_in s.text)) p e in
@@ -42,6 +44,7 @@ place_whole o s next p e =
 
 -- ---- the bytes of documents
 
+-- bytes before a document are the first of its bytes
 pub prepended_bytes : (b : List ℕ) (d : Document) → document_bytes (prepended b d) ≡ b ++ document_bytes d
 prepended_bytes b d = by_places d.places d.last
   where
@@ -60,6 +63,7 @@ stretch_bytes o s next d behind same (Some p) e =
     let own : place_bytes p ≡ s.line ++ s.text = rw (w.0, w.1) refl in
     append_assoc (place_bytes p) _ d.last ∙ (ap (λ (t : List ℕ). place_bytes p ++ t) same ∙ ap (λ (t : List ℕ). t ++ behind) own)
 
+-- the bytes of the document of stretches are those of the stretches
 pub from_bytes : (o : Open) (ss : List Stretch) → document_bytes (document_from o ss) ≡ bytes_of ss
 unfolding document_from
 from_bytes o [] = refl

@@ -137,11 +137,13 @@ module _ (last : List ℕ) where
             others (seen_behind (Becomes t) p seen),
           )
 
+-- what is pooled are places so
 pub pools_all : (new : NewTexts) (d : Document) → ArePooled (standing new d.places) (rewritten Pool new d).places
 pools_all new d = left_pooled d.last (standing new d.places) [] d.places
 
 -- ---- pooled twice
 
+-- with other bytes before it a place bars what it barred
 pub refused_behind : (new : NewTexts) (name b : List ℕ) (ps : List Place) (last : List ℕ) →
     is_refused new (behind_bytes b ps last).places name ≡ is_refused new ps name
 refused_behind new name b [] last = refl
@@ -227,6 +229,7 @@ module _ (last : List ℕ) (new other : NewTexts) (same : (name : List ℕ) → 
           (others (seen_behind (Becomes t) p seen) (lacks_more seen p ps t e all lack))
           ∙ ap (λ (u : List ℕ). record { places = record p { text = u } ∷ ps; last = last }) (sym (all.0 t e).0))
 
+-- to pool twice is to pool once
 pub pooled_twice : (new : NewTexts) (text : List ℕ) → pooled new (pooled new text) ≡ pooled new text
 pooled_twice new text =
     let d = document_of text in

@@ -23,6 +23,7 @@ use Rattle.t1_document.proofs.Breaks.{SameStart, breaks-same, same-append, ends_
 
 -- ---- a text that can stand
 
+-- what is not so is false
 pub not_true : (b : Bool) → not b ≡ true → b ≡ false
 not_true true h = absurd cc
 not_true false h = refl
@@ -39,10 +40,12 @@ font_is name text rest (Some f) h =
     ∙ (ap (λ (k : List ℕ). Some (record { name = name; text = k; rest = f.rest })) t
     ∙ ap (λ (k : List ℕ). Some (record { name = name; text = text; rest = k })) r)
 
+-- a text that can stand brings no mark
 pub stands_unmarked : (text : List ℕ) (p : Place) → can_stand text p ≡ true → has_mark (text ++ p.rest) ≡ false
 stands_unmarked text p h =
     not_true (has_mark (text ++ p.rest)) (and_parts (not (has_mark (text ++ p.rest))) (is_font p.name text p.rest (font_in (text ++ p.rest))) h).0
 
+-- and it is found again
 pub stands_font : (text : List ℕ) (p : Place) → can_stand text p ≡ true →
     font_in (text ++ p.rest) ≡ Some (record { name = p.name; text = text; rest = p.rest })
 stands_font text p h =
@@ -54,6 +57,7 @@ abbrev pub AllStand : NewTexts → List Place → Type 0
 AllStand new [] = Unit {0}
 AllStand new (p ∷ ps) = ((text : List ℕ) → new p.name ≡ Some text → can_stand text p ≡ true) × AllStand new ps
 
+-- that holds of the places without the bytes before them
 pub all_behind : (new : NewTexts) (b : List ℕ) (d : Document) → AllStand new (prepended b d).places → AllStand new d.places
 all_behind new b d all = by_places d.places d.last all
   where
@@ -100,10 +104,12 @@ module _ (way : Way) (new : NewTexts) where
   told_line (Becomes text) p s = refl
   told_line Goes p s = refl
 
+  -- a stretch keeps its mark
   pub mark_same : (seen : List (List ℕ)) (q : Option Place) (s : Stretch) → (told_at seen q s).mark ≡ s.mark
   mark_same seen None s = refl
   mark_same seen (Some p) s = told_mark (fate seen p) p s
 
+  -- and its line
   pub line_same : (seen : List (List ℕ)) (q : Option Place) (s : Stretch) → (told_at seen q s).line ≡ s.line
   line_same seen None s = refl
   line_same seen (Some p) s = told_line (fate seen p) p s
@@ -196,6 +202,7 @@ module _ (way : Way) (new : NewTexts) where
       told_document o s next p e is (fate seen p) (λ text h. all.0 text (becomes_new seen p (new p.name) text h))
       ∙ ap (at_fate (fate seen p) p) (others all.1)
 
+  -- the document of what stretches become is what their document becomes
   pub document_retold : (o : Open) (seen : List (List ℕ)) (ss : List Stretch) → AllStand new (document_from o ss).places →
       document_from o (retold o seen ss) ≡ rewritten_from way new seen (document_from o ss).places (document_from o ss).last
   unfolding retold document_from rewritten_from
@@ -297,6 +304,7 @@ module _ (way : Way) (new : NewTexts) where
   others_stand s None d all = all_behind new (s.line ++ s.text) d all
   others_stand s (Some p) d all = all.1
 
+  -- what stretches of a text become are stretches of a text
   pub are_retold : (o : Open) (seen : List (List ℕ)) (ss : List Stretch) → AreStretches ss → AllStand new (document_from o ss).places →
       AreStretches (retold o seen ss)
   unfolding retold document_from

@@ -20,6 +20,7 @@ use Rattle.t1_document.proofs.Retold.{AllStand, all_behind, told_at, seen_at, ma
 
 -- ---- the new texts that stand
 
+-- a name is itself
 pub same_bytes : (name : List ℕ) → bytes_eq name name ≡ true
 same_bytes name = (bytes_eq-Decides name name).1 refl
 
@@ -27,6 +28,7 @@ not_false : (b : Bool) → not b ≡ false → b ≡ true
 not_false true h = refl
 not_false false h = absurd cc
 
+-- a name with a text that stands is not refused
 pub where_stands : (refused : Bool) (o : Option (List ℕ)) (text : List ℕ) → cond refused None o ≡ Some text → (refused ≡ false) × (o ≡ Some text)
 where_stands true o text e = absurd (none-some text e)
 where_stands false o text e = (refl, e)
@@ -96,6 +98,7 @@ module _ (way : Way) (new : NewTexts) (text : List ℕ) where
   unfolding document_of
   document_is all = ap document_of_stretches (stretches_are all) ∙ sym (document_written all)
 
+-- what is written is read as it was meant
 pub rewritten_is_read : (way : Way) (new : NewTexts) (text : List ℕ) →
     document_of (document_bytes (rewritten way new (document_of text))) ≡ rewritten way new (document_of text)
 rewritten_is_read way new text =
@@ -114,6 +117,7 @@ told_lines way new o seen (s ∷ ss) =
     ∙ (ap (λ (l : List ℕ). (s.mark, l) ∷ rest) (line_same way new seen q s)
     ∙ ap (λ (ls : List (Mark × List ℕ)). (s.mark, s.line) ∷ ls) (told_lines way new (open_behind o s.mark) (seen_at way new seen q) ss))
 
+-- the marks stay, each in its line
 pub marks_stay : (way : Way) (new : NewTexts) (text : List ℕ) →
     mark_lines (stretches (document_bytes (rewritten way new (document_of text)))).1 ≡ mark_lines (stretches text).1
 marks_stay way new text =
@@ -129,6 +133,7 @@ fate_written (Becomes text) p d =
     append_assoc (p.before ++ (text ++ p.rest)) _ d.last ∙ append_assoc p.before (text ++ p.rest) (document_bytes d)
 fate_written Goes p d = prepended_bytes p.before d
 
+-- the bytes are those that are written place by place
 pub written_is : (way : Way) (new : NewTexts) (seen : List (List ℕ)) (ps : List Place) (last : List ℕ) →
     document_bytes (rewritten_from way new seen ps last) ≡ written_from way new seen ps last
 unfolding rewritten_from written_from
@@ -154,6 +159,7 @@ level_is new seen (p ∷ ps) last =
     level_fate seen p (new p.name) (rewritten_from Level new (seen_behind f p seen) ps last)
     ∙ ap (λ (d : Document). record { places = renewed new p ∷ d.places; last = d.last }) (level_is new (seen_behind f p seen) ps last)
 
+-- a levelled document has the new texts, and is else the same
 pub level_renews : (new : NewTexts) (d : Document) → rewritten Level new d ≡ record { places = map (renewed (standing new d.places)) d.places; last = d.last }
 level_renews new d = level_is (standing new d.places) [] d.places d.last
 
@@ -193,6 +199,7 @@ renewed_twice new other same (p ∷ ps) =
     ∙ (ap (λ (r : Place). r ∷ map (renewed other) (map (renewed new) ps)) (new_twice (new p.name) p)
     ∙ ap (λ (rs : List Place). q ∷ rs) (renewed_twice new other same ps))
 
+-- to level twice is to level once
 pub levelled_twice : (new : NewTexts) (text : List ℕ) → levelled new (levelled new text) ≡ levelled new text
 levelled_twice new text =
     let d = document_of text in

@@ -1,11 +1,18 @@
 -- Worked rows of the definitions, computed.
-use Rattle.std.proofs.Common.{◌≡◌, true, false, [], ◌∷◌, ◌++◌, Some, None, refl}
-use Rattle.std.specs.Prelude.{codes}
+use Rattle.std.proofs.Common.{◌≡◌, ℕ, true, false, List, [], ◌∷◌, ◌++◌, Some, None, refl}
+use Rattle.std.specs.Prelude.{codes, if◌then◌else◌}
 use Rattle.t1_document.specs.declared.marks.Side.TheVariants.{Begin, End}
 use Rattle.t1_document.specs.declared.marks.Kind.TheVariants.{Font, ProcSet, Resource, Document, Data, Binary}
+use Rattle.std.specs.Str.{bytes_eq}
+use Rattle.t1_document.specs.declared.marks.Side.{Side}
+use Rattle.t1_document.specs.declared.marks.Kind.{Kind}
+use Rattle.t1_document.specs.declared.marks.Mark.{Mark}
+use Rattle.t1_document.specs.declared.rewriting.Way.TheVariants.{Level, Pool}
+use Rattle.t1_document.specs.Documents.{Place, none_open, open_at_end, encloses}
+use Rattle.t1_document.specs.Rewriting.{NewTexts, rewritten_from, written_from}
 use Rattle.t1_document.specs.Lines.{lines_of, line_of, line_len, breaks}
 use Rattle.t1_document.specs.Marks.{mark_of, kind_of}
-use Rattle.t1_document.specs.Stretches.{stretches}
+use Rattle.t1_document.specs.Stretches.{Stretch, stretches}
 
 -- ---- lines
 
@@ -83,3 +90,55 @@ two_stretches = refl
 one_text : stretches (codes "%!" ++ 10 ∷ codes "showpage") ≡ (codes "%!" ++ 10 ∷ codes "showpage", [])
 unfolding stretches lines_of mark_of kind_of
 one_text = refl
+
+-- ---- what is open
+
+abbrev of : Kind → Side → Mark
+of kind side = record { side = side; kind = kind }
+
+abbrev stretch_of : Mark → Stretch
+stretch_of mark = record { mark = mark; line = []; text = [] }
+
+-- an end before any begin closes nothing, and data and binary data are counted together
+opened : open_at_end none_open (stretch_of (of Document End) ∷ stretch_of (of Document Begin) ∷ stretch_of (of Data Begin) ∷ stretch_of (of Binary Begin)
+    ∷ stretch_of (of Data End) ∷ stretch_of (of Font Begin) ∷ []) ≡ record { documents = 1; raw = 1 }
+opened = refl
+
+-- only the end of the same kind closes a part that may be a font
+closes_own : encloses (of Font Begin) (Some (of Font End)) ≡ true
+closes_own = refl
+
+closes_other : encloses (of Font Begin) (Some (of Resource End)) ≡ false
+closes_other = refl
+
+closes_documents : encloses (of Document Begin) (Some (of Document End)) ≡ false
+closes_documents = refl
+
+-- ---- new texts
+
+abbrev place_in : ℕ → List ℕ → List ℕ → Place
+place_in depth name text = record { before = codes "-"; kind = Font; depth = depth; name = name; text = text; rest = codes "." }
+
+abbrev three : List Place
+three = place_in 1 (codes "A") (codes "1") ∷ place_in 0 (codes "A") (codes "2") ∷ place_in 0 (codes "A") (codes "3") ∷ place_in 0 (codes "B") (codes "4") ∷ []
+
+abbrev only_a : NewTexts
+only_a name = if bytes_eq name (codes "A") then Some (codes "N") else None
+
+-- each place of A gets the new text, and B keeps its own
+all_get_it : written_from Level only_a [] three (codes "!") ≡ codes "-N.-N.-N.-4.!"
+unfolding written_from
+all_get_it = refl
+
+-- the place at depth 1 is not seen; behind the one at depth 0 the next one goes, with its rest
+one_goes : written_from Pool only_a [] three (codes "!") ≡ codes "-N.-N.--4.!"
+unfolding written_from
+one_goes = refl
+
+one_went : rewritten_from Pool only_a [] three (codes "!") ≡ record {
+  places = place_in 1 (codes "A") (codes "N") ∷ place_in 0 (codes "A") (codes "N")
+      ∷ record { before = codes "--"; kind = Font; depth = 0; name = codes "B"; text = codes "4"; rest = codes "." } ∷ [];
+  last = codes "!";
+}
+unfolding rewritten_from
+one_went = refl

@@ -34,6 +34,7 @@ any_mark lines = list_any (λ line. is_some (mark_of line)) lines
 unmarked_line : (line : List ℕ) (lines : List (List ℕ)) → mark_of line ≡ None → any_mark lines ≡ false → any_mark (line ∷ lines) ≡ false
 unmarked_line line lines e h = rw (e, h) refl
 
+-- there is no mark in no bytes
 pub none_in_nothing : has_mark [] ≡ false
 unfolding lines_of
 none_in_nothing = refl
@@ -191,6 +192,7 @@ mark_next t none = by_mark (mark_of (line_of t).0) refl
 pub front_whole : (t : List ℕ) → t ≡ (stretches t).0 ++ bytes_of (stretches t).1
 front_whole t = sym (stretches_joined t)
 
+-- it is no longer than the text
 pub front_len : (t : List ℕ) → length (stretches t).0 ≤ length t
 front_len t = omega (arith, ap length (front_whole t), length-append (stretches t).0 (bytes_of (stretches t).1))
 

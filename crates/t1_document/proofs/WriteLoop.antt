@@ -46,6 +46,7 @@ refused_more new places i d h name =
 abbrev pub Refuses : NewTexts → List Place → Texts → Type 0
 Refuses new ps r = (name : List ℕ) → has_text r name ≡ is_refused new ps name
 
+-- a place that bars nothing adds no name
 pub refused_stays : (new : NewTexts) (places : List CodePlace) (i : ℕ) (d : CodePlace) (r : Texts) (b : Bool) → i < length places →
     Refuses new (map place_view (take i places)) r → b ≡ is_barred (new (get_or places i d).name.now) (place_view (get_or places i d)) → b ≡ false →
     Refuses new (map place_view (take (i + 1) places)) r
@@ -61,6 +62,7 @@ put_more true v None = refl
 put_more true v (Some x) = refl
 put_more false v o = sym (or-false (is_some o))
 
+-- a place that bars its new text adds its name
 pub refused_grows : (new : NewTexts) (places : List CodePlace) (i : ℕ) (d : CodePlace) (r s : Texts) (b : Bool) → i < length places →
     Refuses new (map place_view (take i places)) r → b ≡ is_barred (new (get_or places i d).name.now) (place_view (get_or places i d)) → b ≡ true →
     ((other : List ℕ) → text_in s other ≡ cond (bytes_eq (get_or places i d).name.now other) (Some (get_or places i d).name.now) (text_in r other)) →
@@ -130,6 +132,7 @@ writes_none way new last places out seen e h = record {
   whole = ap (λ (t : List ℕ). t ++ written_from way new [] (map place_view places) last) e;
 }
 
+-- what is lent is there where its value is
 pub some_mapped : {A B : Type 0} (f : A → B) (o : Option A) → is_some o ≡ is_some (option_map f o)
 some_mapped f None = refl
 some_mapped f (Some x) = refl

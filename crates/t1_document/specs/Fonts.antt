@@ -1,12 +1,15 @@
 -- Font texts: fonts whose cipher is hexadecimal, as documents have them.
-use Rattle.std.specs.Prelude.{ℕ, ◌-◌, ◌==◌, Bool, true, false, List, length, take, get_or, codes, Option, Some, None, Result, Ok, Err, if◌then◌else◌}
+use Rattle.std.specs.Prelude.{ℕ, ◌-◌, ◌==◌, Bool, true, false, List, ◌++◌, length, take, get_or, codes, Option, Some, None, Result, Ok, Err, if◌then◌else◌}
 use Rattle.std.specs.Option.{option_and_then, option_map}
 use Rattle.t1_grammar.specs.Grammar.{Grammar, ◌>>◌, that, fixed, first}
 use Rattle.t1_bytes.specs.White.{has_bytes}
+use Rattle.t1_bytes.specs.Cipher.{private_cipher}
+use Rattle.t1_bytes.specs.Texts.{hex_lines, zero_lines}
 use Rattle.t1_bytes.specs.Eexec.{eexec_marker, hex_text}
 use Rattle.t1_font.specs.declared.fault.ReadFault.{ReadFault}
 use Rattle.t1_font.specs.declared.fault.ReadFault.TheVariants.{Memory}
 use Rattle.t1_font.specs.FontValue.{FontValue}
+use Rattle.t1_font.specs.Canon.{canon_clear, canon_private}
 use Rattle.t1_font.specs.ReadFont.{read_font_widely}
 use Rattle.t1_font.specs.Tags.{name_in}
 
@@ -65,3 +68,9 @@ if_font x = option_map (λ name. record { name = name; text = x.0; rest = x.1 })
 -- the font text that bytes begin with, and what follows it
 unfoldable pub font_in : List ℕ → Option FontText
 font_in bytes = option_and_then (λ x. if_font (parted_at bytes x)) (font_shape.read bytes)
+
+-- ---- canonical fonts
+
+-- the canonical font text of a font: its PFA without the line end behind `cleartomark`
+abbrev pub canon_text : FontValue → List ℕ
+canon_text f = canon_clear f ++ (hex_lines (private_cipher (canon_private f)) ++ (zero_lines 8 ++ codes "cleartomark"))

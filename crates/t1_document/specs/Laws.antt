@@ -1,13 +1,18 @@
 -- The laws of documents, each the contract of a function in `laws`.
-use Rattle.std.specs.Prelude.{◌≡◌, ◌⊎◌, ◌<◌, ℕ, List, [], ◌++◌, length, map, true, false, Some, None, Ok}
+use Rattle.std.specs.Prelude.{◌≡◌, ◌⊎◌, ◌<◌, ℕ, List, [], ◌∷◌, ◌++◌, codes, not, length, map, true, false, Some, None, Ok}
 use Rattle.std.specs.List.{AllByRecursion}
 use Rattle.t1_font.specs.FontValue.{FontValue}
+use Rattle.t1_bytes.specs.declared.form.Form.TheVariants.{Pfa}
+use Rattle.t1_font.specs.IsFont.{IsFont}
+use Rattle.t1_font.specs.Canon.{canon}
 use Rattle.t1_font.specs.ReadFont.{read_font_widely}
 use Rattle.t1_font.specs.Tags.{name_in}
 use Rattle.t1_document.specs.declared.rewriting.Way.{Way}
 use Rattle.t1_document.specs.declared.rewriting.Way.TheVariants.{Level, Pool}
 use Rattle.t1_document.specs.Lines.{breaks}
 use Rattle.t1_document.specs.Stretches.{Stretches, stretches, joined, mark_lines, AreThose}
+use Rattle.t1_document.specs.Marks.{has_mark}
+use Rattle.t1_document.specs.Fonts.{font_in, canon_text}
 use Rattle.t1_document.specs.Documents.{Place, Document, document_bytes, document_of, IsClosed, followed}
 use Rattle.t1_document.specs.Rewriting.{NewTexts, can_stand, is_refused, standing, rewritten, written_from, levelled, pooled, renewed, ArePooled}
 
@@ -76,6 +81,21 @@ HasNew new p = (new p.name ≡ None) ⊎ (new p.name ≡ Some p.text)
 -- where each place has its new text, levelling changes nothing
 abbrev pub OwnTextsStay : Type 0
 OwnTextsStay = (new : NewTexts) (text : List ℕ) → AllByRecursion (HasNew new) (document_of text).places → levelled new text ≡ text
+
+-- a font whose head begins with `%!` and has a name
+pub record HasHead (f : FontValue) (name : List ℕ) : Type 0 where
+  pub inner : List ℕ
+  pub starts : f.shell.head ≡ codes "%!" ++ inner
+  pub named : name_in f.shell.head ≡ Some name
+  pub some : 0 < length name
+
+-- The canonical text of such a font is its PFA without the last line end, and a font text of its name, whatever follows it. So it can stand at
+-- each place of this name, unless there is a mark in it.
+pub record CanonStands : Type 0 where
+  pub file : (f : FontValue) → canon f Pfa ≡ canon_text f ++ 10 ∷ []
+  pub found : (f : FontValue) (name rest : List ℕ) → IsFont f → HasHead f name →
+      font_in (canon_text f ++ rest) ≡ Some (record { name = name; text = canon_text f; rest = rest })
+  pub stands : (f : FontValue) (p : Place) → IsFont f → HasHead f p.name → can_stand (canon_text f) p ≡ not (has_mark (canon_text f ++ p.rest))
 
 -- to level twice is to level once
 abbrev pub LevelledTwice : Type 0

@@ -1,7 +1,7 @@
 //! Laws of documents.
 
 ghost use Rattle.t1_document.specs.Laws.{StretchesOfText, ReadAgain, DocumentOfText, PlacesSpell, JoinedDocuments};
-ghost use Rattle.t1_document.specs.Laws.{RewrittenIsRead, MarksStay, OthersStay, LevelRenews, OwnTextsStand, OwnTextsStay, LevelledTwice, LevelledApart, PoolsAll, PooledTwice};
+ghost use Rattle.t1_document.specs.Laws.{RewrittenIsRead, MarksStay, OthersStay, LevelRenews, CanonStands, OwnTextsStand, OwnTextsStay, LevelledTwice, LevelledApart, PoolsAll, PooledTwice};
 
 /// The stretches of a text, joined, are the text.
 pub fn stretches_of_text()
@@ -50,6 +50,12 @@ pub fn level_renews()
 pub fn own_texts_stay()
     ensures stand { OwnTextsStand }
     ensures stay { OwnTextsStay }
+{}
+
+/// The canonical text of a font whose head begins with `%!` and has a name, its PFA without the last line end, can stand at each
+/// place of that name, unless there is a mark in it.
+pub fn canon_stands()
+    ensures { CanonStands }
 {}
 
 /// To level twice with the same new texts is to level once.

@@ -12,11 +12,12 @@ use Rattle.t1_bytes.specs.Cipher.{private_cipher, private_text}
 use Rattle.t1_grammar.specs.Formats.{with_fault}
 use Rattle.t1_bytes.specs.FlatText.{starts_segment, flat_when}
 use Rattle.t1_font.specs.declared.fault.ReadFault.TheVariants.{BadSegment}
-use Rattle.t1_bytes.specs.Eexec.{cipher_text}
+use Rattle.t1_bytes.specs.Eexec.{eexec_marker, hex_or_white, hex_text, cipher_text}
+use Rattle.t1_bytes.specs.Laws.{AreBytes}
 use Rattle.t1_bytes.specs.Texts.{pfb_text, segment_text, hex_lines, trailer}
 use Rattle.t1_bytes.proofs.Ciphers.{decrypted_front, length-sealed}
-use Rattle.t1_grammar.specs.Grammar.{front_again}
-use Rattle.t1_bytes.proofs.HexLines.{lines_read, binary_read}
+use Rattle.t1_grammar.specs.Grammar.{Stops, first_at, front_again}
+use Rattle.t1_bytes.proofs.HexLines.{lines_read, binary_read, hex_run, run_secret, run_digits}
 use Rattle.t1_bytes.proofs.PfbLemmas.{pfb_flat}
 use Rattle.t1_font.specs.declared.dialect.Spacing.TheVariants.{White}
 use Rattle.t1_font.specs.declared.fault.ReadFault.{ReadFault}
@@ -155,6 +156,44 @@ round_trip f Pfb h fits =
     let p = canon_private f in
     file_again f (canon f Pfb) (private_cipher p ++ trailer) trailer [] h (binary_border p) (binary_cipher p)
     (canon_short f Pfb h) (joined_flat (canon_clear f) (private_cipher p) trailer (canon_short f Pfb h))
+
+-- ---- the font as a text that other bytes follow
+
+-- what stands behind the clear text, where these bytes follow
+abbrev pub run_before : FontValue → List ℕ → List ℕ
+run_before f rest = hex_run (private_cipher (canon_private f)) ++ rest
+
+run_border : (f : FontValue) (rest : List ℕ) → IsBorder (run_before f rest)
+run_border f rest = record {
+  white = refl;
+  current = (refl, (refl, (refl, (refl, (refl, (refl, (refl, (refl, (refl, (refl, (refl, tt)))))))))));
+  eexec = (refl, (refl, (refl, (refl, (refl, tt)))));
+  blank = refl;
+}
+
+-- the first marker ends the clear text
+pub marker_ends : (f : FontValue) (rest : List ℕ) → IsFont f →
+    (x : (List ℕ × List ℕ) × List ℕ) × (first_at eexec_marker (canon_clear f ++ run_before f rest) ≡ Some x) × (x.1 ≡ 10 ∷ run_before f rest)
+marker_ends f rest h =
+    let x = eexec_found f.shell.head (encoding_pieces f.encoding) f.shell.clear_tail (run_before f rest) h.clear.head_eexec
+    (encoding_writable f.encoding h.encoding) h.clear.tail_ends (run_border f rest) in
+    (x.0, ap (first_at eexec_marker) (clear_regrouped f (run_before f rest)) ∙ x.1, x.2)
+
+secret_bytes : (f : FontValue) → IsFont f → AreBytes (private_cipher (canon_private f))
+secret_bytes f h = cipher_bytes f (has_bytes f h)
+
+-- behind the marker the digits of the cipher are read, up to a byte that is neither a digit nor white space
+pub digits_behind : (f : FontValue) (rest : List ℕ) → IsFont f → Stops hex_or_white rest →
+    hex_text.read (10 ∷ run_before f rest) ≡ Some (hex_run (private_cipher (canon_private f)), rest)
+digits_behind f rest h stops = run_digits (private_cipher (canon_private f)) rest (four_lead (canon_private f)) (secret_bytes f h) stops
+
+-- it is read as the font, whatever such bytes follow
+pub read_before : (f : FontValue) (rest : List ℕ) → IsFont f → Stops hex_or_white rest → starts_segment (canon_clear f ++ run_before f rest) ≡ false →
+    length (canon_clear f ++ run_before f rest) ≤ file_limit → read_font (canon_clear f ++ run_before f rest) ≡ Ok f
+read_before f rest h stops plain short =
+    file_again f (canon_clear f ++ run_before f rest) (run_before f rest) (replicate 256 0) rest h (run_border f rest)
+    (run_secret (private_cipher (canon_private f)) rest (four_lead (canon_private f)) (secret_bytes f h) stops) short
+    (plain_flat (canon_clear f ++ run_before f rest) plain)
 
 -- fonts with one canonical file are one font
 pub one_canon : (f g : FontValue) (form : Form) → IsFont f → IsFont g → Fits form f → Fits form g → canon f form ≡ canon g form → f ≡ g
