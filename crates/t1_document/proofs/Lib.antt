@@ -15,3 +15,4 @@ pub mod OwnTexts
 pub mod JoinedDocuments
 pub mod LevelledApart
 pub mod CanonTexts
+pub mod OffsetLoop

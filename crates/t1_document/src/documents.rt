@@ -1,12 +1,14 @@
 //! A document as its places, which hold fonts, and the bytes before, between and behind them.
 
-ghost use Rattle.std.specs.Prelude.{◌≡◌, ◌+◌, ◌<◌, ◌^◌, [], IfOk};
+ghost use Rattle.std.specs.Prelude.{◌≡◌, ◌+◌, ◌<◌, ◌^◌, [], length, IfOk};
+ghost use Rattle.std.specs.List.{AllByRecursion};
 ghost use Rattle.std.specs.Option.{option_map};
 ghost use Rattle.t1_font.specs.Answers.{Answers};
 ghost use Rattle.t1_font.specs.ReadFont.{read_font_widely};
 ghost use Rattle.t1_document.specs.Marks.{counted};
 ghost use Rattle.t1_document.specs.Stretches.{stretches};
-ghost use Rattle.t1_document.specs.Documents.{open_behind, begins, ends, encloses, next_mark, placed, place_at, document_of};
+ghost use Rattle.t1_document.specs.Documents.{open_behind, begins, ends, encloses, next_mark, placed, place_at, offsets_from, document_bytes, document_of};
+ghost use Rattle.t1_document.specs.Laws.{Spells};
 ghost use Rattle.t1_document.specs.Views.{stretch_view, font_view, document_view};
 
 use crate::fonts::{FontText, font_in};
@@ -99,6 +101,26 @@ impl Open {
     }
 }
 
+impl<'a> Document<'a> {
+    /// The offset of the font text of each place in the document.
+    ///
+    /// # Errors
+    ///
+    /// Only want of memory.
+    pub fn offsets(&self, alloc: Global) -> Result<Vec<usize>, AllocError>
+        requires { length (document_bytes (document_view self.now)) < 2 ^ 64 }
+        ensures { IfOk result (λ v. v.items ≡ offsets_from 0 (document_view self.now).places) }
+    {
+        let mut offsets = Vec::with_capacity(alloc, self.places.len())?;
+        let mut at = 0;
+        'places: for place in self.places.as_slice() {
+            offsets.push(at + place.before.len())?;
+            at += place.before.len() + place.text.len() + place.rest.len();
+        }
+        Ok(offsets)
+    }
+}
+
 /// Whether a mark begins a part that may be a font, and the next one ends a part of its kind.
 fn encloses(mark: Mark, next: Option<Mark>) -> bool
     ensures { result ≡ encloses mark next }
@@ -152,7 +174,9 @@ fn font_at<'a>(
 ///
 /// Only want of memory.
 pub fn read_document(alloc: Global, text: &[u8]) -> Result<Document<'_>, AllocError>
-    ensures { IfOk result (λ d. document_view d ≡ document_of text.now) }
+    ensures exact { IfOk result (λ d. document_view d ≡ document_of text.now) }
+    ensures whole { IfOk result (λ d. document_bytes (document_view d) ≡ text.now) }
+    ensures spell { IfOk result (λ d. AllByRecursion Spells (document_view d).places) }
 {
     let mut places = Vec::new(alloc);
     let mut around = Open {

@@ -25,6 +25,14 @@ fn is_right(alloc: Global, place: &Place<'_>) -> Result<bool, AllocError> {
     Ok(is_read(alloc, place)? && place.can_stand(alloc, place.text)?)
 }
 
+/// Whether a text has one font text, at this offset.
+fn is_at(alloc: Global, text: &[u8], at: usize) -> Result<bool, AllocError> {
+    let document = read_document(alloc, text)?;
+    let offsets = document.offsets(alloc)?;
+    drop(document);
+    Ok(offsets.as_slice() == [at].as_slice())
+}
+
 /// Whether a text has one place, for which both calls answer right.
 fn has_font(alloc: Global, text: &[u8]) -> Result<bool, AllocError> {
     let document = read_document(alloc, text)?;
@@ -47,6 +55,7 @@ fn all_answer_right(alloc: Global) -> Result<bool, AllocError> {
     let pooled = rewritten(alloc, &parts, new.as_slice(), true)?;
     Ok(
         has_font(alloc, text.as_slice())?
+            && is_at(alloc, text.as_slice(), 12)?
             && levelled.as_slice() == want.as_slice()
             && pooled.as_slice() == want.as_slice(),
     )
@@ -54,6 +63,7 @@ fn all_answer_right(alloc: Global) -> Result<bool, AllocError> {
 
 // meets Place::source Ok at 1 fonts
 // meets Place::can_stand Ok at 1 texts
+// meets Document::offsets Ok at 1 places
 #[test]
 fn growths(rt: HostRuntime) -> Result<(), Fail> {
     let right = match all_answer_right(rt.alloc()) {

@@ -23,6 +23,14 @@ fn count(alloc: Global, text: &[u8]) -> Result<usize, AllocError> {
     Ok(count)
 }
 
+/// The offset of the last font text of a text.
+fn last_offset(alloc: Global, text: &[u8]) -> Result<Option<usize>, AllocError> {
+    let document = read_document(alloc, text)?;
+    let offsets = document.offsets(alloc)?;
+    drop(document);
+    Ok(offsets.as_slice().last().copied())
+}
+
 /// A name of four bytes for a number below 1,000.
 fn numbered(alloc: Global, number: u32) -> Result<Vec<u8>, AllocError> {
     let mut name = Vec::from_slice(alloc, b"g")?;
@@ -110,6 +118,7 @@ fn many_names(rt: HostRuntime) -> Result<(), Fail> {
 
 // meets read_document Ok at 0, 300 places
 // meets Document::pool Ok at 300 places
+// meets Document::offsets Ok at 300 places
 #[test]
 fn many_places(rt: HostRuntime) -> Result<(), Fail> {
     let alloc = rt.alloc();
@@ -120,6 +129,8 @@ fn many_places(rt: HostRuntime) -> Result<(), Fail> {
     )?;
     let many = repeated(alloc, place.as_slice(), 300)?;
     assert!(rt; count(alloc, many.as_slice())? == 300);
+    let last = last_offset(alloc, many.as_slice())?;
+    assert!(rt; last == Some(many.len().saturating_sub(place.len()).saturating_add(12)));
     let pooled = rewritten(alloc, &[many.as_slice()], font.as_slice(), true)?;
     assert!(rt; pooled.len() == place.len() + 299 * 22);
     Ok(())

@@ -1,14 +1,18 @@
 use Rattle.std.proofs.Common.{◌≡◌, ◌++◌, ◌∷◌, [], ℕ, List, Some, None, drop, map, refl, sym, ap, subst, ◌∙◌}
+use Rattle.std.specs.List.{AllByRecursion}
 use Rattle.std.specs.Option.{option_map}
 use Rattle.std.proofs.lemmas.List.{map-append}
 use Rattle.t1_document.specs.declared.documents.Place.{Place as CodePlace}
 use Rattle.t1_document.specs.Stretches.{stretches}
-use Rattle.t1_document.specs.Documents.{none_open, open_behind, next_mark, placed, place_at}
+use Rattle.t1_document.specs.Documents.{none_open, open_behind, next_mark, placed, place_at, Document, document_bytes, document_of}
 use Rattle.t1_document.specs.Views.{font_view, place_view, stretch_view}
+use Rattle.t1_document.specs.Laws.{Spells}
+use Rattle.t1_document.proofs.PlaceLemmas.{document_text}
+use Rattle.t1_document.proofs.Spelled.{places_spell}
 use Rattle.t1_document.proofs.StretchLemmas.{front_len}
 use Rattle.t1_document.proofs.DocumentSteps.{Walks, Comes, walk_starts, walk_past, walk_place, walk_ends, walks_same}
 use Rattle.t1_document.proofs.documents.read_document.Goals as goal
-use Rattle.t1_document.proofs.documents.read_document.Goals.{in-Some-2+in_ok-push, in_default-2}
+use Rattle.t1_document.proofs.documents.read_document.Goals.{In_default, in-Some-2+in_ok-push, in_default-2}
 
 pub split_at-requires : goal.split_at-requires
 split_at-requires c = rw c.unmarked_len.ensures (front_len c.args.text.now)
@@ -58,7 +62,16 @@ stretches-preserved c =
           (walk_past text here rest behind o done s c.stretches.invariant comes none)
     ]
 
-pub returns : goal.returns
-returns c =
-    sym (walk_ends c.args.text.now c.stretches.here.now c.stretches.rest.now c.stretches.around (map place_view c.stretches.places.items)
-    c.stretches.invariant c.in_default.ensures.first)
+known : (c : In_default) → document_of c.args.text.now ≡ record { places = map place_view c.stretches.places.items; last = c.stretches.here.now }
+known c =
+    walk_ends c.args.text.now c.stretches.here.now c.stretches.rest.now c.stretches.around (map place_view c.stretches.places.items)
+    c.stretches.invariant c.in_default.ensures.first
+
+pub returns-clause-exact : goal.returns-clause-exact
+returns-clause-exact c = sym (known c)
+
+pub returns-clause-whole : goal.returns-clause-whole
+returns-clause-whole c = ap document_bytes (sym (known c)) ∙ document_text c.args.text.now
+
+pub returns-clause-spell : goal.returns-clause-spell
+returns-clause-spell c = subst (λ (d : Document). AllByRecursion Spells d.places) (known c) (places_spell c.args.text.now)
