@@ -5,7 +5,7 @@ usage: tools/rejoin_producers.py [FONTS]    FONTS is how many fonts are tried, b
 
 Each font of TeX's map whose program is installed is set in two documents with different characters. dvips, pdfTeX and, where
 they are installed, Ghostscript's ps2write (from what dvips wrote) and pdftops (from what pdfTeX wrote) cut it, Ghostscript's
-pdfwrite and pdftops make CFF of it and a font again (from what dvips wrote), and `subset` cuts the font's own file, mended, to
+pdfwrite and pdftops make CFF of it and a font again (from what dvips wrote), so do XeTeX and pdftops, and `subset` cuts the font's own file, mended, to
 the same names. `merge` and `rejoin` are tried on the first subset of each program with the
 second of each. FreeType then draws each glyph of the rejoined font, at 1,000 units and without hints, which has to have the
 parent's outline and advance. Prints a table of pairs: how many there are, merge, rejoin, and draw as the parent; and then the
@@ -13,8 +13,9 @@ reasons for which pairs are refused.
 
 Needs the program (bin/t1subset, or T1SUBSET), and Debian's packages texlive-binaries, texlive-base,
 texlive-fonts-recommended, cm-super-minimal, lmodern, tex-gyre and python3-freetype; ghostscript and poppler-utils for two more
-programs.
+programs, and with the latter for XeTeX.
 """
+import atexit
 import collections
 import os
 import random
@@ -96,6 +97,27 @@ def by_pdftops(folder):
     return re.findall(rb"%%BeginResource: font [^\n]*\n(.*?)%%EndResource", bytes_of(folder, "pages.ps"), re.DOTALL)
 
 
+def plain_format():
+    """A folder with XeTeX's format of plain TeX, which is made here once."""
+    folder = tempfile.mkdtemp()
+    atexit.register(shutil.rmtree, folder)
+    printed(["xetex", "-ini", "-etex", "-interaction=batchmode", "\\input plain \\dump"], cwd=folder)
+    return os.path.join(folder, "plain")
+
+
+def by_xetex(folder):
+    """As CFF, and back."""
+    if "plain" not in FORMATS:
+        FORMATS["plain"] = plain_format()
+    printed(["xetex", "-interaction=batchmode", "-fmt=" + FORMATS["plain"], "-no-pdf", "doc"], cwd=folder)
+    printed(["xdvipdfmx", "-q", "-o", "xe.pdf", "doc.xdv"], cwd=folder)
+    printed(["pdftops", "-level2", "xe.pdf", "xe.ps"], cwd=folder)
+    return re.findall(rb"%%BeginResource: font [^\n]*\n(.*?)%%EndResource", bytes_of(folder, "xe.ps"), re.DOTALL)
+
+
+FORMATS = {}
+
+
 def by_pdfwrite(folder):
     """From what dvips wrote into the same folder, as CFF and back."""
     printed(["gs", "-q", "-dSAFER", "-sDEVICE=pdfwrite", "-o", "cff.pdf", "doc.ps"], cwd=folder)
@@ -111,6 +133,8 @@ if shutil.which("pdftops"):
     PRODUCERS["pdftops"] = by_pdftops
 if "ps2write" in PRODUCERS and "pdftops" in PRODUCERS:
     PRODUCERS["pdfwrite"] = by_pdfwrite
+if all(map(shutil.which, ["xetex", "xdvipdfmx", "pdftops"])):
+    PRODUCERS["XeTeX"] = by_xetex
 FILE = "file"
 
 

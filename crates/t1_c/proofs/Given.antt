@@ -38,4 +38,4 @@ gives_union form files view r code a unions whole told = λ f h names more s. te
 pub gives_rejoined : (form : Form) (files : List (List ℕ)) {V : Type 0} (view : V → List ℕ) (r : Result V FilesRefusal) (code : ℕ) (a : Answer)
     → OfRejoined form files (λ whole. MatchResult r (λ v. view v ≡ whole) (λ e. (e.place ≡ None) × (e.reason ≡ Memory)))
     → IfOk r (λ v. HasWhole (view v) code a) → IfErr r (λ e. GivesReason e.place e.reason code a) → OfRejoined form files (GivesText code a)
-gives_rejoined form files view r code a cuts whole told = λ f h t ts s. text_given view r code a _ (cuts f h t ts s) whole told
+gives_rejoined form files view r code a cuts whole told = λ f h t ts s o get. text_given view r code a _ (cuts f h t ts s o get) whole told
