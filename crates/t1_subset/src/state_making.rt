@@ -43,7 +43,7 @@ pub(crate) struct Uses<'a> {
 pub(crate) fn uses_of<'a>(alloc: Global, font: &Font<'a>) -> Result<Uses<'a>, AllocError>
     ensures { IfOk result (λ uses. AreUsesOf uses font.now) }
 {
-    let mut users = nobody(alloc, font)?;
+    let mut users = nobody(alloc);
     let mut seekers = Seekers::new(alloc);
     let mut calls = Called::new(alloc);
     let mut last = None;
@@ -53,7 +53,7 @@ pub(crate) fn uses_of<'a>(alloc: Global, font: &Font<'a>) -> Result<Uses<'a>, Al
             continue;
         }
         let components = run_alone(alloc, font, name, &mut calls)?;
-        note_users(&mut users, &calls, name);
+        note_users(&mut users, &calls, name)?;
         note_seekers(font, &mut seekers, components.as_slice(), name)?;
         last = charstring;
     }

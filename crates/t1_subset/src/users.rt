@@ -1,68 +1,77 @@
 //! The smallest glyph that executes each Subr of a font.
 
-ghost use Rattle.std.specs.Prelude.{◌≡◌, ◌<◌, ℕ, length, true, IfOk, None, Some, cond};
+ghost use Rattle.std.specs.Prelude.{◌≡◌, ◌<◌, ℕ, length, OnOk, None, Some, cond};
 ghost use Rattle.std.specs.Option.{option_map};
 ghost use Rattle.std.specs.FinMap as maps;
 ghost use Rattle.std.specs.FinSet as sets;
 ghost use Rattle.t1_join.specs.Meaning.{of_number};
-ghost use Rattle.t1_font.specs.FontValue.{declared_count};
 ghost use Rattle.t1_algebra.specs.Profile.{set_of};
 ghost use Rattle.t1_algebra.specs.Shared.{same_number};
 ghost use Rattle.t1_algebra.specs.States.{joined_option};
 ghost use Rattle.t1_subset.specs.Users.{noted_at};
 
 use std::alloc::{AllocError, Global};
-use t1_font::Font;
 use t1_join::Table;
-use t1_run::{Called, Subroutines};
+use t1_run::Called;
 
 /// The smallest glyph that executes each Subr of a font, by index, among the glyphs that have been noted. There is a place
-/// for each Subr that the font declares.
+/// for each Subr up to the last one that a glyph executes, and some more.
 pub(crate) type Noted<'a> = Vec<Option<&'a [u8]>>;
 
 /// The smallest glyph that executes each Subr of a font. There is no entry for a Subr that no glyph executes, so a font of
 /// many stubs takes little room.
 pub(crate) type Users<'a> = Table<u16, &'a [u8]>;
 
-/// Nobody for each Subr that the font declares.
-pub(crate) fn nobody<'a>(alloc: Global, font: &Font<'_>) -> Result<Noted<'a>, AllocError>
-    ensures places { IfOk result (λ users. (q : ℕ)
-        → q < declared_count font.now.shell.subrs
-        → q < length users.items) }
-    ensures none { IfOk result (λ users. (q : ℕ) → noted_at users.items q ≡ None) }
+/// Nobody yet.
+pub(crate) fn nobody<'a>(alloc: Global) -> Noted<'a>
+    ensures { (q : ℕ) → noted_at result.items q ≡ None }
 {
-    let mut users = Vec::new(alloc);
-    users.resize(font.count() as usize, None)?;
-    Ok(users)
+    Vec::new(alloc)
+}
+
+/// Makes a place for a Subr, if there is none: twice as many places as there were, or more.
+fn reach(users: &mut Noted<'_>, place: usize) -> Result<(), AllocError>
+    requires { place < 65536 }
+    ensures reached { OnOk result (place < length users.new.items) }
+    ensures noted { (q : ℕ) → OnOk result (noted_at users.new.items q ≡ noted_at users.old.items q) }
+{
+    if place >= users.len() {
+        let places = users.len().saturating_mul(2).max(place + 1);
+        users.resize(places, None)?;
+    }
+    Ok(())
 }
 
 /// Notes a glyph that executes the index, unless there is a smaller one. Glyphs come upwards by name.
-fn note_user<'a>(users: &mut Noted<'a>, index: u16, glyph: &'a [u8])
-    ensures places { length users.new.items ≡ length users.old.items }
-    ensures noted { (q : ℕ)
-        → q < length users.old.items
-        → noted_at users.new.items q
+fn note_user<'a>(users: &mut Noted<'a>, index: u16, glyph: &'a [u8]) -> Result<(), AllocError>
+    ensures { (q : ℕ)
+        → OnOk result (noted_at users.new.items q
         ≡ joined_option (noted_at users.old.items q)
-        (cond (same_number q index) (Some glyph.now) None) }
+        (cond (same_number q index) (Some glyph.now) None)) }
 {
     let place = index as usize;
-    if place < users.len() && users[place].is_none() {
+    reach(users, place)?;
+    if users[place].is_none() {
         users[place] = Some(glyph);
     }
+    Ok(())
 }
 
 /// Notes a glyph that executes these indices.
-pub(crate) fn note_users<'a>(users: &mut Noted<'a>, calls: &Called, glyph: &'a [u8])
-    ensures places { length users.new.items ≡ length users.old.items }
-    ensures noted { (q : ℕ)
-        → q < length users.old.items
-        → noted_at users.new.items q
+pub(crate) fn note_users<'a>(
+    users: &mut Noted<'a>,
+    calls: &Called,
+    glyph: &'a [u8],
+) -> Result<(), AllocError>
+    ensures { (q : ℕ)
+        → OnOk result (noted_at users.new.items q
         ≡ joined_option (noted_at users.old.items q)
-        (cond (sets.contains (set_of calls.now) q) (Some glyph.now) None) }
+        (cond (sets.contains (set_of calls.now) q) (Some glyph.now) None)) }
 {
     'calls: for index in calls.as_slice() {
-        note_user(users, *index, glyph);
+        note_user(users, *index, glyph)?;
     }
+    Ok(())
 }
 
 /// The glyph that is noted for the index.

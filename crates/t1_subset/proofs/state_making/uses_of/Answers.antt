@@ -1,11 +1,10 @@
-use Rattle.std.proofs.Common.{◌<◌, ℕ, List, Bor, length, map, not, ◌&&◌, cond, Some, None, ap, sym, ◌∙◌, arith, refl}
+use Rattle.std.proofs.Common.{ℕ, List, Bor, map, not, ◌&&◌, cond, Some, None, ap, sym, ◌∙◌, refl}
 use Rattle.std.specs.List.{list_any}
 use Rattle.std.specs.FinMap as maps
 use Rattle.std.specs.FinSet as sets
 use Rattle.std.proofs.lemmas.Map.Iter.{rest_more, rest_all}
 use Rattle.t1_algebra.specs.{Interpreter.{same_bytes}, Keep.{has}, Profile.{profile}, States.{joined_option, executes, executed_at, called_at}, Conflicts.{wants}}
 use Rattle.t1_algebra.proofs.Sets.{cases}
-use Rattle.t1_font.specs.FontValue.{declared_count}
 use Rattle.t1_subset.specs.Users.{noted_at}
 use Rattle.t1_subset.proofs.state_tables.FontCallers.{executes_so, calls_so, again_same, noting_starts, noting_again, noting_next, noting_ends}
 use Rattle.t1_subset.proofs.state_making.uses_of.Goals as goal
@@ -14,8 +13,7 @@ pub names-init : goal.names-init
 names-init c =
     let f = c.args.font.now in
     let all = c.into_iter-name-iterator.ensures.into_iter_gives ∙ c.names-name-items.ensures in (
-      c.in_ok-users.ensures.places,
-      λ q l. noting_starts (λ n. executes profile f n q) _ _ _ _ (c.in_ok-users.ensures.none q) refl all,
+      λ q. noting_starts (λ n. executes profile f n q) _ _ _ _ (c.nobody-users.ensures q) refl all,
       λ p. noting_starts (λ n. wants profile f n p) _ _ _ _ (ap (λ t. maps.get t p) c.new-seekers.ensures ∙ maps.get-empty _ p) (grind cases) all,
     )
 
@@ -24,9 +22,8 @@ names-preserved-then-is_again c =
     let f = c.args.font.now in
     let more = rest_more (λ (s : Bor (List ℕ)). s.now) _ _ _ _ c.in-Some.is c.next.ensures.steps in
     let same = sym (again_same _ _ (sym c.is_again.ensures ∙ c.if-is_again.true) ∙ c.charstring-charstring.ensures) in (
-      c.names.invariant.0,
-      λ q l. noting_again (λ n. executes profile f n q) _ _ _ _ _ _ more (c.names.invariant.1 q l) (ap (executed_at profile f q) same),
-      λ q. noting_again (λ n. wants profile f n q) _ _ _ _ _ _ more (c.names.invariant.2 q) (ap (λ x. not (has f q) && called_at profile f q x) same),
+      λ q. noting_again (λ n. executes profile f n q) _ _ _ _ _ _ more (c.names.invariant.0 q) (ap (executed_at profile f q) same),
+      λ q. noting_again (λ n. wants profile f n q) _ _ _ _ _ _ more (c.names.invariant.1 q) (ap (λ x. not (has f q) && called_at profile f q x) same),
     )
 
 pub names-preserved : goal.names-preserved
@@ -35,17 +32,16 @@ names-preserved c =
     let n = c.in-Some.name.now in
     let more = rest_more (λ (s : Bor (List ℕ)). s.now) _ _ _ _ c.in-Some.is c.next.ensures.steps in
     let named = ap (map (λ (s : Bor (List ℕ)). s.now)) c.as_slice.ensures.value ∙ c.in_ok-components.ensures.components in
-    let users = λ (q : ℕ) (l : q < declared_count f.shell.subrs).
-    c.note_users.ensures.noted q (c.names.invariant.0 q l)
+    let users = λ (q : ℕ).
+    c.in_ok-note_users.ensures q
     ∙ ap (λ b. joined_option (noted_at c.names.users.items q) (cond b (Some n) None))
     (ap (λ s. sets.contains s q) c.in_ok-components.ensures.calls ∙ executes_so f n q) in
     let seekers = λ (q : List ℕ).
     c.in_ok-note_seekers.ensures q
     ∙ ap (λ b. joined_option (maps.get c.names.seekers q) (cond (not (has f q) && b) (Some n) None)) (ap (list_any (same_bytes q)) named ∙ calls_so f n q) in (
-      λ q l. let there : q < length c.names.users.items = c.names.invariant.0 q l in let same = c.note_users.ensures.places in omega (arith, there, same),
-      λ q l. noting_next (λ n. executes profile f n q) _ _ _ _ _ _ more (c.names.invariant.1 q l) _ _
-          (users q l) (ap (executed_at profile f q) c.charstring-charstring.ensures),
-      λ q. noting_next (λ n. wants profile f n q) _ _ _ _ _ _ more (c.names.invariant.2 q) _ _
+      λ q. noting_next (λ n. executes profile f n q) _ _ _ _ _ _ more (c.names.invariant.0 q) _ _
+          (users q) (ap (executed_at profile f q) c.charstring-charstring.ensures),
+      λ q. noting_next (λ n. wants profile f n q) _ _ _ _ _ _ more (c.names.invariant.1 q) _ _
           (seekers q) (ap (λ x. not (has f q) && called_at profile f q x) c.charstring-charstring.ensures),
     )
 
@@ -54,6 +50,6 @@ returns c =
     let f = c.args.font.now in
     let none = rest_all (λ (s : Bor (List ℕ)). s.now) _ _ _ c.in-None.is c.next.ensures.steps in
     record {
-      users = λ q l. noting_ends (λ n. executes profile f n q) _ _ _ _ none (c.names.invariant.1 q l);
-      seekers = λ p. noting_ends (λ n. wants profile f n p) _ _ _ _ none (c.names.invariant.2 p);
+      users = λ q l. noting_ends (λ n. executes profile f n q) _ _ _ _ none (c.names.invariant.0 q);
+      seekers = λ p. noting_ends (λ n. wants profile f n p) _ _ _ _ none (c.names.invariant.1 p);
     }
