@@ -150,6 +150,10 @@ uint32_t t1subset_merge(const t1subset_bytes *fonts, size_t count, uint32_t form
  * Subrs declares as many). */
 uint32_t t1subset_rejoin(const t1subset_bytes *fonts, size_t count, uint32_t form, t1subset_answer *answer);
 
+/* Lines that tell all conflicts of two fonts, each with the text of the refusal of t1subset_merge, the lowest first; none exactly if
+ * the fonts merge. */
+uint32_t t1subset_diff(const uint8_t *first, size_t first_size, const uint8_t *second, size_t second_size, t1subset_answer *answer);
+
 /* The join of two listings, texts of lines "S INDEX HEX" and "G NAME HEX". */
 uint32_t t1subset_join(const uint8_t *first, size_t first_size, const uint8_t *second, size_t second_size, t1subset_answer *answer);
 

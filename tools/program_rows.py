@@ -57,9 +57,51 @@ def small_font(name, subrs, callers, encoding=b"/Encoding StandardEncoding def\n
     return made_font(b"%%!\n/FontName /%s def\n" % name + encoding, subrs, glyphs)
 
 
+# Two subsets of one name, and the font that they rejoin to.
+PARTS = [
+    small_font(b"ABCDEF+Small", [STUB] * 4 + [ACROSS], {b"A": 4}),
+    small_font(b"ABCDEF+Small", [STUB] * 5 + [UP], {b"B": 5}),
+]
+BOTH = small_font(b"ABCDEF+Small", [STUB] * 4 + [ACROSS, UP], {b"A": 4, b"B": 5})
+
+
+def document(font):
+    """A document with this font, as dvips writes one."""
+    return b"%!PS\n%%BeginFont: Small\n" + font + b"{restore}if\n%%EndFont\nshowpage\n"
+
+
 def version_of_the_man_page():
     """The program's name and version, as the first line of the man page has them between quotes."""
     return bytes_of(TOP, "docs/t1subset.1").split(b'"')[1]
+
+
+def differing_fonts():
+    """Two fonts that differ in the head and in how many Subrs they declare, in the names of codes 66 and 200, in glyphs B and D, in Subr 0,
+    which no glyph executes, and in Subr 4, which A and B do; and the one lacks a component of its Aacute that the other has."""
+    letters = refused_rows.glyphs
+    some = {b".notdef": EMPTY, b"A": refused_rows.CALLS, b"Aacute": refused_rows.ACCENTED, b"B": refused_rows.CALLS, b"D": ENDCHAR}
+    more = {b".notdef": EMPTY, b"A": refused_rows.CALLS, b"B": refused_rows.MOVES, b"D": EMPTY, b"acute": EMPTY}
+    subrs = {at: RETURN for at in range(1, 4)}
+    head = refused_rows.HEAD
+    one = refused_rows.made(encoding=encoding_of({65: b"A", 66: b"B", 200: b"D"}), letters=letters(some),
+                            table=refused_rows.subrs({**subrs, 0: UP, 4: UP}))
+    other = refused_rows.made(head + b"/PaintType 0 def\n", encoding_of({66: b"A", 67: b"B", 200: b"acute"}), letters=letters(more),
+                              table=refused_rows.subrs({**subrs, 0: ACROSS, 4: ACROSS}, 6))
+    return one, other
+
+
+# The lines of these two.
+DIFFERENCES = b"""\
+shells differ in head
+shells differ in Subrs table
+code 66 differs
+code 200 differs
+glyph B differs
+glyph D differs
+glyph Aacute lacks part acute
+subr 0 differs
+subr 4 differs, used by A
+"""
 
 
 def files():
@@ -78,9 +120,12 @@ def files():
     given["other.font"] = small_font(b"Small", [STUB] * 4 + [ACROSS], {b"A": 4}, b"/Encoding ISOLatin1Encoding def\n")
     given["values.font"] = made_font(SPELLED, [], {b".notdef": EMPTY})
     given["private.font"] = refused_rows.made(private=refused_rows.PRIVATE + b"/UniqueID 77 def\n")
+    given["some.font"], given["more.font"] = differing_fonts()
     given["one.names"], given["two.names"], given["bad.names"] = b"B", b"\r\nB\r\n", b"B\nZed\nA"
     given["spelled.font"] = given["one.cut"].replace(word + b" def", word + b" % a comment\n readonly def")
     given["tested.font"] = given["one.cut"].replace(b"/FontName", TESTED + b"/FontName")
+    given["one.ps"], given["two.ps"] = document(PARTS[0]), document(PARTS[1])
+    given["other.ps"] = document(small_font(b"ABCDEF+Small", [STUB] * 5 + [UP], {b"B": 5}, b"/Encoding ISOLatin1Encoding def\n"))
     given["no.font"] = b"no font"
     given["no.listing"] = b"no listing"
     given["old"] = b"what stood here"
@@ -89,7 +134,7 @@ def files():
 
 def rows_of_words():
     """Words that ask for help or don't parse."""
-    commands = ["subset", "merge", "rejoin", "mend", "check", "list", "show", "pfa", "pfb", "join"]
+    commands = ["subset", "merge", "rejoin", "pool", "diff", "mend", "check", "list", "show", "pfa", "pfb", "join"]
     yield Row(["--help"], 0, SOME)
     yield Row(["--version"], 0, version_of_the_man_page() + b"\n")
     for command in commands:
@@ -101,6 +146,8 @@ def rows_of_words():
     yield Row(["merge", "out"], 2, b"", SOME)
     yield Row(["rejoin", "out"], 2, b"", SOME)
     yield Row(["show", "dashed.pfa", "-a"], 2, b"", SOME)
+    yield Row(["diff", "tiny.pfa"], 2, b"", SOME)
+    yield Row(["diff", "tiny.pfa", "tiny.pfa", "tiny.pfa"], 2, b"", SOME)
     yield Row(["check", b"\xff"], 2, b"", b"error: the arguments are not UTF-8\n")
 
 
@@ -292,6 +339,22 @@ def rows_of_rejoined():
     yield Row(["rejoin", "old", "one.cut", "absent"], 3, b"", b"failed: read\n")
 
 
+def rows_of_pooled():
+    """Documents that become one with each font once."""
+    given, empty = files(), b"%!PS\n%%BeginFont: Small\n%%EndFont\nshowpage\n"
+    both = document(BOTH)
+    yield Row(["pool", "out", "one.ps"], 0, b"", b"", {"out": given["one.ps"]})
+    yield Row(["pool", "out", "one.ps", "one.ps"], 0, b"", b"", {"out": given["one.ps"] + empty})
+    yield Row(["pool", "out", "one.ps", "two.ps", "one.ps"], 0, b"", b"", {"out": both + empty + empty})
+    yield Row(["pool", "one.ps", "two.ps", "one.ps"], 0, b"", b"", {"one.ps": both + empty})
+    kept = given["one.ps"] + given["other.ps"]
+    yield Row(["pool", "out", "one.ps", "other.ps"], 0, b"", b"kept ABCDEF+Small: shells differ in encoding\n", {"out": kept})
+    yield Row(["pool", "out", "no.font", "one.ps"], 0, b"", b"", {"out": b"no font\n" + given["one.ps"]})
+    yield Row(["pool", "old", "one.ps", "absent"], 3, b"", b"failed: read\n")
+    yield Row(["pool", "no.folder/out", "one.ps"], 3, b"", b"failed: write\n")
+    yield Row(["pool", "out"], 2, b"", SOME)
+
+
 def rows_of_mended():
     """Fonts that other programs spell."""
     one = small_font(b"ABCDEF+Small", [STUB] * 4 + [ACROSS], {b"A": 4})
@@ -309,6 +372,23 @@ def rows_of_mended():
     yield Row(["mend", "absent", "out"], 3, b"", b"failed: read\n")
 
 
+def rows_of_differences():
+    """All conflicts of two fonts."""
+    yield Row(["diff", "some.font", "more.font"], 1, DIFFERENCES)
+    yield Row(["diff", "more.font", "some.font"], 1, DIFFERENCES)
+    yield Row(["merge", "old", "some.font", "more.font"], 1, b"", b"refused: " + DIFFERENCES.split(b"\n")[0] + b"\n")
+    yield Row(["diff", "some.font", "some.font"], 0)
+    yield Row(["diff", "tiny.pfa", "tiny.pfb"], 0)
+    yield Row(["diff", "whole.font", "coded.font"], 1, b"shells differ in encoding\n")
+    yield Row(["diff", "one.cut", "two.cut"], 1, b"shells differ in head\nshells differ in Subrs table\n")
+    yield Row(["diff", "one.cut", "no.font"], 1, b"", b"refused: no eexec\n")
+    yield Row(["diff", "no.font", "absent"], 3, b"", b"failed: read\n")
+    rows = page_rows()
+    for words in (["one.cut", "no.font"], ["no.font", "one.cut"]):
+        yield Row(["diff", "--explain", *words], 1, b"", f"refused: no eexec\nfile: no.font\n{rows['no eexec']}\n".encode())
+    yield Row(["--explain", "diff", "some.font", "more.font"], 1, DIFFERENCES)
+
+
 def rows_of_listings():
     """All inputs are opened before the first is read."""
     refused = b"refused: subr 150 differs\n"
@@ -320,4 +400,4 @@ def rows_of_listings():
 
 def all_rows(given):
     rows = [*rows_of_words(), *rows_of_fonts(), *rows_of_full(), *rows_of_several(), *rows_of_explained(), *rows_of_outputs(given)]
-    return [*rows, *rows_of_names(), *rows_of_codes(), *rows_of_rejoined(), *rows_of_mended(), *rows_of_listings()]
+    return [*rows, *rows_of_names(), *rows_of_codes(), *rows_of_rejoined(), *rows_of_pooled(), *rows_of_mended(), *rows_of_differences(), *rows_of_listings()]

@@ -70,7 +70,7 @@ close
 
 # The words; what they write (None: anything); the file that they write to (None: standard output); the line with
 # which they are refused, with or without memory.
-Case = collections.namedtuple("Case", "words want out refusal", defaults=(None, None))
+Case = collections.namedtuple("Case", "words want out refusal status", defaults=(None, None, 0))
 
 
 class Shim:
@@ -120,13 +120,13 @@ def wrong(case, refused, done, written):
     if done.returncode < 0:
         return "ended by a signal"
     if not refused:
-        right = done.returncode == (1 if case.refusal else 0) and done.stderr == (case.refusal or b"")
+        right = done.returncode == (1 if case.refusal else case.status) and done.stderr == (case.refusal or b"")
         return None if right and told else "wrong with memory"
     if done.returncode not in (0, 1, 2, 3):
         return "no documented status"
     if b"UTF-8" in done.stderr:
         return "words that are text are refused as none"
-    if done.returncode == 0 and (case.refusal or not told):
+    if done.returncode == 0 and (case.refusal or case.status or not told):
         return "done, and the result is not there"
     if not told and written != b"":
         return "a part of the result is out"
@@ -209,6 +209,8 @@ def font_cases(folder):
     yield Case(["merge", out, y, other_x], b"", out, b"refused: subr 5 differs, used by X\n")
     yield Case(["merge", out, y, y, other_x], b"", out, b"refused: subr 5 differs, used by X\n")
     yield Case(["rejoin", out, x, y, x], both, out)
+    yield Case(["diff", x, y], b"")
+    yield Case(["diff", y, other_x], b"subr 5 differs, used by X\n", status=1)
 
 
 def listing_cases():

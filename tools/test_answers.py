@@ -51,6 +51,9 @@ REFUSALS = {
     "run_subset_with_codes": [READS, "NoCode", "NoGlyph"],
     "run_merge": [READS, "Conflict"],
     "run_rejoin": [READS, "Lacks", "Conflict"],
+    "run_diff": [READS],
+    "run_pool": ["TooLong"],
+    "run_level": ["TooLong"],
     "check_file": [READS],
     "list_file": [READS],
     "list_file_full": [READS],
@@ -62,6 +65,7 @@ REFUSALS = {
     "subset_file_with_codes": [READS, "NoCode", "NoGlyph"],
     "merge_files": [READS, "Conflict"],
     "rejoin_files": [READS, "Lacks", "Conflict"],
+    "diff_files": [READS],
     "join_listings": ["TooLong", "ListFault", "JoinFault"],
 }
 # What a call can't answer, though its type has it.
@@ -87,10 +91,10 @@ LARGE = {
     "t1_char": {"write": 65_535},
     "t1_run": {"": 1000, "Called::new": None, "Called::insert": 65_535, "Called::to_set": 65_535},
     "t1_join": {"": 60_000, "Table::new": None, "Hex::bytes": 131_070},
-    "t1_font": {"": 65_535, "even_shells": 1000, "even_boxes": 1000, "fill_all": 65_535},
+    "t1_font": {"": 65_535, "even_shells": 1000, "even_boxes": 1000, "even_named": 1000, "fill_all": 65_535},
     "t1_document": {"": 300, "Texts::new": None, "Place::source": None, "Place::can_stand": None},
     "t1_subset": {"": 65_535, "merge": 65_535},
-    "t1_cmd": {"": 65_535, "Name::new": 127, "read_all": 268_435_456, "write_fault": None, "write_fault_of": None},
+    "t1_cmd": {"": 65_535, "run_pool": 300, "run_level": 300, "Name::new": 127, "read_all": 268_435_456, "write_fault": None, "write_fault_of": None},
 }
 # Constants that choose between two ways, or limit what is read: the calls that a test has to take to their value and beyond.
 THRESHOLDS = {

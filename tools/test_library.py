@@ -70,6 +70,8 @@ def library_rows(given):
     rows = [row for row in program_rows.all_rows(given) if row.status < 2 and row.out is not program_rows.SOME]
     rows = [row for row in rows if not OWN_OPTIONS.intersection(word.split("=")[0] for word in row.words if isinstance(word, str))]
     rows = [row for row in rows if row.words[0] != "check" or len(row.words) == 2]
+    # The library has no call for documents.
+    rows = [row for row in rows if row.words[0] != "pool"]
     return [row for row in rows if not row.words[0].startswith("--")]
 
 
@@ -122,7 +124,7 @@ class Pair:
 
 
 def inputs_of(words):
-    return words[2:] if words[0] in ("merge", "rejoin") else words[1:] if words[0] == "join" else words[1:2]
+    return words[2:] if words[0] in ("merge", "rejoin") else words[1:] if words[0] in ("diff", "join") else words[1:2]
 
 
 class Numbers:

@@ -47,6 +47,7 @@ static void no_bytes(t1subset_bytes font) {
     EXPECT(t1subset_merge(two, 2, T1SUBSET_PFA, &answer), T1SUBSET_NO_EEXEC, 1, "no eexec");
     EXPECT(t1subset_rejoin(NULL, 0, T1SUBSET_PFA, &answer), T1SUBSET_NOTHING_TO_MERGE, -1, "nothing to merge");
     EXPECT(t1subset_rejoin(two, 2, T1SUBSET_PFA, &answer), T1SUBSET_NO_EEXEC, 1, "no eexec");
+    EXPECT(t1subset_diff(NULL, 0, NULL, 0, &answer), T1SUBSET_NO_EEXEC, 0, "no eexec");
     EXPECT(t1subset_join(NULL, 0, NULL, 0, &answer), T1SUBSET_OK, -1, "");
     EXPECT(t1subset_join((const uint8_t *) "S 0 0B\n", 7, NULL, 0, &answer), T1SUBSET_OK, -1, "S 0 0b\n");
     EXPECT(t1subset_join(NULL, 0, (const uint8_t *) "S 0 0B\n", 7, &answer), T1SUBSET_OK, -1, "S 0 0b\n");

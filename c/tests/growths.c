@@ -36,6 +36,7 @@ static uint32_t mends(t1subset_answer *to) { return t1subset_mends(commented.dat
 static uint32_t subset(t1subset_answer *to) { return t1subset_subset(font.data, font.size, names, 2, T1SUBSET_PFA, to); }
 static uint32_t merge(t1subset_answer *to) { return t1subset_merge(parts, 2, T1SUBSET_PFA, to); }
 static uint32_t rejoin(t1subset_answer *to) { return t1subset_rejoin(parts, 2, T1SUBSET_PFB, to); }
+static uint32_t diff(t1subset_answer *to) { return t1subset_diff(parts[0].data, parts[0].size, parts[1].data, parts[1].size, to); }
 static uint32_t join(t1subset_answer *to) {
     return t1subset_join(listings[0].data, listings[0].size, listings[1].data, listings[1].size, to);
 }
@@ -50,7 +51,7 @@ static const struct {
 } calls[] = {
     {"check", check, T1SUBSET_OK}, {"list", list, T1SUBSET_OK}, {"show", show, T1SUBSET_OK},
     {"convert", convert, T1SUBSET_OK}, {"mend", mend, T1SUBSET_OK}, {"mends", mends, T1SUBSET_OK}, {"subset", subset, T1SUBSET_OK},
-    {"merge", merge, T1SUBSET_OK}, {"rejoin", rejoin, T1SUBSET_OK}, {"join", join, T1SUBSET_OK},
+    {"merge", merge, T1SUBSET_OK}, {"rejoin", rejoin, T1SUBSET_OK}, {"diff", diff, T1SUBSET_OK}, {"join", join, T1SUBSET_OK},
     {"subset of no glyph", no_glyph, T1SUBSET_NO_GLYPH}, {"merge of no font", no_font, T1SUBSET_NO_EEXEC},
 };
 

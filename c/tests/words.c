@@ -39,6 +39,7 @@ static uint32_t call(const char *word, uint32_t form, const t1subset_bytes *argu
     if (!strcmp(word, "subset")) return t1subset_subset(first.data, first.size, arguments + 1, count - 1, form, answer);
     if (!strcmp(word, "merge")) return t1subset_merge(arguments, count, form, answer);
     if (!strcmp(word, "rejoin")) return t1subset_rejoin(arguments, count, form, answer);
+    if (!strcmp(word, "diff")) return t1subset_diff(first.data, first.size, second.data, second.size, answer);
     if (!strcmp(word, "join")) return t1subset_join(first.data, first.size, second.data, second.size, answer);
     fail("no such word\n");
     return 0;
@@ -46,7 +47,7 @@ static uint32_t call(const char *word, uint32_t form, const t1subset_bytes *argu
 
 /* How many of the arguments behind a word are files, from the first on; and which of them is OUT, or 0. */
 static int files_of(const char *word, int count) {
-    if (!strcmp(word, "merge") || !strcmp(word, "rejoin") || !strcmp(word, "join")) return count;
+    if (!strcmp(word, "merge") || !strcmp(word, "rejoin") || !strcmp(word, "diff") || !strcmp(word, "join")) return count;
     return 1;
 }
 

@@ -112,6 +112,16 @@ def rejoin(fonts: Iterable[BytesLike], form: AnyForm = "pfa") -> bytes:
     return _call(library.t1subset_rejoin, *_files(_several(fonts, "fonts")), _form(form))
 
 
+def diff(first: BytesLike, second: BytesLike) -> bytes:
+    """Lines that tell all conflicts of two fonts, each with the text by which `merge` refuses for it, the lowest first; empty
+    exactly if the fonts merge.
+
+    >>> diff(subset(font, ["Y"]), subset(font, ["X"]))
+    b''
+    """
+    return _call(library.t1subset_diff, *_file(first), *_file(second))
+
+
 def join(first: BytesLike, second: BytesLike) -> bytes:
     """The join of two listings, texts of lines `S INDEX HEX` and `G NAME HEX`.
 

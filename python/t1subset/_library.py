@@ -41,6 +41,7 @@ _CALLS: Dict[str, List[Any]] = {
     "t1subset_subset": _FILE + _LIST + _FORM,
     "t1subset_merge": _LIST + _FORM,
     "t1subset_rejoin": _LIST + _FORM,
+    "t1subset_diff": _FILE + _FILE,
     "t1subset_join": _FILE + _FILE,
 }
 

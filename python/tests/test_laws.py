@@ -99,6 +99,14 @@ class Laws(unittest.TestCase):
         self.assertEqual((t1subset.rejoin([one, two]), t1subset.rejoin([two, one])), (both, both))
         self.assertEqual(t1subset.rejoin([one, two], "pfb"), t1subset.convert(both, "pfb"))
 
+    def test_all_conflicts_of_two_fonts(self) -> None:
+        one = made([STUB] * 4 + [ACROSS], {b".notdef": EMPTY, b"A": calling(4)}, b"Small")
+        two = made([STUB] * 4 + [UP], {b".notdef": EMPTY, b"A": calling(4), b"B": calling(4)}, b"Other")
+        told = b"shells differ in head\nsubr 4 differs, used by A\n"
+        self.assertEqual((t1subset.diff(one, two), t1subset.diff(two, one)), (told, told))
+        self.assertEqual(t1subset.diff(t1subset.subset(PFA, ["X"]), t1subset.subset(PFB, ["Y"])), b"")
+        self.assertRaises(t1subset.Refused, t1subset.diff, PFA, b"no font")
+
     def test_listings_join(self) -> None:
         left, right = fonts.example("left.listing"), fonts.example("right.listing")
         self.assertEqual(t1subset.join(left, right), fonts.example("both.listing"))

@@ -50,6 +50,13 @@ extern "C" {
     ) -> u32;
     fn t1subset_merge(fonts: *const Given<'_>, count: usize, form: u32, answer: *mut Answer) -> u32;
     fn t1subset_rejoin(fonts: *const Given<'_>, count: usize, form: u32, answer: *mut Answer) -> u32;
+    fn t1subset_diff(
+        first: *const u8,
+        first_size: usize,
+        second: *const u8,
+        second_size: usize,
+        answer: *mut Answer,
+    ) -> u32;
     fn t1subset_join(
         first: *const u8,
         first_size: usize,
@@ -162,6 +169,11 @@ pub(crate) fn rejoin(fonts: &[&[u8]], form: Form) -> Result<Vec<u8>, Refused> {
     let fonts = given(fonts);
     // SAFETY: as in `merge`.
     call(|answer| unsafe { t1subset_rejoin(fonts.as_ptr(), fonts.len(), number_of(form), answer) })
+}
+
+pub(crate) fn diff(first: &[u8], second: &[u8]) -> Result<Vec<u8>, Refused> {
+    // SAFETY: as in `check`, of two slices.
+    call(|answer| unsafe { t1subset_diff(first.as_ptr(), first.len(), second.as_ptr(), second.len(), answer) })
 }
 
 pub(crate) fn join(first: &[u8], second: &[u8]) -> Result<Vec<u8>, Refused> {

@@ -195,6 +195,12 @@ pub fn rejoin<F: AsRef<[u8]>>(fonts: &[F], form: Form) -> Result<Vec<u8>, Refuse
     ffi::rejoin(&slices(fonts), form)
 }
 
+/// Lines that tell all conflicts of two fonts, each with the text by which [`merge`] refuses for it, the lowest first; empty exactly
+/// if the fonts merge.
+pub fn diff(first: &[u8], second: &[u8]) -> Result<Vec<u8>, Refused> {
+    ffi::diff(first, second)
+}
+
 /// The join of two listings, texts of lines `S INDEX HEX` and `G NAME HEX`.
 ///
 /// ```

@@ -4,7 +4,7 @@ mod common;
 
 use common::{each_font, example, made, some_names, EMPTY, STUB};
 use std::thread;
-use t1subset::{check, convert, join, list, mend, mends, merge, rejoin, show, subset, Form};
+use t1subset::{check, convert, diff, join, list, mend, mends, merge, rejoin, show, subset, Form};
 
 #[test]
 fn subsets_merge_in_any_order_to_the_subset_of_all() {
@@ -79,6 +79,17 @@ fn subsets_that_another_program_cut_rejoin() {
         assert!(rejoin(&order, Form::Pfa).unwrap() == both);
         assert!(rejoin(&order, Form::Pfb) == convert(&both, Form::Pfb));
     }
+}
+
+#[test]
+fn fonts_that_merge_differ_in_nothing() {
+    let font = example("tiny.pfa");
+    let (one, other) = (subset(&font, ["X"], Form::Pfa).unwrap(), subset(&font, ["Y"], Form::Pfb).unwrap());
+    assert_eq!(diff(&one, &other).unwrap(), b"");
+    let stubs = [STUB; 4];
+    let head = made("Other", &stubs, &[(b".notdef", EMPTY)]);
+    assert_eq!(diff(&head, &made("Small", &stubs, &[(b".notdef", EMPTY)])).unwrap(), b"shells differ in head\n");
+    assert!(diff(&font, b"no font").is_err());
 }
 
 #[test]

@@ -7,7 +7,7 @@ use std::cell::Cell;
 use std::ffi::c_void;
 use std::fmt::Debug;
 use std::ptr;
-use t1subset::{check, convert, join, list, mend, mends, merge, rejoin, show, subset, Form, Number, Picture, Refused};
+use t1subset::{check, convert, diff, join, list, mend, mends, merge, rejoin, show, subset, Form, Number, Picture, Refused};
 
 /// `t1subset_heap`.
 #[repr(C)]
@@ -86,6 +86,7 @@ fn each_call() {
     assert!(sweep(|| mend(&pfa, Form::Pfb)).unwrap() == pfb);
     let spelled = Tiny::spelled().file();
     assert_eq!(sweep(|| mends(&spelled)).unwrap().len(), 2);
+    assert_eq!(sweep(|| diff(&pfa, &pfb)).unwrap(), b"");
     assert_eq!(sweep(|| join(b"S 5 0B\n", b"")).unwrap(), b"S 5 0b\n");
 }
 

@@ -18,7 +18,7 @@ module _ (x y : Option (List ℕ)) where
   no_clash h = grind (cases, bytes_decide.self)
 
   -- the test is the same in both orders
-  agrees_swap : agrees x y ≡ agrees y x
+  pub agrees_swap : agrees x y ≡ agrees y x
   agrees_swap = grind (cases, swaps same_bytes bytes_decide)
 
 -- if no key of two maps has states that clash, and keys that the second lacks have no state, all states agree

@@ -10,6 +10,7 @@ pub mod Drawings
 pub mod Searching
 pub mod Shares
 pub mod Conflicts
+pub mod AllConflicts
 pub mod Again
 pub mod Fonts
 pub mod ManyMerges

@@ -4,6 +4,7 @@ use Rattle.std.proofs.lemmas.Simd.{map-map}
 use Rattle.std.specs.FinMap as maps
 use Rattle.t1_font.specs.{FontValue.{FontValue, SubrsShell, Numbered, declared_count}, FontModel.{word_of}, Maps.{map_values}, WriteLaws.{SameKind}}
 use Rattle.t1_font.proofs.MapLemmas.{Some_None, get-map_values, entries-map_values}
+use Rattle.t1_algebra.specs.{Searches.{first_where}}
 use Rattle.t1_algebra.specs.Shared.{Shared, shared_of, ShellPart, all_parts, same_number, same_bool, same_word, same_words, same_part, differing_part}
 use Rattle.t1_algebra.proofs.{Words.{list_any, eq_by_cmp, nat_cmp_total, nat_list_cmp_total, nat_cmp-IsAntisymmetric, same_bytes}, Searching.{none_passes}, Sets.{name_same, tied, itself, cases}}
 
@@ -49,9 +50,14 @@ no_part_differs s t e = ap (differing_part s) (sym e) ∙ simp (bytes_decide.sel
 
 -- ---- both orders
 
+-- a part is the same in both orders
+pub part_back : (s t : Shared) (part : ShellPart) → same_part s t part ≡ same_part t s part
+part_back s t part =
+    grind (cases, swaps same_bytes bytes_decide, swaps same_word words_decide, swaps same_number numbers_decide, swaps same_bool bools_decide)
+
 -- the first part that differs is the same in both orders
 pub differing_back : (s t : Shared) → differing_part s t ≡ differing_part t s
-differing_back s t = grind (cases, swaps same_bytes bytes_decide, swaps same_word words_decide, swaps same_number numbers_decide, swaps same_bool bools_decide)
+differing_back s t = λ i. first_where (λ part. not (part_back s t part i)) all_parts
 
 -- ---- what two fonts share
 

@@ -1,5 +1,5 @@
--- Why two fonts do not join: the lowest conflict.
-use Rattle.std.specs.Prelude.{ℕ, Bool, true, cond, not, ◌&&◌, ◌||◌, List, [], ◌∷◌, Option, Some, None, nat_le}
+-- Why two fonts do not join: the lowest conflict, and all conflicts.
+use Rattle.std.specs.Prelude.{ℕ, Bool, true, cond, not, ◌&&◌, ◌||◌, List, [], ◌∷◌, ◌++◌, map, Option, Some, None, nat_le}
 use Rattle.std.specs.declared.cmp.Ordering.{Ordering}
 use Rattle.std.specs.Ordering.{nat_cmp}
 use Rattle.std.specs.List.{list_any}
@@ -9,8 +9,8 @@ use Rattle.t1_font.specs.FontValue.{FontValue, Encoding, Word, Codes, name_cmp, 
 use Rattle.t1_font.specs.Maps.{map_values, merged}
 use Rattle.t1_algebra.specs.Interpreter.{Interpreter, same_bytes}
 use Rattle.t1_algebra.specs.Keep.{has}
-use Rattle.t1_algebra.specs.Shared.{ShellPart, shared_of, differing_part}
-use Rattle.t1_algebra.specs.Searches.{KeySet, members, smallest, found}
+use Rattle.t1_algebra.specs.Shared.{ShellPart, shared_of, differing_part, differing_parts}
+use Rattle.t1_algebra.specs.Searches.{KeySet, members, smallest, passing, found, or_else}
 use Rattle.t1_algebra.specs.States.{executes, calls_for, code_state, subr_state, joined_font}
 
 -- why two fonts do not join, the lowest kind first; a component is told with the smallest glyph that names it in a font that lacks it, and a Subr with the
@@ -124,15 +124,36 @@ module _ {O : Type 0} (m : Interpreter O) where
     abbrev pub subr_conflict : Option ℕ
     subr_conflict = smallest subr_clashes (keys_of_both f.subrs g.subrs)
 
+    -- the conflict of a component
+    abbrev pub lacks_component : List ℕ → Conflict
+    lacks_component p = LacksComponent (unwrap_or (smallest (wanted_by p) (glyphs_of_both f g)) []) p
+
+    -- the conflict of a Subr
+    abbrev pub subr_differs : ℕ → Conflict
+    subr_differs i = SubrDiffers i (smallest (used_by i) (glyphs_of_both f g))
+
     -- the lowest conflict of the shells and states of two fonts
     abbrev pub states_conflict : Option Conflict
     states_conflict =
         found ShellDiffers (shell_conflict f g)
         (found CodeDiffers (code_conflict f g)
         (found GlyphDiffers (glyph_conflict f g)
-        (found (λ p. LacksComponent (unwrap_or (smallest (wanted_by p) (glyphs_of_both f g)) []) p) component_conflict
-        (found (λ i. SubrDiffers i (smallest (used_by i) (glyphs_of_both f g))) subr_conflict None))))
+        (found lacks_component component_conflict
+        (found subr_differs subr_conflict None))))
 
     -- the lowest conflict of two fonts
     abbrev pub conflict : Option Conflict
     conflict = found (λ c. c) states_conflict (cond is_within None (Some OverLimit))
+
+    -- all conflicts of the shells and states of two fonts, the lowest first
+    abbrev pub states_conflicts : List Conflict
+    states_conflicts =
+        map ShellDiffers (differing_parts (shared_of f) (shared_of g))
+        ++ (map CodeDiffers (passing (code_clashes f g) (codes_of_both f.encoding g.encoding))
+        ++ (map GlyphDiffers (passing (glyph_clashes f g) (glyphs_of_both f g))
+        ++ (map lacks_component (passing component_clashes (glyphs_of_both f g))
+        ++ map subr_differs (passing subr_clashes (keys_of_both f.subrs g.subrs)))))
+
+    -- all conflicts of two fonts, the lowest first; the limits are one where there is no other
+    abbrev pub conflicts : List Conflict
+    conflicts = or_else states_conflicts (cond is_within [] (OverLimit ∷ []))

@@ -1,5 +1,5 @@
 -- The laws of subsets and joins of fonts, each the contract of a function in `laws`.
-use Rattle.std.specs.Prelude.{◌≡◌, ◌↔◌, ◌≤◌, ℕ, true, false, List, ◌∷◌, Some, None, IsPermutation}
+use Rattle.std.specs.Prelude.{◌≡◌, ◌↔◌, ◌≤◌, ℕ, true, false, List, [], ◌∷◌, Some, None, IsPermutation}
 use Rattle.std.specs.FinSet as sets
 use Rattle.std.specs.FinMap as maps
 use Rattle.t1_run.specs.Run.{direct, direct3, exec}
@@ -13,7 +13,8 @@ use Rattle.t1_algebra.specs.Interpreter.{Interpreter, Names}
 use Rattle.t1_algebra.specs.Keep.{has, keep, kept, subset, Closed}
 use Rattle.t1_algebra.specs.States.{Compatible, Join, KeepsLimits, joined_option, joined_font, subr_state, name_state, code_state, is_sought}
 use Rattle.t1_algebra.specs.StateTables.{states_of, FontStatesAgree, FontStatesJoin}
-use Rattle.t1_algebra.specs.Conflicts.{conflict}
+use Rattle.t1_algebra.specs.Conflicts.{conflict, conflicts}
+use Rattle.t1_algebra.specs.Searches.{first_of}
 use Rattle.t1_algebra.specs.JoinedEntries.{EntriesJoin}
 use Rattle.t1_algebra.specs.Groupings.{union_all, Merges, folded, EachPair}
 
@@ -147,6 +148,11 @@ module _ {O : Type 0} (m : Interpreter O) where
   -- two fonts have the same lowest conflict in both orders
   abbrev pub ConflictIsSymmetric : Type 0
   ConflictIsSymmetric = (f g : FontValue) → conflict m f g ≡ conflict m g f
+
+  -- two fonts have no conflicts exactly if they join, and otherwise the lowest is the first of all; in both orders all are the same
+  abbrev pub ConflictsAreAll : Type 0
+  ConflictsAreAll =
+      (f g : FontValue) → ((conflicts m f g ≡ []) ↔ Join m f g) × (conflict m f g ≡ first_of (conflicts m f g)) × (conflicts m f g ≡ conflicts m g f)
 
   -- if the states of two fonts join, their join has the entries of both
   abbrev pub JoinHasEntries : Type 0

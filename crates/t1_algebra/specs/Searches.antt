@@ -1,5 +1,5 @@
--- Searches: the first of a list that passes a test, and the smallest of a set of keys.
-use Rattle.std.specs.Prelude.{◌≡◌, ℕ, Bool, true, false, cond, List, [], ◌∷◌, map, Option, Some, None}
+-- Searches: the first of a list that passes a test, and the smallest of a set of keys, or all of them.
+use Rattle.std.specs.Prelude.{◌≡◌, ℕ, Bool, true, false, cond, List, [], ◌∷◌, map, filter, Option, Some, None}
 use Rattle.std.specs.declared.cmp.Ordering.{Ordering}
 use Rattle.std.specs.declared.cmp.Ordering.TheVariants.{Less}
 use Rattle.std.specs.FinMap as maps
@@ -20,6 +20,20 @@ members s = map (λ e. e.0) (maps.entries s)
 -- the smallest key of a set that passes a test
 abbrev pub smallest : {K : Type 0} {R : K → K → Ordering} → (K → Bool) → maps.FinMap R ℕ → Option K
 smallest p s = first_where p (members s)
+
+-- the keys of a set that pass a test, upwards
+abbrev pub passing : {K : Type 0} {R : K → K → Ordering} → (K → Bool) → maps.FinMap R ℕ → List K
+passing p s = filter p (members s)
+
+-- the first element of a list, if there is one
+abbrev pub first_of : {X : Type 0} → List X → Option X
+first_of [] = None
+first_of (x ∷ xs) = Some x
+
+-- a list, or another one if it is empty
+abbrev pub or_else : {X : Type 0} → List X → List X → List X
+or_else [] ys = ys
+or_else (x ∷ xs) ys = x ∷ xs
 
 -- f of the value if there is one, else the alternative
 abbrev pub found : {X Y : Type 0} → (X → Y) → Option X → Option Y → Option Y

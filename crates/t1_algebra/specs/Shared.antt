@@ -1,5 +1,5 @@
 -- What fonts have to share to join, and the first part in which they differ.
-use Rattle.std.specs.Prelude.{ℕ, Bool, true, false, cond, not, ◌&&◌, List, [], ◌∷◌, Option, Some, None, is_some}
+use Rattle.std.specs.Prelude.{ℕ, Bool, true, false, cond, not, ◌&&◌, List, [], ◌∷◌, filter, Option, Some, None, is_some}
 use Rattle.std.specs.Coded.{Coded, coded×, coded_option}
 use Rattle.std.specs.Ordering.{nat_cmp, eq_by_cmp}
 use Rattle.std.specs.FinMap as maps
@@ -76,3 +76,7 @@ module _ (s t : Shared) where
   -- the first part that differs
   abbrev pub differing_part : Option ShellPart
   differing_part = first_where (λ part. not (same_part part)) all_parts
+
+  -- all parts that differ, in their order
+  abbrev pub differing_parts : List ShellPart
+  differing_parts = filter (λ part. not (same_part part)) all_parts

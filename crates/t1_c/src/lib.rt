@@ -21,6 +21,7 @@ ghost use Rattle.t1_cmd.specs.Mends.{mends_answer};
 ghost use Rattle.t1_cmd.specs.Subsets.{subset_answer};
 ghost use Rattle.t1_cmd.specs.Mergers.{MergesToFile};
 ghost use Rattle.t1_cmd.specs.Rejoins.{RejoinsTo};
+ghost use Rattle.t1_cmd.specs.Diffs.{DiffersBy};
 ghost use Rattle.t1_cmd.specs.Listings.{listing_input, JoinsTo};
 ghost use Rattle.t1_cmd.specs.WrittenSubsets.{OfUnion};
 ghost use Rattle.t1_cmd.specs.Cuts.{OfRejoined};
@@ -32,8 +33,8 @@ use answers::{give_files, give_nothing, give_of};
 use numbers::{BAD_CALL, form_of};
 use std::alloc::Global;
 use t1_cmd::{
-    check_file, convert_file, join_listings, list_file, list_mends, mend_file, merge_files,
-    rejoin_files, show_file, subset_file,
+    check_file, convert_file, diff_files, join_listings, list_file, list_mends, mend_file,
+    merge_files, rejoin_files, show_file, subset_file,
 };
 
 /// Says what a font has: the line of `t1subset check`.
@@ -152,6 +153,19 @@ pub extern "C" fn t1subset_rejoin(
         Some(form) => give_files(alloc, rejoin_files(alloc, fonts, form), answer),
         None => give_nothing(BAD_CALL, answer),
     }
+}
+
+/// Tells all conflicts of two fonts: the lines of `t1subset diff`.
+#[unsafe(no_mangle)]
+pub extern "C" fn t1subset_diff(
+    alloc: Global,
+    first: &[u8],
+    second: &[u8],
+    answer: &mut Answer,
+) -> u32
+    ensures { GivesFiles font_input DiffersBy (first.now ∷ second.now ∷ []) result answer.new }
+{
+    give_files(alloc, diff_files(alloc, first, second), answer)
 }
 
 /// Makes the text of the join of two listings.

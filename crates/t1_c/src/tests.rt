@@ -1,8 +1,8 @@
 //! A call of each function, small and large, with what it gives, and a refusal of each kind. What the program writes for
 //! many more inputs is compared with the library's bytes in C.
 use crate::{
-    Answer, t1subset_check, t1subset_convert, t1subset_join, t1subset_list, t1subset_mend,
-    t1subset_mends, t1subset_merge, t1subset_rejoin, t1subset_show, t1subset_subset,
+    Answer, t1subset_check, t1subset_convert, t1subset_diff, t1subset_join, t1subset_list,
+    t1subset_mend, t1subset_mends, t1subset_merge, t1subset_rejoin, t1subset_show, t1subset_subset,
 };
 use std::alloc::Global;
 use std::test::Fail;
@@ -45,6 +45,9 @@ fn texts(rt: HostRuntime) -> Result<(), Fail> {
     let mut a = used();
     let code = t1subset_show(rt.alloc(), PFB, b"X", &mut a);
     assert!(rt; begins(code, &a, b"width 300 0\n"));
+    let mut a = used();
+    let code = t1subset_diff(rt.alloc(), PFB, PFA, &mut a);
+    assert!(rt; gave(code, &a, (0, 0, -1, b"")));
     let mut a = used();
     let code = t1subset_join(rt.alloc(), b"S 5 0b\n", b"G A 0e\nS 5 0B\n", &mut a);
     assert!(rt; gave(code, &a, (0, 0, -1, b"S 5 0b\nG A 0e\n")));

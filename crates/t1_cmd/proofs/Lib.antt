@@ -10,7 +10,11 @@ pub mod FontLemmas
 pub mod Walks
 pub mod RejoinLemmas
 pub mod Files
+mod Lines
+mod DiffLemmas
 pub mod MendLemmas
 pub mod OneAnswer
 pub mod CutLemmas
 pub mod CodeLemmas
+pub mod DocumentLemmas
+pub mod LevelLemmas

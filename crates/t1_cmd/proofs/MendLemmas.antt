@@ -141,22 +141,6 @@ rejoins_mended = same_fonts 0
 
 -- ---- what is told
 
--- one line more is added
-pub one_line_more : (ms : List Mend) (i : ℕ) (d : Mend) (old new : List ℕ) → i < length ms →
-    old ++ flat_map mend_line (drop i ms) ≡ flat_map mend_line ms → new ≡ old ++ mend_line (get_or ms i d) →
-    new ++ flat_map mend_line (drop (i + 1) ms) ≡ flat_map mend_line ms
-one_line_more ms i d old new lt so_far more =
-    let rest : List ℕ = flat_map mend_line (drop (i + 1) ms) in
-    ap (λ (t : List ℕ). t ++ rest) more
-    ∙ (append_assoc old (mend_line (get_or ms i d)) rest
-    ∙ (ap (λ (l : List Mend). old ++ flat_map mend_line l) (sym (drop_more ms i d lt)) ∙ so_far))
-
--- behind the last, all are there
-pub all_lines : (ms : List Mend) (i : ℕ) (text : List ℕ) → length ms ≤ i → text ++ flat_map mend_line (drop i ms) ≡ flat_map mend_line ms →
-    text ≡ flat_map mend_line ms
-all_lines ms i text all so_far =
-    sym (append-nil text) ∙ (ap (λ (l : List Mend). text ++ flat_map mend_line l) (sym (drop_all i ms all)) ∙ so_far)
-
 -- what is told of a file, by whether it is too long and what is read of it widely
 abbrev told_by : List ℕ → Bool → Result FontValue ReadFault → Result (List ℕ) Reason
 told_by file long r = if long then Err TooLong else if_there (λ mends. Ok (flat_map mend_line mends)) (with_reason font_reason (mends_in file r))

@@ -1,7 +1,6 @@
 -- Readers that are read one after the other: what they have said so far, and how they stop.
 use Rattle.std.proofs.Common.{◌≡◌, ◌<◌, ◌≤◌, ◌+◌, ℕ, zero, suc, refl, sym, ◌∙◌, ap, subst, List, [], ◌∷◌, ◌++◌, length, get_or, set, inl, inr, Option}
 use Rattle.std.proofs.Common.{Result, Ok, IfSome, arith}
-use Rattle.t1_font.specs.FontValue.{FontValue}
 use Rattle.t1_cmd.specs.declared.counting.Counted.{Counted}
 use Rattle.t1_cmd.specs.declared.faults.Reason.TheVariants.{TooLong, Memory, List as ListReason, Join as JoinReason, Font, NoGlyph, NoCode, Lacks, Merge}
 use Rattle.t1_cmd.specs.declared.faults.RunFault.{RunFault}
@@ -14,9 +13,9 @@ use Rattle.t1_cmd.specs.declared.faults.Reason.{Reason}
 use Rattle.t1_cmd.specs.Mergers.{inputs_of, InTurns, InputsStop}
 use Rattle.t1_cmd.proofs.RunLemmas.{says_understood}
 
-module _ (input : List ℕ → Result FontValue Reason) {X : Type 0} (remaining : X → Option (List ℕ)) where
+module _ {A : Type 0} (input : List ℕ → Result A Reason) {X : Type 0} (remaining : X → Option (List ℕ)) where
   -- where it is known, the reader says the font
-  abbrev pub Says : Counted X → FontValue → Type 0
+  abbrev pub Says : Counted X → A → Type 0
   Says r f = IfSome (remaining (inner_of r)) (λ bytes. input bytes ≡ Ok f)
 
   -- a reader was called no more often than one input may take
@@ -24,20 +23,20 @@ module _ (input : List ℕ → Result FontValue Reason) {X : Type 0} (remaining 
   InTurn old new = calls_counted new ≤ calls_counted old + (file_limit + 1)
 
   -- the first readers have said these fonts, and the others are as they were
-  abbrev pub SoFar : ℕ → List (Counted X) → List (Counted X) → List FontValue → Type 0
+  abbrev pub SoFar : ℕ → List (Counted X) → List (Counted X) → List A → Type 0
   SoFar zero os ns fs = (ns ≡ os) × (fs ≡ [])
   SoFar (suc i) [] ns fs = ⊥
   SoFar (suc i) (o ∷ os) [] fs = ⊥
   SoFar (suc i) (o ∷ os) (n ∷ ns) [] = ⊥
   SoFar (suc i) (o ∷ os) (n ∷ ns) (f ∷ fs) = Says o f × InTurn o n × SoFar i os ns fs
 
-  first_next : (os : List (Counted X)) (r x : Counted X) (f : FontValue) → 0 < length os → r ≡ get_or os 0 r → Says r f → InTurn r x
+  first_next : (os : List (Counted X)) (r x : Counted X) (f : A) → 0 < length os → r ≡ get_or os 0 r → Says r f → InTurn r x
       → SoFar 1 os (set os 0 x) (f ∷ [])
   first_next [] r x f l e s t = absurd (omega (arith, l))
   first_next (o ∷ os) r x f l e s t = (subst (λ r. Says r f) e s, subst (λ r. InTurn r x) e t, (refl, refl))
 
   -- one more reader said its font
-  pub next : (i : ℕ) (os ns : List (Counted X)) (fs : List FontValue) (r x : Counted X) (f : FontValue) → SoFar i os ns fs → i < length ns
+  pub next : (i : ℕ) (os ns : List (Counted X)) (fs : List A) (r x : Counted X) (f : A) → SoFar i os ns fs → i < length ns
       → r ≡ get_or ns i r → Says r f → InTurn r x → SoFar (suc i) os (set ns i x) (fs ++ f ∷ [])
   next zero os ns fs r x f h l e s t =
       subst (λ ns. SoFar 1 os (set ns 0 x) (fs ++ f ∷ [])) (sym h.0) (subst (λ fs. SoFar 1 os (set os 0 x) (fs ++ f ∷ [])) (sym h.1)
@@ -48,7 +47,7 @@ module _ (input : List ℕ → Result FontValue Reason) {X : Type 0} (remaining 
   next (suc i) (o ∷ os) (n ∷ ns) (g ∷ fs) r x f h l e s t = (h.0, h.1, next i os ns fs r x f h.2 (omega (arith, l)) e s t)
 
   -- the same, as code counts the place
-  pub goes_on : (i : ℕ) (os ns : List (Counted X)) (fs : List FontValue) (r x : Counted X) (f : FontValue) → SoFar i os ns fs → i < length ns
+  pub goes_on : (i : ℕ) (os ns : List (Counted X)) (fs : List A) (r x : Counted X) (f : A) → SoFar i os ns fs → i < length ns
       → r ≡ get_or ns i r → Says r f → InTurn r x → SoFar (i + 1) os (set ns i x) (fs ++ f ∷ [])
   goes_on i os ns fs r x f h l e s t =
       let more : suc i ≡ i + 1 = omega arith in subst (λ k. SoFar k os (set ns i x) (fs ++ f ∷ [])) more (next i os ns fs r x f h l e s t)
@@ -61,7 +60,7 @@ module _ (input : List ℕ → Result FontValue Reason) {X : Type 0} (remaining 
   first_stops P (o ∷ os) r x l e p = inl (subst (λ r. P (input_of remaining r x)) e p)
 
   -- a reader with a fact is the first, since those before it are understood
-  pub first_with : (P : Input → Type 0) (i : ℕ) (os ns : List (Counted X)) (fs : List FontValue) (r x : Counted X) → SoFar i os ns fs → i < length ns
+  pub first_with : (P : Input → Type 0) (i : ℕ) (os ns : List (Counted X)) (fs : List A) (r x : Counted X) → SoFar i os ns fs → i < length ns
       → r ≡ get_or ns i r → P (input_of remaining r x) → FirstWith input P (inputs_of remaining os (set ns i x))
   first_with P zero os ns fs r x h l e p =
       subst (λ ns. FirstWith input P (inputs_of remaining os (set ns 0 x))) (sym h.0)
@@ -73,7 +72,7 @@ module _ (input : List ℕ → Result FontValue Reason) {X : Type 0} (remaining 
       inr (says_understood input (input_of remaining o n) f h.0, first_with P i os ns fs r x h.2 (omega (arith, l)) e p)
 
   -- what stops a reader stops the reading of all
-  pub stops : (i : ℕ) (os ns : List (Counted X)) (fs : List FontValue) (r x : Counted X) (e : RunFault) → SoFar i os ns fs → i < length ns
+  pub stops : (i : ℕ) (os ns : List (Counted X)) (fs : List A) (r x : Counted X) (e : RunFault) → SoFar i os ns fs → i < length ns
       → r ≡ get_or ns i r → InputStops input (input_of remaining r x) e → InputsStop input (inputs_of remaining os (set ns i x)) e
   stops i os ns fs r x (Refused TooLong) h l e s = first_with (IsRefused input TooLong) i os ns fs r x h l e s
   stops i os ns fs r x (Refused Memory) h l e s = tt
@@ -98,7 +97,7 @@ module _ (input : List ℕ → Result FontValue Reason) {X : Type 0} (remaining 
   first_turns (o ∷ os) r x e t = (subst (λ r. InTurn r x) e t, still os)
 
   -- each reader so far kept its turns
-  pub turns_at : (i : ℕ) (os ns : List (Counted X)) (fs : List FontValue) (r x : Counted X) → SoFar i os ns fs → r ≡ get_or ns i r → InTurn r x
+  pub turns_at : (i : ℕ) (os ns : List (Counted X)) (fs : List A) (r x : Counted X) → SoFar i os ns fs → r ≡ get_or ns i r → InTurn r x
       → InTurns os (set ns i x)
   turns_at zero os ns fs r x h e t = subst (λ ns. InTurns os (set ns 0 x)) (sym h.0) (first_turns os r x (e ∙ ap (λ ns. get_or ns 0 r) h.0) t)
   turns_at (suc i) [] ns fs r x h e t = absurd h
@@ -113,7 +112,7 @@ module _ (input : List ℕ → Result FontValue Reason) {X : Type 0} (remaining 
   none_left (o ∷ os) l = absurd (omega (arith, l))
 
   -- behind the last reader all fonts are said
-  pub all_said : (i : ℕ) (os ns : List (Counted X)) (fs : List FontValue) → SoFar i os ns fs → length ns ≤ i → Say input (inputs_of remaining os ns) fs
+  pub all_said : (i : ℕ) (os ns : List (Counted X)) (fs : List A) → SoFar i os ns fs → length ns ≤ i → Say input (inputs_of remaining os ns) fs
   all_said zero os ns fs h l =
       subst (λ ns. Say input (inputs_of remaining os ns) fs) (sym h.0)
       (subst (λ fs. Say input (inputs_of remaining os os) fs) (sym h.1) (none_left os (subst (λ ns. length ns ≤ 0) h.0 l)))
@@ -123,7 +122,7 @@ module _ (input : List ℕ → Result FontValue Reason) {X : Type 0} (remaining 
   all_said (suc i) (o ∷ os) (n ∷ ns) (f ∷ fs) h l = (h.0, all_said i os ns fs h.2 (omega (arith, l)))
 
   -- and all readers kept their turns
-  pub all_turns : (i : ℕ) (os ns : List (Counted X)) (fs : List FontValue) → SoFar i os ns fs → InTurns os ns
+  pub all_turns : (i : ℕ) (os ns : List (Counted X)) (fs : List A) → SoFar i os ns fs → InTurns os ns
   all_turns zero os ns fs h = subst (λ ns. InTurns os ns) (sym h.0) (still os)
   all_turns (suc i) [] ns fs h = absurd h
   all_turns (suc i) (o ∷ os) [] fs h = absurd h

@@ -14,6 +14,8 @@ pub mod Files
 pub mod Rejoins
 pub mod WrittenSubsets
 pub mod Mends
+pub mod Diffs
 pub mod Cuts
 pub mod CodeLists
 pub mod FullText
+pub mod Documents

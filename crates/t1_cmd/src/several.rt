@@ -38,8 +38,8 @@ fn keep(sources: &mut Vec<Source>, source: Source) -> Result<(), AllocError>
     }
 }
 
-// The source of the font that the bytes of a file are taken for.
-fn source_in(alloc: Global, taking: Taking, file: &[u8]) -> Result<Source, Reason>
+/// The source of the font that the bytes of a file are taken for.
+pub(crate) fn source_in(alloc: Global, taking: Taking, file: &[u8]) -> Result<Source, Reason>
     ensures source { IfOk result (λ source. input_by taking file.now ≡ Ok source) }
     ensures refused { IfErr result (MayRefuse (λ a. a ≡ input_by taking file.now)) }
 {

@@ -1,6 +1,8 @@
 mod changed;
 mod codes;
 mod counts;
+mod diffs;
+mod documents;
 mod drawings;
 mod engines;
 mod failing_merges;

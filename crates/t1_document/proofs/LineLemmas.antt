@@ -161,3 +161,19 @@ first_line b (c ∷ bs) = elim (cases_Bool (closes b (c ∷ bs))) [
   | inl e ↦ rw e refl
   | inr e ↦ rw (e, first_line c bs) refl
 ]
+
+-- ---- between two texts
+
+-- there are no bytes where their number is 0
+pub nil_is : (bytes : List ℕ) → (length bytes == 0) ≡ is_nil bytes
+nil_is [] = refl
+nil_is (b ∷ bs) = elim (cases_Bool (length (b ∷ bs) == 0)) [
+  | inl t ↦ let none : length (b ∷ bs) ≡ 0 = eqb-true (length (b ∷ bs)) 0 t in absurd (omega (arith, none))
+  | inr f ↦ f
+]
+
+-- a line ends behind a text as it does behind its last byte
+pub breaks_behind : (front : List ℕ) (b : ℕ) (behind : List ℕ) → breaks (front ++ b ∷ []) behind ≡ (is_nil behind || closes b behind)
+breaks_behind [] b behind = refl
+breaks_behind (x ∷ []) b behind = refl
+breaks_behind (x ∷ y ∷ front) b behind = breaks_behind (y ∷ front) b behind

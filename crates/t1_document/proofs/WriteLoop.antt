@@ -20,7 +20,7 @@ use Rattle.t1_document.specs.Views.{place_view}
 
 -- ---- names that are refused
 
-same_test : (a b : List ℕ) → bytes_eq a b ≡ bytes_eq b a
+pub same_test : (a b : List ℕ) → bytes_eq a b ≡ bytes_eq b a
 same_test a b = elim (cases_Bool (bytes_eq a b)) [
   | inl e ↦ e ∙ sym ((bytes_eq-Decides b a).1 (sym ((bytes_eq-Decides a b).0 e)))
   | inr e ↦ elim (cases_Bool (bytes_eq b a)) [

@@ -7,3 +7,5 @@ pub mod Rewriting
 pub mod Texts
 pub mod Views
 pub mod Laws
+pub mod Joins
+pub mod Groups

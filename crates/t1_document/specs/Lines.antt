@@ -1,5 +1,5 @@
 -- The lines of a PostScript document: one begins at the start and behind each CR, LF and CR LF.
-use Rattle.std.specs.Prelude.{ℕ, suc, ◌==◌, ◌&&◌, ◌||◌, not, Bool, true, false, List, [], ◌∷◌, take, drop, if◌then◌else◌}
+use Rattle.std.specs.Prelude.{ℕ, suc, ◌==◌, ◌&&◌, ◌||◌, not, Bool, true, false, List, [], ◌∷◌, ◌++◌, take, drop, if◌then◌else◌}
 
 -- LF comes
 abbrev pub lf_comes : List ℕ → Bool
@@ -48,3 +48,16 @@ abbrev pub breaks : List ℕ → List ℕ → Bool
 breaks [] behind = true
 breaks (b ∷ []) behind = is_nil behind || closes b behind
 breaks (b ∷ c ∷ text) behind = breaks (c ∷ text) behind
+
+-- a document behind others: an LF stands between if no line ends there
+abbrev pub with_document : List ℕ → List ℕ → List ℕ
+with_document text document = if breaks text document then text ++ document else (text ++ 10 ∷ []) ++ document
+
+-- documents behind others
+abbrev pub behind_documents : List ℕ → List (List ℕ) → List ℕ
+behind_documents text [] = text
+behind_documents text (d ∷ ds) = behind_documents (with_document text d) ds
+
+-- documents one behind the other
+abbrev pub one_text : List (List ℕ) → List ℕ
+one_text documents = behind_documents [] documents

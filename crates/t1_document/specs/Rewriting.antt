@@ -101,6 +101,10 @@ written_from way new seen (p ∷ ps) last = p.before ++ (fate_bytes (fate_of way
 
 -- ---- of a text
 
+-- the bytes of a document with new texts at each place of a name
+abbrev pub document_levelled : NewTexts → Document → List ℕ
+document_levelled new d = document_bytes (rewritten Level new d)
+
 -- each place of a name that is not refused has its new text
 abbrev pub levelled : NewTexts → List ℕ → List ℕ
 levelled new text = document_bytes (rewritten Level new (document_of text))

@@ -1,15 +1,16 @@
 //! A document as its places, which hold fonts, and the bytes before, between and behind them.
 
-ghost use Rattle.std.specs.Prelude.{◌≡◌, ◌+◌, ◌<◌, ◌^◌, [], length, IfOk};
+ghost use Rattle.std.specs.Prelude.{◌≡◌, ◌+◌, ◌<◌, ◌^◌, [], length, map, IfOk};
 ghost use Rattle.std.specs.List.{AllByRecursion};
 ghost use Rattle.std.specs.Option.{option_map};
 ghost use Rattle.t1_font.specs.Answers.{Answers};
+ghost use Rattle.t1_font.specs.FontModel.{clamp};
 ghost use Rattle.t1_font.specs.ReadFont.{read_font_widely};
 ghost use Rattle.t1_document.specs.Marks.{counted};
 ghost use Rattle.t1_document.specs.Stretches.{stretches};
-ghost use Rattle.t1_document.specs.Documents.{open_behind, begins, ends, encloses, next_mark, placed, place_at, offsets_from, document_bytes, document_of};
+ghost use Rattle.t1_document.specs.Documents.{open_behind, begins, ends, encloses, next_mark, placed, place_at, place_bytes, offsets_from, document_bytes, document_of};
 ghost use Rattle.t1_document.specs.Laws.{Spells};
-ghost use Rattle.t1_document.specs.Views.{stretch_view, font_view, document_view};
+ghost use Rattle.t1_document.specs.Views.{stretch_view, font_view, place_view, document_view};
 
 use crate::fonts::{FontText, font_in};
 use crate::lines::line_of;
@@ -46,6 +47,22 @@ impl<'a> Place<'a> {
         ensures { Answers (λ f. f) result (read_font_widely self.now.text.now) }
     {
         read_wide(alloc, self.text)
+    }
+
+    /// The offset of its font text where so many bytes stand before the place, as far as 64 bits hold it.
+    pub fn text_offset(&self, at: usize) -> usize
+        ensures { result ≡ clamp (at + length self.now.before.now) }
+    {
+        at.saturating_add(self.before.len())
+    }
+
+    /// The offset of what stands behind the place.
+    pub fn end_offset(&self, at: usize) -> usize
+        ensures { result ≡ clamp (at + length (place_bytes (place_view self.now))) }
+    {
+        at.saturating_add(self.before.len())
+            .saturating_add(self.text.len())
+            .saturating_add(self.rest.len())
     }
 }
 
@@ -102,20 +119,20 @@ impl Open {
 }
 
 impl<'a> Document<'a> {
-    /// The offset of the font text of each place in the document.
+    /// The offset of the font text of each place in the document, as far as 64 bits hold it: no text is as long as that, but
+    /// places that were put together by hand may be.
     ///
     /// # Errors
     ///
     /// Only want of memory.
     pub fn offsets(&self, alloc: Global) -> Result<Vec<usize>, AllocError>
-        requires { length (document_bytes (document_view self.now)) < 2 ^ 64 }
-        ensures { IfOk result (λ v. v.items ≡ offsets_from 0 (document_view self.now).places) }
+        ensures { IfOk result (λ v. v.items ≡ map clamp (offsets_from 0 (document_view self.now).places)) }
     {
         let mut offsets = Vec::with_capacity(alloc, self.places.len())?;
-        let mut at = 0;
+        let mut at = 0usize;
         'places: for place in self.places.as_slice() {
-            offsets.push(at + place.before.len())?;
-            at += place.before.len() + place.text.len() + place.rest.len();
+            offsets.push(place.text_offset(at))?;
+            at = place.end_offset(at);
         }
         Ok(offsets)
     }

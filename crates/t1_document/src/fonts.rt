@@ -60,7 +60,7 @@ fn head_len(alloc: Global, source: &Source) -> Result<usize, AllocError>
 }
 
 /// Whether a fault is want of memory.
-fn is_memory(fault: &ReadFault) -> bool
+pub(crate) fn is_memory(fault: &ReadFault) -> bool
     ensures { result ≡ is_memory fault.now }
 {
     matches!(fault, ReadFault::Memory)

@@ -18,15 +18,21 @@
 
 mod documents;
 mod fonts;
+mod groups;
+mod joins;
 pub mod laws;
 mod lines;
 mod marks;
+mod names;
 mod rewriting;
 mod stretches;
 mod texts;
 
 pub use documents::{Document, Place, read_document};
+pub use joins::{Joins, Kept, Outcome, join_fonts};
+pub use lines::push_document;
 pub use marks::{Kind, Mark, Side};
+pub use names::names_of;
 pub use texts::Texts;
 
 #[cfg(test)]

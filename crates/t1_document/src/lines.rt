@@ -1,7 +1,9 @@
 //! The lines of a document.
 
-ghost use Rattle.std.specs.Prelude.{◌≡◌, length, take_while, not};
-ghost use Rattle.t1_document.specs.Lines.{ends_line, end_len, line_of};
+ghost use Rattle.std.specs.Prelude.{◌≡◌, length, take_while, not, OnOk};
+ghost use Rattle.t1_document.specs.Lines.{lf_comes, closes, ends_line, end_len, line_of, breaks, with_document};
+
+use std::alloc::AllocError;
 
 /// Whether a byte is CR or LF.
 fn ends_line(byte: u8) -> bool
@@ -35,4 +37,45 @@ pub(crate) fn line_of(bytes: &[u8]) -> (&[u8], &[u8])
     let body = body_len(bytes);
     let (_, rest) = bytes.split_at(body);
     bytes.split_at(body + end_len(rest))
+}
+
+/// Whether LF comes.
+fn lf_comes(bytes: &[u8]) -> bool
+    ensures { result ≡ lf_comes bytes.now }
+{
+    match bytes {
+        [b'\n', ..] => true,
+        _ => false,
+    }
+}
+
+/// Whether a line ends with this byte, before these.
+fn closes(byte: u8, behind: &[u8]) -> bool
+    ensures { result ≡ closes byte behind.now }
+{
+    byte == b'\n' || byte == b'\r' && !lf_comes(behind)
+}
+
+/// Whether a line ends between these two texts, or one of them is empty.
+fn breaks(text: &[u8], behind: &[u8]) -> bool
+    ensures { result ≡ breaks text.now behind.now }
+{
+    match text.split_last() {
+        Some((byte, _)) => behind.is_empty() || closes(*byte, behind),
+        None => true,
+    }
+}
+
+/// Adds a document behind others, with an LF between if no line ends there.
+///
+/// # Errors
+///
+/// A growth was refused; then some of it may have been added.
+pub fn push_document(text: &mut Vec<u8>, document: &[u8]) -> Result<(), AllocError>
+    ensures { OnOk result (text.new.items ≡ with_document text.old.items document.now) }
+{
+    if !breaks(text.as_slice(), document) {
+        text.push(b'\n')?;
+    }
+    text.extend_from_slice(document)
 }

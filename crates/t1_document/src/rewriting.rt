@@ -11,6 +11,7 @@ ghost use Rattle.t1_document.specs.Views.{font_view, place_view, document_view, 
 
 use crate::documents::{Document, Place};
 use crate::fonts::{FontText, font_in};
+use crate::names::note;
 use crate::stretches::unmarked_len;
 use crate::texts::Texts;
 use std::alloc::{AllocError, Global};
@@ -157,7 +158,7 @@ fn see<'a>(seen: &mut Texts<'a>, place: &Place<'a>, fate: Fate<'_>) -> Result<()
         → Sees seen.new (seen_behind (fate_view fate.entry) (place_view place.now) names)) }
 {
     match fate {
-        Fate::Becomes(_) if place.depth == 0 => seen.put(place.name, place.name),
+        Fate::Becomes(_) if place.depth == 0 => note(seen, place.name),
         _ => Ok(()),
     }
 }

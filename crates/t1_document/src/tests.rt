@@ -1,6 +1,7 @@
 //! Documents as producers write them: which places they have, and what they become with new texts.
 
 mod growths;
+mod joins;
 mod large;
 mod places;
 mod rewriting;

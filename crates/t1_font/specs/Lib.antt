@@ -45,6 +45,7 @@ pub mod EvenTexts
 pub mod FontBoxes
 pub mod BoxViews
 pub mod Evening
+pub mod FontNames
 pub mod Filling
 pub mod EveningLaws
 pub mod WriteLaws

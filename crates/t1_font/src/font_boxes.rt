@@ -321,7 +321,7 @@ fn weight_with(parts: &SourceParts, texts: &ClearTexts) -> u64
 }
 
 /// Whether the font is within the weight limit with these two texts.
-fn is_light(parts: &SourceParts, texts: &ClearTexts) -> bool
+pub(crate) fn is_light(parts: &SourceParts, texts: &ClearTexts) -> bool
     ensures { result
         ≡ nat_le (weight (with_texts parts.now (texts.now.head.items, texts.now.clear_tail.items))) weight_limit }
 {
@@ -389,7 +389,7 @@ impl Source {
     }
 
     /// The font with these two texts around the Encoding.
-    fn with_texts(self, texts: ClearTexts) -> Source
+    pub(crate) fn with_texts(self, texts: ClearTexts) -> Source
         requires { IsFont (with_texts self (texts.head.items, texts.clear_tail.items)) }
         ensures { result ≡ with_texts self (texts.head.items, texts.clear_tail.items) }
     {

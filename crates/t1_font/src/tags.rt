@@ -3,6 +3,7 @@
 ghost use Rattle.std.specs.Prelude.{◌≡◌, ℕ, List, codes};
 ghost use Rattle.std.specs.List.{list_all};
 ghost use Rattle.std.specs.Option.{option_map};
+ghost use Rattle.t1_font.specs.FontNames.{around_name};
 ghost use Rattle.t1_font.specs.Tags.{is_capital, tag, name_marker, name_begins, untagged, name_in, font_name, is_tagged, tagged_name};
 
 use crate::markers::{Marker, first};
@@ -76,6 +77,17 @@ pub fn name_in(text: &[u8]) -> Option<&[u8]>
     let (_, _, behind) = first::<NameMarker>(text)?;
     let (name, _) = regular_at(behind);
     Some(name)
+}
+
+/// The bytes of a text before its name, and those behind the name.
+pub(crate) fn around_name(text: &[u8]) -> Option<(&[u8], &[u8])>
+    ensures { option_map {U = List ℕ × List ℕ} (λ x. (x.0.now, x.1.now)) result
+        ≡ around_name text.now }
+{
+    let (_, _, name) = first::<NameMarker>(text)?;
+    let (before, _) = text.split_at(text.len().saturating_sub(name.len()));
+    let (_, behind) = regular_at(name);
+    Some((before, behind))
 }
 
 /// The name of the font around whose Encoding these two texts stand.

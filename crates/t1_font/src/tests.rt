@@ -13,6 +13,7 @@ mod growths;
 mod limits;
 mod long;
 mod mends;
+mod names;
 mod prefixes;
 mod rows;
 mod tables;

@@ -1,5 +1,6 @@
 mod closing
 pub mod state_tables
+pub mod Telling
 pub mod Answered
 pub mod Lacking
 pub mod Rejoining

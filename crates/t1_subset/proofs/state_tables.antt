@@ -3,5 +3,7 @@ pub mod Conflicts
 pub mod FontCallers
 pub mod FontUsers
 pub mod LowestKeys
+pub mod PassingKeys
+pub mod Sides
 pub mod StateTrees
 pub mod Walks

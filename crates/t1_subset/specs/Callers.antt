@@ -11,7 +11,7 @@ use Rattle.t1_algebra.specs.Profile.{profile}
 use Rattle.t1_algebra.specs.Conflicts.{wants}
 use Rattle.t1_algebra.specs.Lacks.{user_of}
 use Rattle.t1_algebra.specs.Searches.{first_where}
-use Rattle.t1_algebra.specs.StateTables.{states_of}
+use Rattle.t1_algebra.specs.StateTables.{StatesValue, states_of}
 use Rattle.t1_subset.specs.declared.callers.Callers.{Callers}
 use Rattle.t1_subset.specs.Differences.{smaller}
 use Rattle.t1_subset.specs.declared.state_making.Uses.{Uses}
@@ -66,3 +66,9 @@ user_from best cs i = smallest_from (λ c. maps.get c.users (of_number i)) best 
 -- the smallest of a name and the seekers of a component in a list of callers
 abbrev pub seeker_from : Option (List ℕ) → List Callers → List ℕ → Option (List ℕ)
 seeker_from best cs p = smallest_from (λ c. maps.get c.seekers p) best cs
+
+-- these are a font's callers and its states
+pub record IsNoted (c : Callers) (s : StatesValue) : Type 0 where
+  pub is_font : IsFont c.font.now
+  pub callers : AreCallersOf c c.font.now
+  pub states : s ≡ states_of profile c.font.now

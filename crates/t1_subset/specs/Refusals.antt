@@ -1,5 +1,5 @@
 -- What the refusals say.
-use Rattle.std.specs.Prelude.{◌≡◌, ℕ, List, Option, Some}
+use Rattle.std.specs.Prelude.{◌≡◌, ℕ, List, [], ◌∷◌, ◌++◌, Option, Some}
 use Rattle.std.specs.Option.{option_map}
 use Rattle.t1_algebra.specs.Conflicts.{Conflict, ShellDiffers, CodeDiffers, GlyphDiffers, LacksComponent, SubrDiffers, OverLimit}
 use Rattle.t1_subset.specs.declared.fault.SubsetFault.{SubsetFault}
@@ -23,3 +23,20 @@ Tells (refusal.Subr i g) c = c ≡ Some (SubrDiffers i (option_map vector_bytes 
 Tells refusal.Limit c = c ≡ Some OverLimit
 Tells refusal.Memory c = Unit {0}
 Tells refusal.Empty c = ⊥
+
+-- ---- lists of refusals
+
+-- the refusals tell these conflicts, one for one, and none of them is want of memory
+abbrev pub TellEach : List Refusal → List Conflict → Type 0
+TellEach [] [] = Unit {0}
+TellEach [] (c ∷ cs) = ⊥
+TellEach (e ∷ es) [] = ⊥
+TellEach (e ∷ es) (c ∷ cs) = (Tells e (Some c) × ¬ (e ≡ refusal.Memory)) × TellEach es cs
+
+-- the refusals with those that were added tell these conflicts besides
+abbrev pub Adds : List Refusal → List Refusal → List Conflict → Type 0
+Adds old new cs = (ds : List Conflict) → TellEach old ds → TellEach new (ds ++ cs)
+
+-- one refusal was added
+abbrev pub AddsOne : Refusal → List Refusal → List Refusal → Type 0
+AddsOne e old new = (c : Conflict) → Tells e (Some c) → Adds old new (c ∷ [])

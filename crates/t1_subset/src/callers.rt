@@ -100,7 +100,7 @@ pub(crate) fn user<'a>(callers: &[Callers<'_, 'a>], index: u16) -> Option<&'a [u
 }
 
 /// The glyph that seeks the component, in the callers of a font.
-fn seeker_in<'a>(seekers: &Seekers<'a>, component: &[u8]) -> Option<&'a [u8]>
+pub(crate) fn seeker_in<'a>(seekers: &Seekers<'a>, component: &[u8]) -> Option<&'a [u8]>
     ensures { option_map (λ n. n.now) result ≡ maps.get seekers.now component.now }
 {
     match seekers.get(&component) {

@@ -2,7 +2,7 @@
 
 ghost use Rattle.t1_algebra.specs.Laws.{KeepIsLeast, KeepIsMonotone, Distribution, SubsetIsFont, SubsetOfSubset, Bottom, SubsetsDraw, TwoSubsets};
 ghost use Rattle.t1_algebra.specs.Laws.{ManySubsets, JoinedIsFont, JoinIsSymmetric, JoinIsIdempotent, StatesOfJoin, JoinsDraw, AnyOrder};
-ghost use Rattle.t1_algebra.specs.Laws.{AcceptedByPairs, JoinWhereStatesAgree, NoConflictIsJoin, ConflictIsSymmetric, JoinHasEntries, CallsDrawAlike};
+ghost use Rattle.t1_algebra.specs.Laws.{AcceptedByPairs, JoinWhereStatesAgree, NoConflictIsJoin, ConflictIsSymmetric, ConflictsAreAll, JoinHasEntries, CallsDrawAlike};
 ghost use Rattle.t1_algebra.specs.Profile.{profile};
 ghost use Rattle.t1_algebra.specs.Headline.{Headline};
 ghost use Rattle.t1_algebra.specs.Evened.{EvenedDraw};
@@ -119,6 +119,13 @@ pub fn no_conflict_is_join()
 #[tactic(auto, using(t1_algebra::proofs::Conflicts::conflict_back))]
 pub fn conflict_is_symmetric()
     ensures { ConflictIsSymmetric profile }
+{}
+
+/// Two fonts have no conflicts exactly if they join; otherwise the lowest is the first of all, and in both orders all are the
+/// same.
+#[tactic(auto, using(t1_algebra::proofs::AllConflicts::all_conflicts))]
+pub fn conflicts_are_all()
+    ensures { ConflictsAreAll profile }
 {}
 
 /// If the states of two fonts join, their join has the entries of both.

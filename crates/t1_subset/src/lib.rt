@@ -19,6 +19,7 @@ mod calls;
 mod closure_names;
 mod closures;
 mod conflict;
+mod differences;
 mod fault;
 mod font_making;
 mod groupings;
@@ -41,6 +42,7 @@ mod users;
 
 pub use closures::closure;
 pub use conflict::{Conflict, ShellPart};
+pub use differences::conflicts;
 pub use fault::{RejoinFault, SubsetFault};
 pub use groupings::shells_conflict;
 pub use lacks::{Lack, first_lack};

@@ -57,7 +57,7 @@ fn subr_conflict(own: &Table<u16, &[u8]>, other: &Table<u16, &[u8]>) -> Option<u
 }
 
 /// The conflict of a glyph that differs, or want of memory.
-fn glyph_differs(alloc: Global, name: &[u8]) -> Conflict
+pub(crate) fn glyph_differs(alloc: Global, name: &[u8]) -> Conflict
     ensures { Tells result (Some (GlyphDiffers name.now)) }
 {
     match Vec::from_slice(alloc, name) {
@@ -67,7 +67,7 @@ fn glyph_differs(alloc: Global, name: &[u8]) -> Conflict
 }
 
 /// The conflict of a component that is lacking and the glyph that names it, or want of memory.
-fn lacks_component(alloc: Global, glyph: Option<&[u8]>, part: &[u8]) -> Conflict
+pub(crate) fn lacks_component(alloc: Global, glyph: Option<&[u8]>, part: &[u8]) -> Conflict
     ensures { Tells result
         (Some (LacksComponent (unwrap_or (option_map (λ n. n.now) glyph.entry) []) part.now)) }
 {
@@ -81,7 +81,7 @@ fn lacks_component(alloc: Global, glyph: Option<&[u8]>, part: &[u8]) -> Conflict
 }
 
 /// The conflict of a Subr that differs and the glyph that executes it, or want of memory.
-fn subr_differs(alloc: Global, index: u16, user: Option<&[u8]>) -> Conflict
+pub(crate) fn subr_differs(alloc: Global, index: u16, user: Option<&[u8]>) -> Conflict
     ensures { Tells result (Some (SubrDiffers index (option_map (λ n. n.now) user.entry))) }
 {
     match user {

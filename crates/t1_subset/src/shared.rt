@@ -37,7 +37,7 @@ impl<'a> Model for Shared<'a> {
 }
 
 /// The parts of a shell, in the order in which they are compared.
-const PARTS: [ShellPart; 9] = [
+pub(crate) const PARTS: [ShellPart; 9] = [
     ShellPart::Head,
     ShellPart::Encoding,
     ShellPart::ClearTail,
@@ -77,7 +77,7 @@ fn same_text(left: &Shell, right: &Shell, part: Part) -> bool
 }
 
 /// Whether a part is the same in both.
-fn same_part(left: &Shared<'_>, right: &Shared<'_>, part: ShellPart) -> bool
+pub(crate) fn same_part(left: &Shared<'_>, right: &Shared<'_>, part: ShellPart) -> bool
     ensures { result ≡ same_part left.now right.now (shell_part part) }
 {
     let own = left.shell;

@@ -9,6 +9,7 @@ ghost use Rattle.t1_algebra.specs.StateTables.{StatesFit, behind_mark, code_part
 ghost use Rattle.t1_algebra.specs.StateLaws.{PartsAgree};
 
 use crate::name_states::NameTable;
+use crate::shared::Shared;
 use crate::state_value::States;
 use std::alloc::{AllocError, Global};
 use t1_font::{COUNT_LIMIT, Extent, Named, WEIGHT_LIMIT};
@@ -83,8 +84,15 @@ impl<'a> States<'a> {
         is_within(self.extent_by(other, names))
     }
 
+    /// What the font shares with each font that it joins.
+    pub(crate) fn shared(&self) -> &Shared<'a>
+        ensures { result.now ≡ self.now.0 }
+    {
+        &self.shared
+    }
+
     /// The states of codes.
-    fn codes(&self) -> &Table<u16, &'a [u8]>
+    pub(crate) fn codes(&self) -> &Table<u16, &'a [u8]>
         ensures { result.now ≡ code_part self.now }
     {
         &self.codes
@@ -98,7 +106,7 @@ impl<'a> States<'a> {
     }
 
     /// The states of Subrs.
-    fn subrs(&self) -> &Table<u16, &'a [u8]>
+    pub(crate) fn subrs(&self) -> &Table<u16, &'a [u8]>
         ensures { result.now ≡ subr_part self.now }
     {
         &self.subrs

@@ -1,6 +1,7 @@
 //! Fonts in memory: what closures, subsets and mergers answer with ample memory, and each refusal with its data.
 
 mod closures;
+mod differences;
 mod fonts;
 mod growths;
 mod kept;

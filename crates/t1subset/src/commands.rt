@@ -159,6 +159,52 @@ fn rejoin_command<'a>(alloc: Global) -> Result<Command<'a>, AllocError> {
     list_of_fonts_command(alloc, "rejoin", about, REJOIN_HELP)
 }
 
+const POOL_HELP: &str = "\
+OUT comes first: `t1subset pool a.ps b.ps` overwrites a.ps.
+
+Writes PostScript documents one behind the other to OUT, with each font once.
+A font stands between a line %%BeginFont, %%BeginResource or %%BeginProcSet and
+the line that ends it; its cipher is hexadecimal. Fonts that have one name are
+rejoined, and keep it. Behind the first place of a name that is in no embedded
+document, later places lose the font and what follows it there. Nothing else
+changes. The fonts of a name that don't rejoin stay as they are, and a line on
+standard error tells why. What a first place defines has to be in force at the
+later ones: with a `restore` between them use the documents as they are. OUT is
+opened only when the result is complete.
+
+Example: t1subset pool all.ps one.ps two.ps";
+
+fn pool_command<'a>(alloc: Global) -> Result<Command<'a>, AllocError> {
+    let documents = Arg::new(alloc, "IN")
+        .num_args(1..)
+        .required(true)
+        .action(ArgAction::Append)
+        .help("The documents");
+    Command::new(alloc, "pool")
+        .about("Writes documents one behind the other with each font once")
+        .after_help(POOL_HELP)
+        .arg(word(alloc, "OUT", "The file that is written"))?
+        .arg(documents)
+}
+
+const DIFF_HELP: &str = "\
+Tells why two fonts don't merge: a line for each conflict, the lowest first, as
+`merge` tells the lowest. First each part of the texts around the tables that
+differs, then each code, each glyph, each component that one font lacks and the
+other has, behind its first caller, and each Subr, before its first user. `over
+a limit` is told only where nothing else is. It prints nothing, and ends with
+status 0, exactly if the fonts merge; with a conflict the status is 1.
+
+Example: t1subset diff one.pfa two.pfa";
+
+fn diff_command<'a>(alloc: Global) -> Result<Command<'a>, AllocError> {
+    Command::new(alloc, "diff")
+        .about("Prints all conflicts of two fonts")
+        .after_help(DIFF_HELP)
+        .arg(word(alloc, "A", "The first font"))?
+        .arg(word(alloc, "B", "The second font"))
+}
+
 const PFA_HELP: &str = "\
 IN is a Type 1 font as PFA, PFB or with a raw binary cipher. OUT becomes its
 one canonical file in this form: the texts around the tables unchanged, the
@@ -266,8 +312,9 @@ fn show_command<'a>(alloc: Global) -> Result<Command<'a>, AllocError> {
 }
 
 const PROGRAM_HELP: &str = "\
-Exit status: 0 for success; 1 for a refusal, with the reason on standard error;
-2 for a wrong command line; 3 if a file can't be opened, read or written.
+Exit status: 0 for success; 1 for a refusal, with the reason on standard error,
+and for fonts that differ; 2 for a wrong command line; 3 if a file can't be
+opened, read or written.
 
 Example: t1subset subset font.pfb some.pfa A B Aacute";
 
@@ -326,6 +373,8 @@ fn program<'a>(alloc: Global) -> Result<Command<'a>, AllocError> {
     let program = with(program, subset_command(alloc));
     let program = with(program, merge_command(alloc));
     let program = with(program, rejoin_command(alloc));
+    let program = with(program, pool_command(alloc));
+    let program = with(program, diff_command(alloc));
     let program = with(program, mend_command(alloc));
     let program = with(program, check_command(alloc));
     let program = with(program, list_command(alloc));

@@ -9,8 +9,8 @@ use std::rt::Files;
 use std::{fs, io};
 use t1_cmd::{
     Counted, FILE_LIMIT, Reason, RunFault, read_all, read_codes, run_check, run_check_of,
-    run_convert, run_join, run_list, run_list_full, run_mend, run_merge, run_rejoin, run_show,
-    run_subset_with_codes, status, write_fault, write_fault_of,
+    run_convert, run_diff, run_join, run_list, run_list_full, run_mend, run_merge, run_pool,
+    run_rejoin, run_show, run_subset_with_codes, status, write_fault, write_fault_of,
 };
 use t1_font::Form;
 
@@ -39,6 +39,19 @@ fn flush<O: Write + Drop>(mut out: Counted<O>) -> Result<(), RunFault> {
     out.flush().map_err(|_| RunFault::Write)
 }
 
+/// The file that the words name so, opened.
+fn named<'p, R: Files>(
+    rt: &R,
+    given: &ArgMatches<'p>,
+    name: &str,
+    seen: &mut Seen<'p>,
+) -> Result<Counted<R::File>, RunFault> {
+    let path = given.get_str(name).unwrap_or("");
+    seen.input = path;
+    let file = fs::open(rt, path).map_err(not_opened)?;
+    Ok(Counted::new(file))
+}
+
 fn join<'p, R: Files, O: Write + Drop>(
     rt: &R,
     alloc: Global,
@@ -46,21 +59,35 @@ fn join<'p, R: Files, O: Write + Drop>(
     out: O,
     seen: &mut Seen<'p>,
 ) -> Result<(), RunFault> {
-    let first = given.get_str("A").unwrap_or("");
-    seen.input = first;
-    let left = fs::open(rt, first).map_err(not_opened)?;
-    let mut left = Counted::new(left);
-    let second = given.get_str("B").unwrap_or("");
-    seen.input = second;
-    let right = fs::open(rt, second).map_err(not_opened)?;
-    let mut right = Counted::new(right);
+    let mut left = named(rt, given, "A", seen)?;
+    let mut right = named(rt, given, "B", seen)?;
     let mut out = Counted::new(out);
     let done = run_join(alloc, &mut left, &mut right, &mut out);
     if right.calls() == 0 {
-        seen.input = first;
+        seen.input = given.get_str("A").unwrap_or("");
     }
     done?;
     flush(out)
+}
+
+/// Tells all conflicts of two fonts. Answers status 0 if there is none, else 1.
+fn diff<'p, R: Files, O: Write + Drop>(
+    rt: &R,
+    alloc: Global,
+    given: &ArgMatches<'p>,
+    out: O,
+    seen: &mut Seen<'p>,
+) -> Result<u8, RunFault> {
+    let mut left = named(rt, given, "A", seen)?;
+    let mut right = named(rt, given, "B", seen)?;
+    let mut out = Counted::new(out);
+    let done = run_diff(alloc, &mut left, &mut right, &mut out);
+    if right.calls() == 0 {
+        seen.input = given.get_str("A").unwrap_or("");
+    }
+    let joins = done?;
+    flush(out)?;
+    Ok(if joins { 0 } else { 1 })
 }
 
 /// The font that the words name, opened.
@@ -69,10 +96,7 @@ fn font<'p, R: Files>(
     given: &ArgMatches<'p>,
     seen: &mut Seen<'p>,
 ) -> Result<Counted<R::File>, RunFault> {
-    let path = given.get_str("IN").unwrap_or("");
-    seen.input = path;
-    let file = fs::open(rt, path).map_err(not_opened)?;
-    Ok(Counted::new(file))
+    named(rt, given, "IN", seen)
 }
 
 /// Checks the font of one path, and writes its line behind the path.
@@ -365,7 +389,27 @@ fn rejoin<'p, R: Files>(
     end(out, done, seen)
 }
 
-/// Does what a command says, but for `check`.
+fn pool<'p, R: Files>(
+    rt: &R,
+    alloc: Global,
+    given: &ArgMatches<'p>,
+    seen: &mut Seen<'p>,
+) -> Result<(), RunFault> {
+    let mut documents = fonts(rt, alloc, given, seen)?;
+    let mut out = out(rt, alloc, given);
+    let done = run_pool(alloc, documents.as_mut_slice(), &mut out);
+    seen.input = last_read(given, documents.as_slice());
+    match done {
+        Ok(lines) => {
+            end(out, Ok(()), seen)?;
+            seen.told = lines;
+            Ok(())
+        }
+        Err(fault) => end(out, Err(fault), seen),
+    }
+}
+
+/// Does what a command says, but for `check` and `diff`.
 fn perform<'p, R: Files, O: Write + Drop>(
     rt: &R,
     alloc: Global,
@@ -378,6 +422,7 @@ fn perform<'p, R: Files, O: Write + Drop>(
         "subset" => subset(rt, alloc, given, seen),
         "merge" => merge(rt, alloc, given, seen),
         "rejoin" => rejoin(rt, alloc, given, seen),
+        "pool" => pool(rt, alloc, given, seen),
         "mend" => mend(rt, alloc, given, seen),
         "list" => list(rt, alloc, given, out, seen),
         "show" => show(rt, alloc, given, out, seen),
@@ -430,10 +475,10 @@ fn run_word<R: Files, O: Write + Drop, E: Write + Drop>(
         note: Note::Nothing,
         told: Vec::new(alloc),
     };
-    let done = if word == "check" {
-        check(rt, alloc, given, out, told, &mut seen)
-    } else {
-        perform(rt, alloc, word, given, out, &mut seen).map(|()| 0u8)
+    let done = match word {
+        "check" => check(rt, alloc, given, out, told, &mut seen),
+        "diff" => diff(rt, alloc, given, out, &mut seen),
+        _ => perform(rt, alloc, word, given, out, &mut seen).map(|()| 0u8),
     };
     let ended = match done {
         Ok(status) => {

@@ -27,8 +27,9 @@ use Rattle.t1_algebra.specs.States.{named_at, is_stub, is_called, subr_state, st
 use Rattle.t1_algebra.specs.StateTables.{states_of, all_components, used_subrs, subr_part, name_part, name_meaning}
 use Rattle.t1_algebra.specs.Conflicts.{Conflict, ShellDiffers, CodeDiffers, GlyphDiffers, LacksComponent, SubrDiffers, OverLimit, keys_of_both, agrees, codes_of_both, glyphs_of_both}
 use Rattle.t1_algebra.specs.Conflicts.{code_clashes, wanted_by, used_by, is_within, shell_conflict, code_conflict, glyph_conflict, component_conflict, subr_conflict, states_conflict, conflict}
-use Rattle.t1_algebra.specs.Searches.{members, found, first_where}
-use Rattle.t1_algebra.specs.Shared.{ShellPart, Head, EncodingPart, Private, SubrsTable, same_word}
+use Rattle.t1_algebra.specs.Conflicts.{states_conflicts, conflicts}
+use Rattle.t1_algebra.specs.Searches.{members, found, first_where, passing, or_else}
+use Rattle.t1_algebra.specs.Shared.{ShellPart, Head, EncodingPart, Private, SubrsTable, same_word, shared_of, differing_parts}
 use Rattle.t1_algebra.proofs.Sets.{name_same, all_at, all_from, any_one, any_at, in_list, from_in_list, any_flat_map, cases}
 use Rattle.t1_algebra.proofs.FontStates.{get-used}
 use Rattle.t1_algebra.proofs.Searching.{passes_none}
@@ -287,6 +288,11 @@ state_Q = name_listed standard subrs glyphs tt tt (codes "Q") ∙ refl
 
 -- ---- conflicts of two fonts of one shell
 
+-- if no element passes, there are none that do
+none_passing : {X : Type 0} (p : X → Bool) (xs : List X) → ((x : X) → p x ≡ false) → filter p xs ≡ []
+none_passing p [] h = refl
+none_passing p (x ∷ xs) h = ap (λ b. cond b (x ∷ filter p xs) (filter p xs)) (h x) ∙ none_passing p xs h
+
 -- the keys of either map, over lists
 abbrev keys_listed : {K : Type 0} → (K → K → Ordering) → List (K × List ℕ) → List (K × List ℕ) → List K
 keys_listed {K = K} R es fs = map (λ (e : K × ℕ). e.0) (map (λ (e : K × List ℕ). (e.0, 0)) (last_entries R (fs ++ es)))
@@ -374,6 +380,32 @@ module _ (e k : Encoding) (ss ts : List (ℕ × List ℕ)) (es fs : List (List �
       (found (λ p. LacksComponent (unwrap_or (first_where (λ n. wanted_are p n d) (names_are d)) []) p) (lacking_are d)
       (found (λ i. SubrDiffers i (first_where (λ n. used_are i n d) (names_are d))) (subrs_differ d) None))))
 
+  -- all conflicts, over lists, after those of the shells and codes
+  abbrev all_listed : List ShellPart → List ℕ → List Conflict
+  all_listed parts codes =
+      map ShellDiffers parts
+      ++ (map CodeDiffers codes
+      ++ (map GlyphDiffers (filter glyph_differs names)
+      ++ (map (λ p. LacksComponent (unwrap_or (first_where (wanted_listed p) names) []) p) (filter lacking_listed names)
+      ++ map (λ i. SubrDiffers i (first_where (used_listed i) names)) (filter subr_differs (keys_listed nat_cmp ss ts)))))
+
+  all_are : (parts : List ShellPart) (codes : List ℕ) → differing_parts (shared_of f) (shared_of g) ≡ parts →
+      passing (code_clashes f g) (codes_of_both e k) ≡ codes → states_conflicts spelled f g ≡ all_listed parts codes
+  all_are parts codes s c = λ d.
+      map ShellDiffers (s d)
+      ++ (map CodeDiffers (c d)
+      ++ (map GlyphDiffers (filter (λ n. not (agrees (glyph_listed e ss es he n d) (glyph_listed k ts fs hf n d))) (names_are d))
+      ++ (map (λ p. LacksComponent (unwrap_or (first_where (λ n. wanted_are p n d) (names_are d)) []) p)
+      (filter (λ p. (has_listed e ss es he p d || has_listed k ts fs hf p d) && list_any (λ n. wanted_are p n d) (names_are d)) (names_are d))
+      ++ map (λ i. SubrDiffers i (first_where (λ n. used_are i n d) (names_are d)))
+      (filter (λ i. not (agrees (state_is e ss es hs he i d) (state_is k ts fs ht hf i d))) (keys_are nat_cmp_total nat_cmp-IsAntisymmetric ss ts hs ht d)))))
+
+  -- fonts with Encodings of one kind differ in no part of their shells but in which indices are present
+  parts_are : same_word (word_of e) (word_of k) ≡ true → (b : Bool) → same_listed ≡ b →
+      differing_parts (shared_of f) (shared_of g) ≡ cond (not b) (SubrsTable ∷ []) []
+  parts_are kinds b present = λ d. cond (not (kinds d)) (EncodingPart ∷ cond (not ((present_are ∙ present) d)) (SubrsTable ∷ []) [])
+      (cond (not ((present_are ∙ present) d)) (SubrsTable ∷ []) [])
+
   -- fonts with Encodings of one kind and with the same indices have no conflict of shells
   shells_same : same_word (word_of e) (word_of k) ≡ true → same_listed ≡ true → shell_conflict f g ≡ None
   shells_same kinds present = λ d. cond (not (kinds d)) (Some EncodingPart) (cond (not ((present_are ∙ present) d)) (Some SubrsTable) None)
@@ -385,6 +417,14 @@ module _ (ss ts : List (ℕ × List ℕ)) (es fs : List (List ℕ × List ℕ)) 
       states_conflict spelled (font_of standard ss es) (font_of standard ts fs) ≡ listed standard standard ss ts es fs hs ht he hf None None
   in_both present = conflicts_are standard standard ss ts es fs hs ht he hf None None (shells_same standard standard ss ts es fs hs ht he hf refl present)
       (passes_none (code_clashes (font_of standard ss es) (font_of standard ts fs)) (members (codes_of_both standard standard)) (λ c. refl))
+
+  -- all conflicts of the two
+  all_in_both : (b : Bool) → same_bytes (map (λ e. e.0) ss) (map (λ e. e.0) ts) ≡ b →
+      states_conflicts spelled (font_of standard ss es) (font_of standard ts fs)
+      ≡ all_listed standard standard ss ts es fs hs ht he hf (cond (not b) (SubrsTable ∷ []) []) []
+  all_in_both b present = all_are standard standard ss ts es fs hs ht he hf (cond (not b) (SubrsTable ∷ []) []) []
+      (parts_are standard standard ss ts es fs hs ht he hf refl b present)
+      (none_passing (code_clashes (font_of standard ss es) (font_of standard ts fs)) (members (codes_of_both standard standard)) (λ c. refl))
 
 -- ---- rows of conflicts
 
@@ -486,3 +526,41 @@ code_66_differs = lowest (font_of (table codes_of_A) subrs glyphs) (font_of (tab
     ((λ d. first_where (λ c. not (agrees (maps.get-from_sorted nat_cmp codes_of_A c tt d) (maps.get-from_sorted nat_cmp codes_of_V c tt d)))
     (keys_are nat_cmp_total nat_cmp-IsAntisymmetric codes_of_A codes_of_V tt tt d)) ∙ refl)
     ∙ refl)
+
+-- ---- rows of all conflicts
+
+-- all conflicts of states, if there are some, are all of the fonts
+all_of : (f g : FontValue) (c : Conflict) (cs : List Conflict) → states_conflicts spelled f g ≡ c ∷ cs → conflicts spelled f g ≡ c ∷ cs
+all_of f g c cs s = ap (λ xs. or_else xs (cond (is_within spelled f g) [] (OverLimit ∷ []))) s
+
+-- B differs, V lacks its component A, and Subr 5, which A executes, differs
+abbrev B_and_V : List (List ℕ × List ℕ)
+B_and_V = (notdef, []) ∷ (codes "B", 7 ∷ []) ∷ (codes "V", codes "AZ") ∷ []
+
+three_kinds : conflicts spelled (font_of standard subrs B_and_V) (font_of standard other_5 other_B)
+    ≡ GlyphDiffers (codes "B") ∷ LacksComponent (codes "V") (codes "A") ∷ SubrDiffers 5 (Some (codes "A")) ∷ []
+three_kinds = all_of (font_of standard subrs B_and_V) (font_of standard other_5 other_B)
+    (GlyphDiffers (codes "B")) (LacksComponent (codes "V") (codes "A") ∷ SubrDiffers 5 (Some (codes "A")) ∷ [])
+    (all_in_both subrs other_5 B_and_V other_B tt tt tt tt true refl ∙ refl)
+
+-- two glyphs and two Subrs of each font differ, and one of these Subrs has no user
+abbrev six_and_two : List (List ℕ × List ℕ)
+six_and_two = (notdef, []) ∷ (codes "A", 6 ∷ []) ∷ (codes "B", 2 ∷ []) ∷ []
+
+abbrev other_at_both : List (ℕ × List ℕ)
+other_at_both = (0, 13 ∷ []) ∷ (5, 13 ∷ []) ∷ (7, stub) ∷ (8, stub) ∷ []
+
+two_of_each : conflicts spelled (font_of standard two_at_0 A_and_B) (font_of standard other_at_both six_and_two)
+    ≡ GlyphDiffers (codes "A") ∷ GlyphDiffers (codes "B") ∷ SubrDiffers 0 None ∷ SubrDiffers 5 (Some (codes "A")) ∷ []
+two_of_each = all_of (font_of standard two_at_0 A_and_B) (font_of standard other_at_both six_and_two)
+    (GlyphDiffers (codes "A")) (GlyphDiffers (codes "B") ∷ SubrDiffers 0 None ∷ SubrDiffers 5 (Some (codes "A")) ∷ [])
+    (all_in_both two_at_0 other_at_both A_and_B six_and_two tt tt tt tt true refl ∙ refl)
+
+-- one font has a Subr that the other lacks, and a glyph differs
+table_and_glyph : conflicts spelled (font_of standard cut_to_A A_and_B) (font_of standard subrs other_B)
+    ≡ ShellDiffers SubrsTable ∷ GlyphDiffers (codes "B") ∷ []
+table_and_glyph = all_of (font_of standard cut_to_A A_and_B) (font_of standard subrs other_B) (ShellDiffers SubrsTable) (GlyphDiffers (codes "B") ∷ [])
+    (all_in_both cut_to_A subrs A_and_B other_B tt tt tt tt false refl ∙ refl)
+
+cuts_have_none : states_conflicts spelled (font_of standard cut_to_A A_alone) (font_of standard cut_to_B B_alone) ≡ []
+cuts_have_none = all_in_both cut_to_A cut_to_B A_alone B_alone tt tt tt tt true refl ∙ refl

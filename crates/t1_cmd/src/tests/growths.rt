@@ -1,12 +1,12 @@
 //! Each engine, over Tiny and two listings, with room for what it writes. `tools/sweep_growths.py` refuses one growth after
 //! the other: an engine that is then refused memory writes nothing, and writes right when it is run again.
-use super::changed::tagged;
+use super::changed::{tagged, with_all};
 use super::engines::{Engine, made, run};
 use super::lists::{List, made_of};
 use super::{LEFT, RIGHT};
 use crate::{
-    Counted, FilesRefusal, Reason, RunFault, join_listings, list_mends, read_all, read_codes,
-    run_join, run_merge, run_rejoin, write_fault, write_fault_of,
+    Counted, FilesRefusal, Reason, RunFault, diff_files, join_listings, list_mends, read_all,
+    read_codes, run_diff, run_join, run_merge, run_rejoin, write_fault, write_fault_of,
 };
 use std::alloc::{AllocError, Global};
 use std::test::Fail;
@@ -209,6 +209,42 @@ fn rejoins(alloc: Global) -> Result<bool, AllocError> {
     Ok(written(out, ended)?.is_some_and(|text| text.as_slice() == PFA.as_slice()))
 }
 
+const DIFFERENCE: &[u8] = b"code 66 differs\n";
+
+/// Whether the conflict of Tiny and of it with another name of a code is told.
+fn differs(alloc: Global) -> Result<bool, AllocError> {
+    let other = with_all(alloc, PFA, b"dup 66 /Y put", b"dup 66 /A put")?;
+    let mut out = Vec::with_capacity(alloc, DIFFERENCE.len())?;
+    let ended = run_diff(
+        alloc,
+        &mut Counted::new(PFA.as_slice()),
+        &mut Counted::new(other.as_slice()),
+        &mut Counted::new(&mut out),
+    );
+    let text = written(out, ended.map(|_| ()))?;
+    Ok(
+        text.is_some_and(|text| text.as_slice() == DIFFERENCE)
+            && differs_by(alloc, other.as_slice())?,
+    )
+}
+
+/// Whether the call over files tells that conflict of Tiny and of this file.
+fn differs_by(alloc: Global, other: &[u8]) -> Result<bool, AllocError> {
+    match diff_files(alloc, PFA, other) {
+        Ok(text) => Ok(text.as_slice() == DIFFERENCE),
+        Err(
+            FilesRefusal {
+                place: None,
+                reason: Reason::Memory,
+            },
+        ) => Err(AllocError),
+        Err(refusal) => {
+            drop(refusal);
+            Ok(false)
+        }
+    }
+}
+
 const CHECKED: &[u8] = b"ok 11 glyphs, 10 subrs, weight 4936\n";
 
 const CHECKED_OF: &[u8] = b"tiny: ok 11 glyphs, 10 subrs, weight 4936\n";
@@ -266,7 +302,9 @@ fn write_right(alloc: Global) -> Result<bool, AllocError> {
         && subsets(alloc)?
         && merges(alloc)?
         && rejoins(alloc)?;
-    let texts = joins(alloc, LEFT, RIGHT, LISTED)? && joins_texts(alloc, LEFT, RIGHT, LISTED)?;
+    let texts = joins(alloc, LEFT, RIGHT, LISTED)?
+        && joins_texts(alloc, LEFT, RIGHT, LISTED)?
+        && differs(alloc)?;
     let told = tells(alloc)? && tells_of(alloc)? && tells_nothing(alloc)?;
     Ok(lists && fonts && texts && told && reads(alloc)?)
 }

@@ -1,5 +1,6 @@
 //! Each engine over a font of as many glyphs as there can be, and over a listing of as many lines.
 use super::changed::file_of;
+use super::diffs::differs;
 use super::engines::{Engine, answer};
 use super::joins;
 use super::lists::{LISTS, List, listed};
@@ -95,6 +96,7 @@ fn lacks_the_next(alloc: Global, file: &[u8]) -> bool {
 // meets run_subset NoGlyph at 65535 glyphs
 // like run_check: run_check_of, run_list, run_list_full, run_convert, run_mend, run_merge, run_rejoin
 // like run_check: check_file, list_file, list_file_full, convert_file, mend_file, list_mends, merge_files, rejoin_files
+// like run_check: run_diff, diff_files
 // like run_show: show_file
 // like run_subset: subset_file, run_subset_with_codes, subset_file_with_codes
 #[test]
@@ -108,6 +110,15 @@ fn as_many_glyphs_as_a_font_can_have(rt: HostRuntime) -> Result<(), Fail> {
     assert!(rt; is_rewritten(rt.alloc(), file.as_slice()));
     assert!(rt; has_the_last(rt.alloc(), file.as_slice()));
     assert!(rt; lacks_the_next(rt.alloc(), file.as_slice()));
+    assert!(rt;
+        differs(
+            rt.alloc(),
+            file.as_slice(),
+            file.as_slice(),
+            b"",
+            Some(true)
+        )
+    );
     Ok(())
 }
 

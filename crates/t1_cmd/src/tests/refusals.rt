@@ -1,11 +1,13 @@
 //! Each refusal of a font by each engine, with the line that is printed: of the engines over one font, and of those over
 //! lists, whose third font is the one that is refused.
 use super::changed::file_of;
+use super::diffs::refuses as diff_refuses;
 use super::engines::{ENGINES, answers, made, run};
 use super::lists::{LISTS, listed, made_of, refused_place, run_list_of};
 use super::word;
 use crate::{
-    Counted, FILE_LIMIT, FilesRefusal, Reason, RunFault, join_listings, read_all, run_join,
+    Counted, FILE_LIMIT, FilesRefusal, Reason, RunFault, diff_files, join_listings, read_all,
+    run_diff, run_join, run_level, run_pool,
 };
 use std::alloc::{AllocError, Global};
 use std::io;
@@ -71,7 +73,7 @@ fn all_refuse(alloc: Global, file: &[u8], line: &[u8]) -> bool {
             return false;
         }
     }
-    third_is_refused(alloc, file, line)
+    third_is_refused(alloc, file, line) && diff_refuses(alloc, file, line)
 }
 
 /// Whether each engine over a list refuses a file with this line where it is the third of four, and the call below it tells
@@ -104,7 +106,7 @@ fn third_is_refused(alloc: Global, file: &[u8], line: &[u8]) -> bool {
 // meets run_check Limit
 // like run_check: run_check_of, run_list, run_list_full, run_show, run_convert, run_mend, run_subset, run_subset_with_codes, run_merge, run_rejoin
 // like run_check: check_file, list_file, list_file_full, show_file, convert_file, mend_file, list_mends
-// like run_check: subset_file, subset_file_with_codes, merge_files, rejoin_files
+// like run_check: subset_file, subset_file_with_codes, merge_files, rejoin_files, run_diff, diff_files
 #[test]
 fn each_fault_by_each_engine(rt: HostRuntime) -> Result<(), Fail> {
     for &(file, line) in CLEAR {
@@ -212,6 +214,66 @@ fn is_too_long_a_listing(alloc: Global, text: &[u8]) -> bool {
     )
 }
 
+/// Whether a file is too long for the call over two fonts, at either place.
+fn is_too_long_to_compare(alloc: Global, file: &[u8]) -> bool {
+    let first = diff_files(alloc, file, b"");
+    let second = diff_files(alloc, PFA, file);
+    matches!(
+        first,
+        Err(FilesRefusal {
+            place: Some(0),
+            reason: Reason::TooLong
+        })
+    ) && matches!(
+        second,
+        Err(FilesRefusal {
+            place: Some(1),
+            reason: Reason::TooLong
+        })
+    )
+}
+
+/// How Tiny and so many zeros are compared, as a word.
+fn compared_zeros(alloc: Global, count: usize) -> &'static str {
+    let mut right = Counted::new(Zeros { left: count });
+    let mut out = Vec::new(alloc);
+    let ended = run_diff(
+        alloc,
+        &mut Counted::new(PFA.as_slice()),
+        &mut right,
+        &mut Counted::new(&mut out),
+    );
+    let ended = ended.map(|_| ());
+    let word = if is_too_long(&ended) {
+        "too long"
+    } else {
+        word(&ended)
+    };
+    drop(ended);
+    word
+}
+
+/// How documents of so many zeros are pooled, or levelled, as a word.
+fn zeros_as_documents(alloc: Global, left: usize, right: usize, level: bool) -> &'static str {
+    let mut readers = [
+        Counted::new(Zeros { left }),
+        Counted::new(Zeros { left: right }),
+    ];
+    let mut out = Vec::new(alloc);
+    let ended = if level {
+        run_level(alloc, &mut readers).map(|_| ())
+    } else {
+        run_pool(alloc, &mut readers, &mut Counted::new(&mut out)).map(|_| ())
+    };
+    let word = if is_too_long(&ended) {
+        "too long"
+    } else {
+        word(&ended)
+    };
+    drop(ended);
+    word
+}
+
 /// How many bytes of so many zeros are read, if they are not too long.
 fn read_zeros(alloc: Global, count: usize) -> Option<usize> {
     match read_all(alloc, &mut Counted::new(Zeros { left: count }), FILE_LIMIT) {
@@ -245,7 +307,7 @@ fn joined_zeros(alloc: Global, left: usize, right: usize) -> &'static str {
 // meets run_check TooLong at 268435457 bytes
 // like run_check: run_check_of, run_list, run_list_full, run_show, run_convert, run_mend, run_subset, run_subset_with_codes, run_merge, run_rejoin
 // like run_check: check_file, list_file, list_file_full, show_file, convert_file, mend_file, list_mends
-// like run_check: subset_file, subset_file_with_codes, merge_files, rejoin_files
+// like run_check: subset_file, subset_file_with_codes, merge_files, rejoin_files, run_diff, diff_files
 #[test]
 fn files_over_the_limit(rt: HostRuntime) -> Result<(), Fail> {
     // FILE_LIMIT is 268435456.
@@ -257,8 +319,28 @@ fn files_over_the_limit(rt: HostRuntime) -> Result<(), Fail> {
     let file = read_all(rt.alloc(), &mut zeros, 268_435_457)?;
     assert!(rt; is_too_long_a_file(rt.alloc(), file.as_slice()));
     assert!(rt; is_too_long_a_listing(rt.alloc(), file.as_slice()));
+    assert!(rt; is_too_long_to_compare(rt.alloc(), file.as_slice()));
     drop(file);
     assert_eq!(rt; joined_zeros(rt.alloc(), 0, 268_435_457), "too long");
     assert_eq!(rt; joined_zeros(rt.alloc(), 268_435_457, 0), "too long");
+    assert_eq!(rt; compared_zeros(rt.alloc(), 268_435_457), "too long");
+    Ok(())
+}
+
+// meets run_pool TooLong at 268435457 bytes
+// meets run_level TooLong at 268435457 bytes
+#[test]
+fn documents_over_the_limit(rt: HostRuntime) -> Result<(), Fail> {
+    let alloc = rt.alloc();
+    assert_eq!(rt;
+        zeros_as_documents(alloc, 1, 268_435_457, false),
+        "too long"
+    );
+    assert_eq!(rt; zeros_as_documents(alloc, 268_435_457, 1, true), "too long");
+    assert_eq!(rt;
+        zeros_as_documents(alloc, 134_217_728, 134_217_728, false),
+        "too long"
+    );
+    assert_eq!(rt; zeros_as_documents(alloc, 1, 1, false), "ok");
     Ok(())
 }

@@ -3,7 +3,7 @@
 
 use super::rewriting::rewritten;
 use super::{joined, tiny};
-use crate::{Place, read_document};
+use crate::{Outcome, Place, join_fonts, names_of, push_document, read_document};
 use std::alloc::{AllocError, Global};
 use std::test::Fail;
 use t1_font::ReadFault;
@@ -44,6 +44,19 @@ fn has_font(alloc: Global, text: &[u8]) -> Result<bool, AllocError> {
     right
 }
 
+/// Whether two documents with this text have one name, whose places have one text.
+fn joins_right(alloc: Global, text: &[u8]) -> Result<bool, AllocError> {
+    let mut both = Vec::new(alloc);
+    push_document(&mut both, text)?;
+    push_document(&mut both, text)?;
+    let document = read_document(alloc, both.as_slice())?;
+    let names = names_of(alloc, document.places.as_slice())?;
+    let joins = join_fonts(alloc, document.places.as_slice())?;
+    let texts = document.new_texts(alloc, &joins)?;
+    let same = matches!(joins.get(b"Tiny"), Some(Outcome::Same(_)));
+    Ok(names.len() == 1 && same && texts.get(b"Tiny").is_some())
+}
+
 /// Whether each call answers right.
 fn all_answer_right(alloc: Global) -> Result<bool, AllocError> {
     let font = tiny(alloc, b"%!")?;
@@ -56,6 +69,7 @@ fn all_answer_right(alloc: Global) -> Result<bool, AllocError> {
     Ok(
         has_font(alloc, text.as_slice())?
             && is_at(alloc, text.as_slice(), 12)?
+            && joins_right(alloc, text.as_slice())?
             && levelled.as_slice() == want.as_slice()
             && pooled.as_slice() == want.as_slice(),
     )

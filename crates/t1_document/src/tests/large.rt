@@ -2,7 +2,7 @@
 
 use super::rewriting::rewritten;
 use super::{joined, tiny};
-use crate::{Texts, read_document};
+use crate::{Texts, join_fonts, names_of, read_document};
 use std::alloc::{AllocError, Global};
 use std::test::Fail;
 
@@ -113,6 +113,32 @@ fn many_names(rt: HostRuntime) -> Result<(), Fail> {
         fonts_after.as_slice(),
     )?;
     assert!(rt; levelled.as_slice() == after.as_slice());
+    Ok(())
+}
+
+/// How many names a text has, and the text pooled with the fonts that they come to.
+fn pooled(alloc: Global, text: &[u8]) -> Result<(usize, Vec<u8>), AllocError> {
+    let document = read_document(alloc, text)?;
+    let count = names_of(alloc, document.places.as_slice())?.len();
+    let joins = join_fonts(alloc, document.places.as_slice())?;
+    let texts = document.new_texts(alloc, &joins)?;
+    let pooled = document.pool(alloc, &texts)?;
+    Ok((count, pooled))
+}
+
+// meets join_fonts Ok at 300 places
+// like join_fonts: names_of, Document::new_texts
+#[test]
+fn many_fonts_of_each(rt: HostRuntime) -> Result<(), Fail> {
+    let alloc = rt.alloc();
+    let names = names(alloc, 100)?;
+    let fonts = fonts(alloc, b"%!", names.as_slice())?;
+    let once = document_of(alloc, fonts.as_slice())?;
+    let all = repeated(alloc, once.as_slice(), 3)?;
+    let (count, pooled) = pooled(alloc, all.as_slice())?;
+    assert!(rt; count == 100);
+    let empty = b"%%BeginResource: font\n%%EndResource\n".len();
+    assert!(rt; pooled.len() == once.len().saturating_add(empty.saturating_mul(200)));
     Ok(())
 }
 

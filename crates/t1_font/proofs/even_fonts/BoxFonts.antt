@@ -30,12 +30,11 @@ taken_so u f x s h =
     let c = and_parts (stays_at u x s) light b.1 in
     record { fit = a.0; even = b.0; stays = c.0; light = c.1 }
 
--- a font that can have two texts is a font with them
-pub taken_is_font : (u : Box) (f : FontValue) (x : List ℕ × List ℕ) (s : Side) → can_take u f x s ≡ true → AreBytes x.0 → AreBytes x.1 →
-    IsFont f → IsFont (with_texts f x)
-taken_is_font u f x s t head tail h =
-    let k = taken_so u f x s t in
-    let fit = and_parts (fits Head x.0) (fits ClearTail x.1) k.fit in
+-- a font with two texts that fit is a font, if it is within the weight limit
+pub fitting_is_font : (f : FontValue) (x : List ℕ × List ℕ) → both_fit x ≡ true → nat_le (weight (with_texts f x)) weight_limit ≡ true →
+    AreBytes x.0 → AreBytes x.1 → IsFont f → IsFont (with_texts f x)
+fitting_is_font f x fits_both is_light head tail h =
+    let fit = and_parts (fits Head x.0) (fits ClearTail x.1) fits_both in
     let first = fits_so Head x.0 fit.0 in
     let second = fits_so ClearTail x.1 fit.1 in
     let p = h.private in
@@ -57,8 +56,15 @@ taken_is_font u f x s t head tail h =
       encoding = h.encoding;
       subrs = other_clear f.shell x f.shell.subrs f.subrs h.subrs;
       glyphs = record { rd = g.rd; def = g.def; names = g.names; bodies = g.bodies; notdef = g.notdef; few = g.few };
-      light = leb-true (weight (with_texts f x)) weight_limit k.light;
+      light = leb-true (weight (with_texts f x)) weight_limit is_light;
     }
+
+-- a font that can have two texts is a font with them
+pub taken_is_font : (u : Box) (f : FontValue) (x : List ℕ × List ℕ) (s : Side) → can_take u f x s ≡ true → AreBytes x.0 → AreBytes x.1 →
+    IsFont f → IsFont (with_texts f x)
+taken_is_font u f x s t head tail h =
+    let k = taken_so u f x s t in
+    fitting_is_font f x k.fit k.light head tail h
 
 -- ---- what the code answers
 

@@ -19,7 +19,7 @@ use Rattle.t1_subset.specs.{Callers.{seeker_of}, declared.conflict.Conflict.{Con
 use Rattle.t1_subset.proofs.{state_tables.LowestKeys.{lowest_is}, state_tables.FontCallers.{any_first, sought_is, smallest_seeker}}
 
 -- a key whose values in two maps do not join is a key of both
-clash_there : {K : Type 0} {R : K → K → Ordering} → IsTotalOrder R → IsAntisymmetric R → (a b : maps.FinMap R (List ℕ)) (k : K) → clashes_at a b k ≡ true →
+pub clash_there : {K : Type 0} {R : K → K → Ordering} → IsTotalOrder R → IsAntisymmetric R → (a b : maps.FinMap R (List ℕ)) (k : K) → clashes_at a b k ≡ true →
     maps.contains_key (keys_of_both a b) k ≡ true
 clash_there o same a b k h = grind (cases, in_both o same a b k)
 
@@ -31,7 +31,7 @@ named_so (Word w) c = refl
 named_so (Codes t) c = refl
 
 -- a code in conflict is one of the codes of both tables
-code_there : (d e : Encoding) (c : ℕ) → not (agrees (code_state d c) (code_state e c)) ≡ true → maps.contains_key (codes_of_both d e) c ≡ true
+pub code_there : (d e : Encoding) (c : ℕ) → not (agrees (code_state d c) (code_state e c)) ≡ true → maps.contains_key (codes_of_both d e) c ≡ true
 code_there (Word v) e c h = absurd (true≢false (sym h))
 code_there (Codes s) (Word w) c h = grind cases
 code_there (Codes s) (Codes t) c h = clash_there nat_cmp_total nat_cmp-IsAntisymmetric s t c h

@@ -1,8 +1,10 @@
 //! Each call that grows, over a small font. `tools/sweep_growths.py` refuses one growth after the other: a call that then
 //! answers want of memory answers right when it is made again. `None` is another refusal, which is wrong.
 
+use super::differences::differences;
 use super::fonts::whole;
 use super::lacks::{EIGHT, FIVE, WHOLE, differing_in, lack_in, lacking, rejoined};
+use super::mergers::with_a_and_b;
 use crate::{Conflict, SubsetFault, closure, merge, merge_all, states, subset};
 use std::alloc::{AllocError, Global};
 use std::test::Fail;
@@ -157,9 +159,16 @@ fn answers_right(alloc: Global) -> Result<bool, AllocError> {
     }
 }
 
+/// Whether all conflicts of two fonts are told.
+fn conflicts_answer_right(alloc: Global) -> Result<bool, AllocError> {
+    let (one, other) = (whole(alloc)?, with_a_and_b(alloc)?);
+    let told = differences(alloc, one.as_slice(), other.as_slice())?;
+    Ok(told.as_slice() == b"glyph A differs\nglyph B differs\n".as_slice())
+}
+
 /// Whether each call answers right.
 fn all_answer_right(alloc: Global) -> Result<bool, AllocError> {
-    Ok(answers_right(alloc)? && lists_answer_right(alloc)?)
+    Ok(answers_right(alloc)? && lists_answer_right(alloc)? && conflicts_answer_right(alloc)?)
 }
 
 // meets states Ok at 10 glyphs

@@ -288,7 +288,7 @@ fn codes_that_differ(rt: HostRuntime) -> Result<(), Fail> {
 }
 
 /// The file of the font above with another A and another B.
-fn with_a_and_b(alloc: Global) -> Result<Vec<u8>, AllocError> {
+pub fn with_a_and_b(alloc: Global) -> Result<Vec<u8>, AllocError> {
     let a = replaced(alloc, GLYPHS, 1, (b"A", b"\x0e"))?;
     let both = replaced(alloc, a.as_slice(), 3, (b"B", b"\x0e"))?;
     font(alloc, &SHELL, SUBRS, both.as_slice())

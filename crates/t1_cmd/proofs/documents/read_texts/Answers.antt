@@ -1,0 +1,45 @@
+use Rattle.std.proofs.Common.{◌+◌, set, get_or, map, ap, refl, arith, subst, sym}
+use Rattle.t1_cmd.specs.Documents.{text_input}
+use Rattle.t1_cmd.proofs.ReaderLoops.{SoFar, goes_on, stops, turns_at, all_said, all_turns}
+use Rattle.t1_cmd.proofs.documents.read_texts.Goals as goal
+
+pub readers-init : goal.readers-init
+readers-init g c = (refl, ap (map (λ v. v.items)) c.new-texts.ensures.items)
+
+pub returns-in-Err-clause-stops : goal.returns-in-Err-clause-stops
+returns-in-Err-clause-stops g c =
+    stops text_input g.R.Read.remaining c.readers.i c.args.readers.now c.readers.readers (map (λ v. v.items) c.readers.texts.items)
+    (get_or c.readers.readers c.readers.i c.index-readers-i.result) c.read_text.new.reader c.in-Err.fault c.readers.invariant
+    (omega (arith, c.readers-test.true, c.readers.auto.readers)) (ap (get_or c.readers.readers c.readers.i) c.index-readers-i.is)
+    c.in-Err.ensures.ends
+
+pub returns-in-Err-clause-turns : goal.returns-in-Err-clause-turns
+returns-in-Err-clause-turns g c =
+    turns_at text_input g.R.Read.remaining c.readers.i c.args.readers.now c.readers.readers (map (λ v. v.items) c.readers.texts.items)
+    (get_or c.readers.readers c.readers.i c.index-readers-i.result) c.read_text.new.reader c.readers.invariant
+    (ap (get_or c.readers.readers c.readers.i) c.index-readers-i.is) c.read_text.ensures.turns
+
+pub returns-in_err-keep-clause-turns : goal.returns-in_err-keep-clause-turns
+returns-in_err-keep-clause-turns g c =
+    turns_at text_input g.R.Read.remaining c.readers.i c.args.readers.now c.readers.readers (map (λ v. v.items) c.readers.texts.items)
+    (get_or c.readers.readers c.readers.i c.index-readers-i.result) c.read_text.new.reader c.readers.invariant
+    (ap (get_or c.readers.readers c.readers.i) c.index-readers-i.is) c.read_text.ensures.turns
+
+pub readers-preserved : goal.readers-preserved
+readers-preserved g c =
+    subst (λ fs. SoFar text_input g.R.Read.remaining (c.readers.i + 1) c.args.readers.now
+    (set c.readers.readers c.readers.i c.read_text.new.reader) fs)
+    (sym c.in_ok-keep.ensures)
+    (goes_on text_input g.R.Read.remaining c.readers.i c.args.readers.now c.readers.readers (map (λ v. v.items) c.readers.texts.items)
+    (get_or c.readers.readers c.readers.i c.index-readers-i.result) c.read_text.new.reader c.in-Ok.text.items c.readers.invariant
+    (omega (arith, c.readers-test.true, c.readers.auto.readers))
+    (ap (get_or c.readers.readers c.readers.i) c.index-readers-i.is) c.in-Ok.ensures.ends c.in-Ok.ensures.turns)
+
+pub returns-clause-says : goal.returns-clause-says
+returns-clause-says g c =
+    all_said text_input g.R.Read.remaining c.readers.i c.args.readers.now c.readers.readers (map (λ v. v.items) c.readers.texts.items) c.readers.invariant
+    (omega (arith, c.readers-test.false, c.readers.auto.readers))
+
+pub returns-clause-turns : goal.returns-clause-turns
+returns-clause-turns g c =
+    all_turns text_input g.R.Read.remaining c.readers.i c.args.readers.now c.readers.readers (map (λ v. v.items) c.readers.texts.items) c.readers.invariant

@@ -1,0 +1,7 @@
+use Rattle.std.proofs.Common.{map}
+use Rattle.t1_cmd.specs.Documents.{text_input}
+use Rattle.t1_cmd.proofs.ReaderLoops.{SoFar}
+use Rattle.t1_cmd.proofs.documents.read_texts.Given as goal
+
+abbrev pub invariant-readers : goal.invariant-readers
+invariant-readers g l = SoFar text_input g.R.Read.remaining l.i l.fn.readers l.readers (map (λ v. v.items) l.texts.items)

@@ -1,0 +1,7 @@
+use Rattle.std.proofs.Common.{◌≡◌, map, take}
+use Rattle.t1_document.specs.Documents.{document_of}
+use Rattle.t1_document.specs.Views.{document_view}
+use Rattle.t1_cmd.proofs.levels.documents_of.Given as goal
+
+abbrev pub invariant-texts : goal.invariant-texts
+invariant-texts l = map document_view l.documents.items ≡ map (λ t. document_of t.now) (take l.text-index l.texts)

@@ -1,0 +1,16 @@
+use Rattle.std.proofs.Common.{◌≡◌, ℕ, List, map, take, sym, ap, ◌∙◌}
+use Rattle.std.proofs.lemmas.List.{take_all}
+use Rattle.t1_document.specs.declared.documents.Document.{Document as CodeDocument}
+use Rattle.t1_document.specs.Rewriting.{document_levelled}
+use Rattle.t1_document.specs.Texts.{text_in}
+use Rattle.t1_document.specs.Views.{document_view}
+use Rattle.t1_cmd.proofs.LevelLemmas.{map_twice}
+use Rattle.t1_cmd.proofs.levels.each_level.Goals as goal
+
+pub returns : goal.returns
+returns c =
+    let new = text_in c.args.new.now in
+    c.documents.invariant
+    ∙ (ap (map (λ (d : CodeDocument). document_levelled new (document_view d)))
+    (take_all c.documents.document-index c.args.documents.now c.documents-test.false)
+    ∙ sym (map_twice (document_levelled new) document_view c.args.documents.now))

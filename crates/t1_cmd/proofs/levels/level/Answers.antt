@@ -1,0 +1,51 @@
+use Rattle.std.proofs.Common.{◌≡◌, ℕ, List, map, sym, ap, subst, ◌∙◌}
+use Rattle.std.specs.List.{flat_map}
+use Rattle.t1_subset.specs.NameSets.{lent}
+use Rattle.t1_document.specs.declared.documents.Place.{Place as CodePlace}
+use Rattle.t1_document.specs.declared.documents.Document.{Document as CodeDocument}
+use Rattle.t1_document.specs.Documents.{Place, Document, document_of}
+use Rattle.t1_document.specs.Rewriting.{NewTexts, document_levelled}
+use Rattle.t1_document.specs.Groups.{outcome_in}
+use Rattle.t1_document.specs.Joins.{Outcomes, AreOutcomes, new_texts}
+use Rattle.t1_document.specs.Texts.{text_in}
+use Rattle.t1_document.specs.Views.{place_view, document_view}
+use Rattle.t1_document.proofs.NewTexts.{texts_are}
+use Rattle.t1_cmd.specs.Documents.{places_of_all, kept_lines}
+use Rattle.t1_cmd.proofs.LevelLemmas.{places_all, levels_all}
+use Rattle.t1_cmd.proofs.levels.level.Goals as goal
+
+pub returns-clause-levels : goal.returns-clause-levels
+returns-clause-levels c =
+    let texts : List (List ℕ) = lent c.args.texts.now in
+    let outcomes : Outcomes = outcome_in c.in_ok-joins.joins in
+    let seen = λ (ds : List CodeDocument). map document_view ds in
+    let read : seen c.as_slice.result.now ≡ map document_of texts = ap seen c.as_slice.ensures.value ∙ c.in_ok-documents.ensures in
+    let here : map place_view c.in_ok-all.all.places.items ≡ places_of_all texts =
+    c.in_ok-all.ensures ∙ (ap (flat_map (λ (e : Document). e.places)) read ∙ places_all texts) in
+    let are : AreOutcomes (map place_view c.in_ok-all.all.places.items) outcomes =
+    subst (λ (ps : List CodePlace). AreOutcomes (map place_view ps) outcomes) c.as_slice-2.ensures.value c.in_ok-joins.ensures in
+    let new : text_in c.in_ok-new.new ≡ new_texts outcomes =
+    texts_are (map place_view c.in_ok-all.all.places.items) outcomes are (text_in c.in_ok-new.new) c.in_ok-new.ensures in (
+      outcomes,
+      subst (λ (ps : List Place). AreOutcomes ps outcomes) here are,
+      c.in_ok-texts.ensures
+          ∙ (ap (λ (ds : List CodeDocument). map (document_levelled (text_in c.in_ok-new.new)) (seen ds)) c.as_slice-4.ensures.value
+          ∙ (ap (map (document_levelled (text_in c.in_ok-new.new))) c.in_ok-documents.ensures
+          ∙ (ap (λ (n : NewTexts). map (document_levelled n) (map document_of texts)) new ∙ levels_all (new_texts outcomes) texts))),
+    )
+
+pub returns-clause-kept : goal.returns-clause-kept
+returns-clause-kept c =
+    let texts : List (List ℕ) = lent c.args.texts.now in
+    let outcomes : Outcomes = outcome_in c.in_ok-joins.joins in
+    let seen = λ (ds : List CodeDocument). map document_view ds in
+    let read : seen c.as_slice.result.now ≡ map document_of texts = ap seen c.as_slice.ensures.value ∙ c.in_ok-documents.ensures in
+    let here : map place_view c.in_ok-all.all.places.items ≡ places_of_all texts =
+    c.in_ok-all.ensures ∙ (ap (flat_map (λ (e : Document). e.places)) read ∙ places_all texts) in
+    let are : AreOutcomes (map place_view c.in_ok-all.all.places.items) outcomes =
+    subst (λ (ps : List CodePlace). AreOutcomes (map place_view ps) outcomes) c.as_slice-2.ensures.value c.in_ok-joins.ensures in (
+      outcomes,
+      subst (λ (ps : List Place). AreOutcomes ps outcomes) here are,
+      c.in_ok-kept.ensures
+          ∙ (ap (λ (ps : List CodePlace). kept_lines outcomes (map place_view ps)) c.as_slice-3.ensures.value ∙ ap (kept_lines outcomes) here),
+    )

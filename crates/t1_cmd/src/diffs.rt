@@ -1,0 +1,141 @@
+//! The engine that tells all conflicts of two fonts.
+ghost use Rattle.std.specs.Prelude.{◌≡◌, ◌↔◌, ◌+◌, ◌≤◌, ◌++◌, ◌∷◌, [], Ok, OnOk, IfOk, IfErr, IfSome, IsTrue};
+ghost use Rattle.std.specs.List.{flat_map};
+ghost use Rattle.t1_bytes.specs.Limits.{file_limit};
+ghost use Rattle.t1_algebra.specs.Profile.{profile};
+ghost use Rattle.t1_algebra.specs.States.{Join};
+ghost use Rattle.t1_cmd.specs.Count.{calls_counted};
+ghost use Rattle.t1_cmd.specs.Inputs.{input_of, values_of};
+ghost use Rattle.t1_cmd.specs.Answers.{MayRefuse};
+ghost use Rattle.t1_cmd.specs.Files.{IsRefusalAt, OfFiles, RefusesFiles};
+ghost use Rattle.t1_cmd.specs.Fonts.{font_input};
+ghost use Rattle.t1_cmd.specs.Runs.{ended, RunEnds, Succeeds};
+ghost use Rattle.t1_cmd.specs.Diffs.{conflict_line, ListsConflicts, DiffersBy, SaysJoin};
+
+use crate::counting::Counted;
+use crate::faults::{FilesRefusal, Reason, RunFault};
+use crate::several::{refused_at, source_in};
+use crate::words::{Taking, read_font};
+use crate::writing::write_text;
+use std::alloc::{AllocError, Global};
+use std::io::{Read, Write};
+use t1_font::Source;
+use t1_subset::{Conflict, conflicts};
+
+// One more line.
+fn push_conflict(alloc: Global, out: &mut Vec<u8>, conflict: &Conflict) -> Result<(), AllocError>
+    ensures { OnOk result (out.new.items ≡ out.old.items ++ conflict_line conflict.now) }
+{
+    let text = conflict.to_string(alloc)?;
+    out.extend_from_slice(text.as_bytes())?;
+    out.push(b'\n')?;
+    Ok(())
+}
+
+// The lines of conflicts.
+fn conflict_lines(alloc: Global, conflicts: &[Conflict]) -> Result<Vec<u8>, AllocError>
+    ensures { IfOk result (λ text. text.items ≡ flat_map conflict_line conflicts.now) }
+{
+    let mut text = Vec::new(alloc);
+    'conflicts: for conflict in conflicts {
+        push_conflict(alloc, &mut text, conflict)?;
+    }
+    Ok(text)
+}
+
+// The lines of all conflicts of the fonts of two sources.
+fn diff_text(alloc: Global, left: &Source, right: &Source) -> Result<Vec<u8>, AllocError>
+    ensures text { IfOk result (λ text. ListsConflicts left.now right.now text.items) }
+    ensures joins { IfOk result (λ text. (text.items ≡ []) ↔ Join profile left.now right.now) }
+{
+    let own = left.font(alloc)?;
+    let other = right.font(alloc)?;
+    let all = conflicts(alloc, &own, &other)?;
+    conflict_lines(alloc, all.as_slice())
+}
+
+// Whether a text is empty.
+fn is_nothing(text: &[u8]) -> bool
+    ensures { IsTrue result ↔ (text.now ≡ []) }
+{
+    match text {
+        [] => true,
+        _ => false,
+    }
+}
+
+// The source of the font that the file at a place spells.
+fn source_at(alloc: Global, place: usize, file: &[u8]) -> Result<Source, FilesRefusal>
+    ensures source { IfOk result (λ source. font_input file.now ≡ Ok source) }
+    ensures refused { IfErr result (λ e. (reason : Reason)
+        × MayRefuse (λ a. a ≡ font_input file.now) reason × IsRefusalAt place reason e) }
+{
+    match source_in(alloc, Taking::Spelled, file) {
+        Ok(source) => Ok(source),
+        Err(reason) => Err(refused_at(place, reason)),
+    }
+}
+
+/// A line for each conflict of the fonts that two files spell, as [`run_diff`] writes them. It is empty exactly if the fonts
+/// join.
+///
+/// # Errors
+///
+/// [`Reason::TooLong`] or [`Reason::Font`] with the place of the first file that spells no font; [`Reason::Memory`] if a growth
+/// was refused.
+pub fn diff_files(alloc: Global, first: &[u8], second: &[u8]) -> Result<Vec<u8>, FilesRefusal>
+    ensures text { IfOk result
+        (λ text. OfFiles font_input DiffersBy (first.now ∷ second.now ∷ []) (Ok text.items)) }
+    ensures refused { IfErr result
+        (RefusesFiles font_input DiffersBy (first.now ∷ second.now ∷ [])) }
+{
+    let left = source_at(alloc, 0, first)?;
+    let right = source_at(alloc, 1, second)?;
+    match diff_text(alloc, &left, &right) {
+        Ok(text) => Ok(text),
+        Err(_) => Err(FilesRefusal {
+            place: None,
+            reason: Reason::Memory,
+        }),
+    }
+}
+
+/// Writes a line for each conflict of two fonts, the lowest first: what [`run_merge`](crate::run_merge) would tell of it. It
+/// answers whether the fonts join; then it writes nothing.
+///
+/// The first input is read and understood before the second is read. If both are refused, the first refusal is answered.
+pub fn run_diff<R: Read, S: Read, W: Write>(
+    alloc: Global,
+    first: &mut Counted<R>,
+    second: &mut Counted<S>,
+    writer: &mut Counted<W>,
+) -> Result<bool, RunFault>
+    ensures ends { RunEnds font_input DiffersBy W.contents
+        (input_of R.remaining first.old first.new ∷ input_of S.remaining second.old second.new ∷ [])
+        writer.old writer.new (ended result) }
+    ensures succeeds { Succeeds font_input DiffersBy
+        (input_of R.remaining first.old first.new ∷ input_of S.remaining second.old second.new ∷ [])
+        writer.old writer.new (ended result) }
+    ensures joins { IfOk result (λ joins. IfSome (values_of font_input
+        (input_of R.remaining first.old first.new ∷ input_of S.remaining second.old second.new ∷ []))
+        (SaysJoin joins)) }
+    ensures first_turns { calls_counted first.new ≤ calls_counted first.old + (file_limit + 1) }
+    ensures second_turns { calls_counted second.new ≤ calls_counted second.old + (file_limit + 1) }
+{
+    let left = match read_font(alloc, Taking::Spelled, first) {
+        Ok(left) => left,
+        Err(fault) => return Err(fault),
+    };
+    let right = match read_font(alloc, Taking::Spelled, second) {
+        Ok(right) => right,
+        Err(fault) => return Err(fault),
+    };
+    let text = match diff_text(alloc, &left, &right) {
+        Ok(text) => text,
+        Err(_) => return Err(RunFault::Refused(Reason::Memory)),
+    };
+    match write_text(writer, text.as_slice()) {
+        Ok(()) => Ok(is_nothing(text.as_slice())),
+        Err(fault) => Err(fault),
+    }
+}

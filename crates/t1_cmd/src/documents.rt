@@ -1,0 +1,215 @@
+//! The engines over documents: each font once, or one font at each place of a name.
+ghost use Rattle.std.specs.Prelude.{◌≡◌, ◌+◌, ◌≤◌, ◌++◌, ◌∷◌, [], map, length, Ok, OnOk, IfOk, IfErr, IfSome};
+ghost use Rattle.std.specs.List.{flat_map};
+ghost use Rattle.std.specs.Option.{option_copied};
+ghost use Rattle.t1_bytes.specs.Limits.{file_limit};
+ghost use Rattle.t1_subset.specs.NameSets.{lent};
+ghost use Rattle.t1_document.specs.Lines.{one_text};
+ghost use Rattle.t1_document.specs.Documents.{document_of};
+ghost use Rattle.t1_document.specs.Groups.{outcome_in};
+ghost use Rattle.t1_document.specs.Joins.{kept_text};
+ghost use Rattle.t1_document.specs.Views.{place_view};
+ghost use Rattle.t1_cmd.specs.Count.{calls_counted};
+ghost use Rattle.t1_cmd.specs.Inputs.{Say, input_of, values_of};
+ghost use Rattle.t1_cmd.specs.Runs.{ended, InputEnds, RunEnds};
+ghost use Rattle.t1_cmd.specs.Answers.{MayRefuse};
+ghost use Rattle.t1_cmd.specs.Mergers.{inputs_of, InTurns, InputsStop};
+ghost use Rattle.t1_cmd.specs.Documents.{text_input, PooledBy, PoolsTo, kept_line, kept_lines, TellsKept};
+
+use crate::counting::Counted;
+use crate::faults::{Reason, RunFault};
+use crate::reading::read_all;
+use crate::texts::push_shown;
+use crate::writing::write_text;
+use std::alloc::{AllocError, Global};
+use std::io::{Read, Write};
+use t1_bytes::FILE_LIMIT;
+use t1_document::{
+    Joins, Kept, Outcome, Place, join_fonts, names_of, push_document, read_document,
+};
+
+// ---- reading
+
+// The bytes of the document that a reader has.
+fn read_text<R: Read>(alloc: Global, reader: &mut Counted<R>) -> Result<Vec<u8>, RunFault>
+    ensures ends { InputEnds text_input (λ v. v.items)
+        (input_of R.remaining reader.old reader.new) result }
+    ensures turns { calls_counted reader.new ≤ calls_counted reader.old + (file_limit + 1) }
+{
+    read_all(alloc, reader, FILE_LIMIT)
+}
+
+// One more document.
+pub(crate) fn keep(texts: &mut Vec<Vec<u8>>, text: Vec<u8>) -> Result<(), AllocError>
+    ensures { OnOk result (map (λ v. v.items) texts.new.items ≡ map (λ v. v.items) texts.old.items ++ text.items ∷ []) }
+{
+    match texts.push(text) {
+        Ok(_) => Ok(()),
+        Err(_) => Err(AllocError),
+    }
+}
+
+// The documents that the readers have, one after the other.
+pub(crate) fn read_texts<R: Read>(
+    alloc: Global,
+    readers: &mut [Counted<R>],
+) -> Result<Vec<Vec<u8>>, RunFault>
+    ensures says { IfOk result
+        (λ texts. Say text_input (inputs_of R.remaining readers.old readers.new) (map (λ v. v.items) texts.items)) }
+    ensures stops { IfErr result
+        (λ e. InputsStop text_input (inputs_of R.remaining readers.old readers.new) e) }
+    ensures turns { InTurns readers.old readers.new }
+{
+    let mut texts = Vec::new(alloc);
+    'readers: for i in 0..readers.len() {
+        let text = match read_text(alloc, &mut readers[i]) {
+            Ok(text) => text,
+            Err(fault) => return Err(fault),
+        };
+        keep(&mut texts, text)?;
+    }
+    Ok(texts)
+}
+
+// Documents, lent.
+pub(crate) fn lent(alloc: Global, texts: &[Vec<u8>]) -> Result<Vec<&[u8]>, AllocError>
+    ensures { IfOk result (λ v. lent v.items ≡ map (λ t. t.items) texts.now) }
+{
+    let mut lent = Vec::with_capacity(alloc, texts.len())?;
+    'texts: for text in texts {
+        lent.push(text.as_slice())?;
+    }
+    Ok(lent)
+}
+
+// ---- what is told
+
+// The line of a name, if it keeps its fonts.
+fn push_kept(
+    alloc: Global,
+    out: &mut Vec<u8>,
+    name: &[u8],
+    outcome: Option<&Outcome<'_>>,
+) -> Result<(), AllocError>
+    ensures { OnOk result (out.new.items
+        ≡ out.old.items ++ kept_line name.now (option_copied outcome.entry)) }
+{
+    if let Some(Outcome::Stays(why)) = outcome {
+        out.extend_from_slice(b"kept ")?;
+        push_shown(alloc, out, name)?;
+        out.extend_from_slice(b": ")?;
+        push_why(alloc, out, why)?;
+        out.push(b'\n')?;
+    }
+    Ok(())
+}
+
+// Why a name keeps its fonts.
+fn push_why(alloc: Global, out: &mut Vec<u8>, why: &Kept) -> Result<(), AllocError>
+    ensures { OnOk result (out.new.items ≡ out.old.items ++ kept_text why.now) }
+{
+    let text = why.to_string(alloc)?;
+    out.extend_from_slice(text.as_bytes())
+}
+
+// The lines of the names that keep their fonts.
+pub(crate) fn kept_lines(
+    alloc: Global,
+    places: &[Place<'_>],
+    joins: &Joins<'_>,
+) -> Result<Vec<u8>, AllocError>
+    ensures { IfOk result (λ v. v.items ≡ kept_lines (outcome_in joins.now) (map place_view places.now)) }
+{
+    let mut lines = Vec::new(alloc);
+    let names = names_of(alloc, places)?;
+    'names: for name in names.as_slice() {
+        push_kept(alloc, &mut lines, *name, joins.get(*name))?;
+    }
+    Ok(lines)
+}
+
+// ---- pooled
+
+/// Documents as one text, with each font once.
+#[derive(Drop)]
+struct Pooled {
+    text: Vec<u8>,
+    /// Lines of the names that keep their fonts.
+    kept: Vec<u8>,
+}
+
+// The documents, one behind the other.
+fn one_text(alloc: Global, documents: &[&[u8]]) -> Result<Vec<u8>, Reason>
+    ensures text { IfOk result (λ t. t.items ≡ one_text (lent documents.now)) }
+    ensures short { IfOk result (λ t. length t.items ≤ file_limit) }
+    ensures refused { IfErr result (MayRefuse (PoolsTo (lent documents.now))) }
+{
+    let mut text = Vec::new(alloc);
+    'documents: for document in documents {
+        push_document(&mut text, *document)?;
+        if text.len() > FILE_LIMIT {
+            return Err(Reason::TooLong);
+        }
+    }
+    Ok(text)
+}
+
+// A text with each font once.
+fn pool_text(alloc: Global, text: &[u8]) -> Result<Pooled, AllocError>
+    ensures text { IfOk result (λ p. PooledBy text.now p.text.items) }
+    ensures kept { IfOk result (λ p. TellsKept (document_of text.now).places p.kept.items) }
+{
+    let document = read_document(alloc, text)?;
+    let joins = join_fonts(alloc, document.places.as_slice())?;
+    let kept = kept_lines(alloc, document.places.as_slice(), &joins)?;
+    let texts = document.new_texts(alloc, &joins)?;
+    let text = document.pool(alloc, &texts)?;
+    Ok(Pooled { text, kept })
+}
+
+// Documents as one text, with each font once.
+fn pool(alloc: Global, documents: &[&[u8]]) -> Result<Pooled, Reason>
+    ensures text { IfOk result (λ p. PoolsTo (lent documents.now) (Ok p.text.items)) }
+    ensures kept { IfOk result (λ p. TellsKept (document_of (one_text (lent documents.now))).places p.kept.items) }
+    ensures refused { IfErr result (MayRefuse (PoolsTo (lent documents.now))) }
+{
+    let text = match one_text(alloc, documents) {
+        Ok(text) => text,
+        Err(reason) => return Err(reason),
+    };
+    Ok(pool_text(alloc, text.as_slice())?)
+}
+
+/// Writes documents one behind the other, with each font once, and answers a line for each name that keeps its fonts.
+///
+/// An LF stands between two documents where no line ends there. The places of fonts are those of
+/// [`read_document`](t1_document::read_document), and what becomes of them is told by [`join_fonts`](t1_document::join_fonts) and
+/// [`Document::pool`](t1_document::Document::pool).
+///
+/// The inputs are read one after the other. [`Reason::TooLong`] is answered if one of them, or all together, are over the file
+/// limit. Nothing else is refused but for want of memory.
+pub fn run_pool<R: Read, W: Write>(
+    alloc: Global,
+    readers: &mut [Counted<R>],
+    writer: &mut Counted<W>,
+) -> Result<Vec<u8>, RunFault>
+    ensures ends { RunEnds text_input PoolsTo W.contents
+        (inputs_of R.remaining readers.old readers.new) writer.old writer.new (ended result) }
+    ensures told { IfOk result (λ lines. IfSome (values_of text_input (inputs_of R.remaining readers.old readers.new))
+        (λ documents. TellsKept (document_of (one_text documents)).places lines.items)) }
+    ensures turns { InTurns readers.old readers.new }
+{
+    let texts = match read_texts(alloc, readers) {
+        Ok(texts) => texts,
+        Err(fault) => return Err(fault),
+    };
+    let documents = lent(alloc, texts.as_slice())?;
+    let pooled = match pool(alloc, documents.as_slice()) {
+        Ok(pooled) => pooled,
+        Err(reason) => return Err(RunFault::Refused(reason)),
+    };
+    match write_text(writer, pooled.text.as_slice()) {
+        Ok(()) => Ok(pooled.kept),
+        Err(fault) => Err(fault),
+    }
+}

@@ -1,0 +1,200 @@
+//! Documents that are pooled and levelled.
+use super::subsets::subset;
+use super::{FINE, Feed, Plan, Sink, line_of, word};
+use crate::{Counted, run_level, run_pool};
+use std::alloc::{AllocError, Global};
+use std::io::ErrorKind;
+use std::test::Fail;
+use t1_tiny::PFA;
+
+/// What is written of documents that are pooled, and behind it what is told; or the line of the refusal.
+fn pooled(alloc: Global, documents: &[&[u8]]) -> Result<Vec<u8>, AllocError> {
+    let mut readers = Vec::new(alloc);
+    for document in documents {
+        readers.push(Counted::new(*document))?;
+    }
+    let mut out = Vec::new(alloc);
+    match run_pool(alloc, readers.as_mut_slice(), &mut Counted::new(&mut out)) {
+        Ok(lines) => {
+            out.extend_from_slice(lines.as_slice())?;
+            Ok(out)
+        }
+        Err(fault) => Ok(line_of(alloc, &Err(fault))),
+    }
+}
+
+/// Documents that are levelled, each behind a `|`, and behind them what is told; or the line of the refusal.
+fn levelled(alloc: Global, documents: &[&[u8]]) -> Result<Vec<u8>, AllocError> {
+    let mut readers = Vec::new(alloc);
+    for document in documents {
+        readers.push(Counted::new(*document))?;
+    }
+    let mut out = Vec::new(alloc);
+    match run_level(alloc, readers.as_mut_slice()) {
+        Ok(levelled) => {
+            for text in levelled.texts.as_slice() {
+                out.push(b'|')?;
+                out.extend_from_slice(text.as_slice())?;
+            }
+            out.extend_from_slice(levelled.kept.as_slice())?;
+            Ok(out)
+        }
+        Err(fault) => Ok(line_of(alloc, &Err(fault))),
+    }
+}
+
+/// Texts, one behind the other.
+fn joined(alloc: Global, parts: &[&[u8]]) -> Result<Vec<u8>, AllocError> {
+    let mut text = Vec::new(alloc);
+    for part in parts {
+        text.extend_from_slice(part)?;
+    }
+    Ok(text)
+}
+
+/// A document with a place for a font, and a line behind it that has no end.
+fn document(alloc: Global, font: &[u8]) -> Result<Vec<u8>, AllocError> {
+    joined(alloc, &[BEGIN, font, END])
+}
+
+const BEGIN: &[u8] = b"%!PS\n%%BeginFont: Tiny\n";
+
+const END: &[u8] = b"{restore}if\n%%EndFont\nshowpage";
+
+const EMPTY: &[u8] = b"%!PS\n%%BeginFont: Tiny\n%%EndFont\nshowpage";
+
+/// The font text of Tiny.
+fn whole() -> &'static [u8] {
+    let font = PFA.as_slice();
+    &font[..font.len() - 1]
+}
+
+/// The font text of the subset of Tiny over X.
+fn part(alloc: Global) -> Vec<u8> {
+    let mut cut = subset(alloc, PFA, &[b"X"]);
+    cut.pop();
+    cut
+}
+
+/// The font text of Tiny with another first byte of the first comment.
+fn other(alloc: Global) -> Result<Vec<u8>, AllocError> {
+    let mut text = Vec::from_slice(alloc, whole())?;
+    if let Some(byte) = text.as_mut_slice().get_mut(2) {
+        *byte = b'?';
+    }
+    Ok(text)
+}
+
+// meets run_pool Ok at 0, 1, 2, 3 documents
+// meets run_level Ok at 0, 1, 2, 3 documents
+#[test]
+fn documents_become_one(rt: HostRuntime) -> Result<(), Fail> {
+    let alloc = rt.alloc();
+    let cut = part(alloc);
+    let a = document(alloc, cut.as_slice())?;
+    let b = document(alloc, whole())?;
+    let (a, b) = (a.as_slice(), b.as_slice());
+    assert!(rt; pooled(alloc, &[])?.is_empty());
+    assert!(rt; levelled(alloc, &[])?.is_empty());
+    assert!(rt; pooled(alloc, &[a])?.as_slice() == a, "one");
+    let want = joined(alloc, &[b, b"\n", EMPTY, b"\n", EMPTY])?;
+    assert!(rt;
+        pooled(alloc, &[a, b, a])?.as_slice() == want.as_slice(),
+        "three"
+    );
+    let want = joined(alloc, &[b"|", b, b"|", b])?;
+    assert!(rt;
+        levelled(alloc, &[a, b])?.as_slice() == want.as_slice(),
+        "two, levelled"
+    );
+    let want = joined(alloc, &[b"|", a])?;
+    assert!(rt;
+        levelled(alloc, &[a])?.as_slice() == want.as_slice(),
+        "one, levelled"
+    );
+    Ok(())
+}
+
+const KEPT: &[u8] = b"kept Tiny: shells differ in head\n";
+
+#[test]
+fn other_fonts_are_kept(rt: HostRuntime) -> Result<(), Fail> {
+    let alloc = rt.alloc();
+    let other = other(alloc)?;
+    let a = document(alloc, whole())?;
+    let c = document(alloc, other.as_slice())?;
+    let (a, c) = (a.as_slice(), c.as_slice());
+    let want = joined(alloc, &[a, b"\n", c, KEPT])?;
+    assert!(rt;
+        pooled(alloc, &[a, c])?.as_slice() == want.as_slice(),
+        "pooled"
+    );
+    let want = joined(alloc, &[b"|", a, b"|", c, KEPT])?;
+    assert!(rt;
+        levelled(alloc, &[a, c])?.as_slice() == want.as_slice(),
+        "levelled"
+    );
+    Ok(())
+}
+
+/// Whether so many documents are pooled, and levelled.
+fn are_many(alloc: Global, count: usize) -> Result<bool, AllocError> {
+    let text = document(alloc, whole())?;
+    let mut documents = Vec::new(alloc);
+    for _ in 0..count {
+        documents.push(text.as_slice())?;
+    }
+    let pooled = pooled(alloc, documents.as_slice())?;
+    let levelled = levelled(alloc, documents.as_slice())?;
+    let rest = count
+        .saturating_sub(1)
+        .saturating_mul(EMPTY.len().saturating_add(1));
+    let all = count.saturating_mul(text.len().saturating_add(1));
+    Ok(pooled.len() == text.len().saturating_add(rest) && levelled.len() == all)
+}
+
+// meets run_pool Ok at 300 documents
+// meets run_level Ok at 300 documents
+#[test]
+fn many_documents(rt: HostRuntime) -> Result<(), Fail> {
+    assert!(rt; are_many(rt.alloc(), 300)?);
+    Ok(())
+}
+
+/// A first call that fails.
+const FAILS: Plan = Plan {
+    most: usize::MAX,
+    fails: 1,
+    kind: ErrorKind::Other,
+};
+
+/// How two documents are pooled that are read by these plans, as a word, where the writer goes by the third.
+fn ended(alloc: Global, first: Plan, second: Plan, writer: Plan) -> &'static str {
+    let mut readers = [Feed::new(PFA, first), Feed::new(PFA, second)];
+    let mut out = Counted::new(Sink::new(Vec::new(alloc), writer));
+    let ended = run_pool(alloc, &mut readers, &mut out).map(|_| ());
+    let word = word(&ended);
+    drop(ended);
+    word
+}
+
+/// How two documents are levelled that are read by these plans, as a word.
+fn levels(alloc: Global, first: Plan, second: Plan) -> &'static str {
+    let mut readers = [Feed::new(PFA, first), Feed::new(PFA, second)];
+    let ended = run_level(alloc, &mut readers).map(|_| ());
+    let word = word(&ended);
+    drop(ended);
+    word
+}
+
+#[test]
+fn documents_that_fail(rt: HostRuntime) -> Result<(), Fail> {
+    let alloc = rt.alloc();
+    assert_eq!(rt; ended(alloc, FINE, FINE, FINE), "ok");
+    assert_eq!(rt; ended(alloc, FAILS, FINE, FINE), "read");
+    assert_eq!(rt; ended(alloc, FINE, FAILS, FINE), "read");
+    assert_eq!(rt; ended(alloc, FINE, FINE, FAILS), "write");
+    assert_eq!(rt; levels(alloc, FINE, FINE), "ok");
+    assert_eq!(rt; levels(alloc, FINE, FAILS), "read");
+    Ok(())
+}

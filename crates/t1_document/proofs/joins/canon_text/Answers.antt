@@ -1,0 +1,13 @@
+use Rattle.std.proofs.Common.{[], ◌∷◌, ◌-◌, length, take, arith, ap, ◌∙◌}
+use Rattle.std.proofs.lemmas.List.{length-append, take_at}
+use Rattle.t1_document.specs.Fonts.{canon_text}
+use Rattle.t1_document.proofs.CanonTexts.{canon_text_is}
+use Rattle.t1_document.proofs.joins.canon_text.Goals as goal
+
+pub returns : goal.returns
+returns c =
+    let text = canon_text c.args.font.now in
+    let whole = c.in_ok-text.ensures.canon ∙ canon_text_is c.args.font.now in
+    c.pop.ensures.rest
+    ∙ (ap (take (c.in_ok-text.text.len - 1)) whole
+    ∙ take_at text (10 ∷ []) (c.in_ok-text.text.len - 1) (omega (arith, c.in_ok-text.text.ok, ap length whole, length-append text (10 ∷ []))))

@@ -1,0 +1,8 @@
+use Rattle.std.proofs.Common.{◌≡◌, map, drop}
+use Rattle.std.specs.List.{list_all}
+use Rattle.t1_document.specs.Rewriting.{can_stand}
+use Rattle.t1_document.specs.Views.{place_view}
+use Rattle.t1_document.proofs.joins.stands.Given as goal
+
+abbrev pub invariant-places : goal.invariant-places
+invariant-places l = list_all (can_stand l.text) (map place_view (drop l.place-index l.places)) ≡ list_all (can_stand l.text) (map place_view l.places)

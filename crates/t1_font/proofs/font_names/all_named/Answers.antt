@@ -1,0 +1,28 @@
+use Rattle.std.proofs.Common.{◌++◌, ◌∷◌, [], List, map, sym, ap, ◌∙◌}
+use Rattle.std.proofs.lemmas.List.{nil_from_length}
+use Rattle.std.specs.Vec.Iter.{into_iter_items}
+use Rattle.t1_font.specs.FontValue.{FontValue}
+use Rattle.t1_font.specs.FontNames.{named}
+use Rattle.t1_font.proofs.Drains.{moved, all_moved}
+use Rattle.t1_font.proofs.font_names.all_named.Goals as goal
+
+pub sources-init : goal.sources-init
+sources-init c = ap (λ (items : List FontValue). items ++ map (named c.args.name.now) (into_iter_items c.into_iter-source-iterator.result))
+    c.in_ok-all.ensures.items
+
+pub sources-preserved : goal.sources-preserved
+sources-preserved c =
+    let g = named c.args.name.now in
+    moved c.sources.all.items (map g (into_iter_items c.sources.source-iterator))
+    (map g (into_iter_items c.into_iter-source-iterator.result)) c.sources.invariant
+    c.keep.new.sources.items (map g (into_iter_items c.next.new.self)) (g c.in-Some.source)
+    (c.in_ok-keep.ensures ∙ ap (λ (f : FontValue). c.sources.all.items ++ f ∷ []) c.in-Ok.ensures)
+    (ap (map g) c.in-Some.ensures.steps.0)
+
+pub returns : goal.returns
+returns c =
+    let g = named c.args.name.now in
+    all_moved c.sources.all.items (map g (into_iter_items c.sources.source-iterator))
+    (map g (into_iter_items c.into_iter-source-iterator.result)) c.sources.invariant
+    (ap (map g) (nil_from_length (into_iter_items c.sources.source-iterator) (sym c.sources.source-iterator.rest.ok.0 ∙ c.in-None.ensures.steps.0)))
+    ∙ ap (map g) c.into_iter-source-iterator.ensures.into_iter_gives.0

@@ -1,0 +1,45 @@
+-- Fonts under another name: what stands behind the first `/FontName`, white space and a slash of the head (Adobe Type 1 Font Format 1.1, chapter 2). It is
+-- the key by which a document finds the font.
+use Rattle.std.specs.Prelude.{ℕ, ◌-◌, ◌&&◌, nat_le, Bool, List, ◌++◌, length, take, map, Option, Some, None, if◌then◌else◌}
+use Rattle.std.specs.Option.{option_map}
+use Rattle.t1_grammar.specs.Grammar.{first}
+use Rattle.t1_font.specs.Words.{is_regular}
+use Rattle.t1_font.specs.Rewriting.{parted}
+use Rattle.t1_font.specs.Tags.{name_marker}
+use Rattle.t1_font.specs.FontValue.{FontValue, Shell, weight, weight_limit}
+use Rattle.t1_font.specs.EvenTexts.{both_fit}
+use Rattle.t1_font.specs.FontBoxes.{with_texts}
+use Rattle.t1_font.specs.Evening.{evened_shells}
+
+-- the bytes of a text before its name, and those behind the name
+abbrev pub around_name : List ℕ → Option (List ℕ × List ℕ)
+around_name text = option_map (λ x. (take (length text - length x.1) text, (parted is_regular x.1).1)) ((first name_marker).read text)
+
+-- these with a name between them; where there are none, the text stays
+abbrev pub name_between : List ℕ → List ℕ → Option (List ℕ × List ℕ) → List ℕ
+name_between name text None = text
+name_between name text (Some x) = x.0 ++ name ++ x.1
+
+-- a text with this name in place of its own, if it has one
+abbrev pub text_named : List ℕ → List ℕ → List ℕ
+text_named name text = name_between name text (around_name text)
+
+-- the two texts around the Encoding, the first with this name
+abbrev pub clear_named : List ℕ → Shell → List ℕ × List ℕ
+clear_named name s = (text_named name s.head, s.clear_tail)
+
+-- a font with this name in its head
+abbrev pub font_named : List ℕ → FontValue → FontValue
+font_named name f = with_texts f (clear_named name f.shell)
+
+-- a font can have this name: its texts are then texts of a font, and it is within the weight limit
+abbrev pub can_be_named : List ℕ → FontValue → Bool
+can_be_named name f = both_fit (clear_named name f.shell) && nat_le (weight (font_named name f)) weight_limit
+
+-- a font with this name, if it can have it
+abbrev pub named : List ℕ → FontValue → FontValue
+named name f = if can_be_named name f then font_named name f else f
+
+-- fonts with even texts and one FontBBox, each with this name if it can have it
+abbrev pub evened_named : List ℕ → List FontValue → List FontValue
+evened_named name fs = map (named name) (evened_shells fs)

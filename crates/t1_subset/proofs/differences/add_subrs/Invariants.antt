@@ -1,0 +1,11 @@
+use Rattle.std.specs.FinMap as maps
+use Rattle.t1_algebra.specs.{Profile.{profile}, Conflicts.{subr_differs, subr_clashes}}
+use Rattle.t1_subset.proofs.Telling.{Adding, each_told}
+use Rattle.t1_subset.proofs.differences.add_subrs.Given as goal
+
+abbrev pub invariant-indices : goal.invariant-indices
+invariant-indices l = Adding l.initial.all.items l.all.items
+    (each_told (subr_clashes profile l.own.callers.font.now l.other.callers.font.now) (subr_differs profile l.own.callers.font.now l.other.callers.font.now)
+    (maps.keys l.own.callers.font.now.subrs))
+    (each_told (subr_clashes profile l.own.callers.font.now l.other.callers.font.now) (subr_differs profile l.own.callers.font.now l.other.callers.font.now)
+    l.index-iterator)
