@@ -1,7 +1,8 @@
 //! Documents that are pooled and levelled.
+use super::growths::{subset_of_x, written};
 use super::subsets::subset;
 use super::{FINE, Feed, Plan, Sink, line_of, word};
-use crate::{Counted, run_level, run_pool};
+use crate::{Counted, Reason, RunFault, run_level, run_pool};
 use std::alloc::{AllocError, Global};
 use std::io::ErrorKind;
 use std::test::Fail;
@@ -196,5 +197,56 @@ fn documents_that_fail(rt: HostRuntime) -> Result<(), Fail> {
     assert_eq!(rt; ended(alloc, FINE, FINE, FAILS), "write");
     assert_eq!(rt; levels(alloc, FINE, FINE), "ok");
     assert_eq!(rt; levels(alloc, FINE, FAILS), "read");
+    Ok(())
+}
+
+/// Whether two documents are pooled to this text, with room for it.
+fn pool_to(alloc: Global, a: &[u8], b: &[u8], want: &[u8]) -> Result<bool, AllocError> {
+    let mut readers = [Counted::new(a), Counted::new(b)];
+    let mut out = Vec::with_capacity(alloc, want.len())?;
+    let ended = run_pool(alloc, &mut readers, &mut Counted::new(&mut out));
+    let text = written(out, ended.map(|_| ()))?;
+    Ok(text.is_some_and(|text| text.as_slice() == want))
+}
+
+/// Whether two documents are levelled to this text, each.
+fn level_to(alloc: Global, a: &[u8], b: &[u8], want: &[u8]) -> Result<bool, AllocError> {
+    let mut readers = [Counted::new(a), Counted::new(b)];
+    match run_level(alloc, &mut readers) {
+        Ok(levelled) => {
+            let mut right = levelled.texts.len() == 2 && levelled.kept.is_empty();
+            for text in levelled.texts.as_slice() {
+                right = right && text.as_slice() == want;
+            }
+            Ok(right)
+        }
+        Err(RunFault::Refused(Reason::Memory)) => Err(AllocError),
+        Err(fault) => {
+            drop(fault);
+            Ok(false)
+        }
+    }
+}
+
+/// Whether a document with a part of a font and one with the whole are pooled, and levelled.
+fn become_one(alloc: Global) -> Result<bool, AllocError> {
+    let Some(mut cut) = subset_of_x(alloc)? else {
+        return Ok(false);
+    };
+    cut.pop();
+    let a = document(alloc, cut.as_slice())?;
+    let b = document(alloc, whole())?;
+    let (a, b) = (a.as_slice(), b.as_slice());
+    let want = joined(alloc, &[b, b"\n", EMPTY])?;
+    Ok(pool_to(alloc, a, b, want.as_slice())? && level_to(alloc, a, b, b)?)
+}
+
+#[test]
+fn growths_of_documents(rt: HostRuntime) -> Result<(), Fail> {
+    let right = match become_one(rt.alloc()) {
+        Err(AllocError) => become_one(rt.alloc())?,
+        answer => answer?,
+    };
+    assert!(rt; right);
     Ok(())
 }

@@ -14,7 +14,7 @@ use t1_font::Form;
 use t1_tiny::{PFA, PFB};
 
 /// What an engine wrote, if it ended well; want of memory if it was refused and wrote nothing.
-fn written(out: Vec<u8>, ended: Result<(), RunFault>) -> Result<Option<Vec<u8>>, AllocError> {
+pub fn written(out: Vec<u8>, ended: Result<(), RunFault>) -> Result<Option<Vec<u8>>, AllocError> {
     match ended {
         Ok(()) => Ok(Some(out)),
         Err(RunFault::Refused(Reason::Memory)) if out.is_empty() => Err(AllocError),
@@ -72,7 +72,7 @@ fn makes_of_both(alloc: Global, list: List) -> Result<bool, AllocError> {
 }
 
 /// The PFA of Tiny's subset of X.
-fn subset_of_x(alloc: Global) -> Result<Option<Vec<u8>>, AllocError> {
+pub fn subset_of_x(alloc: Global) -> Result<Option<Vec<u8>>, AllocError> {
     let mut out = Vec::with_capacity(alloc, 2224)?;
     let ended = run(
         alloc,

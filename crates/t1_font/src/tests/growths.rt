@@ -4,12 +4,13 @@
 use super::boxes::{ONE_BOX, TWO, boxed};
 use super::cuts::{joined, tiny_cut};
 use super::evening::{MARKS, TABLES, evened, is_left};
+use super::names::{all_become, becomes};
 use super::tables::tiny_is_right;
 use super::untested::{TESTED, UNTESTED};
 use super::wide::with_copies;
 use super::{lent_file, rewritten, untested};
 use crate::{Form, PartsFault, ReadFault, mends, read_vec, read_wide, read_wide_vec};
-use std::alloc::Global;
+use std::alloc::{AllocError, Global};
 use std::test::Fail;
 use t1_tiny::{PFA, PFB};
 
@@ -54,6 +55,12 @@ fn evens(alloc: Global) -> Result<bool, PartsFault> {
     let marks = evened(alloc, TABLES)?;
     let boxes = boxed(alloc, TWO)?;
     Ok(left && marks.as_slice() == MARKS && boxes.as_slice() == ONE_BOX)
+}
+
+/// Whether fonts get a name: `Source::named` one, `even_named` two that are made even.
+fn get_names(alloc: Global) -> Result<bool, AllocError> {
+    let one = becomes(alloc, b"/FontName /T def ", b"U", b"/FontName /U def ")?;
+    Ok(one && all_become(alloc, 2)?)
 }
 
 #[test]
@@ -113,6 +120,16 @@ fn growths_of_untested(rt: HostRuntime) -> Result<(), Fail> {
 fn growths_of_tables(rt: HostRuntime) -> Result<(), Fail> {
     let right = match tiny_is_right(rt.alloc()) {
         Err(_) => tiny_is_right(rt.alloc()).is_ok_and(|right| right),
+        Ok(right) => right,
+    };
+    assert!(rt; right);
+    Ok(())
+}
+
+#[test]
+fn growths_of_names(rt: HostRuntime) -> Result<(), Fail> {
+    let right = match get_names(rt.alloc()) {
+        Err(_) => get_names(rt.alloc())?,
         Ok(right) => right,
     };
     assert!(rt; right);

@@ -6,7 +6,7 @@ use std::alloc::{AllocError, Global};
 use std::test::Fail;
 
 /// Whether a head becomes another one with this name.
-fn becomes(alloc: Global, head: &[u8], name: &[u8], want: &[u8]) -> Result<bool, AllocError> {
+pub fn becomes(alloc: Global, head: &[u8], name: &[u8], want: &[u8]) -> Result<bool, AllocError> {
     let source = made(alloc, 0, head, NONE)?;
     let source = source.named(alloc, name)?;
     has_head(alloc, &source, want)
@@ -21,7 +21,7 @@ fn keep(sources: &mut Vec<Source>, source: Source) -> Result<(), AllocError> {
 }
 
 /// Whether so many fonts with tags are made even and then have this name.
-fn all_become(alloc: Global, count: usize) -> Result<bool, AllocError> {
+pub fn all_become(alloc: Global, count: usize) -> Result<bool, AllocError> {
     let mut sources = Vec::new(alloc);
     for _ in 0..count {
         let source = made(alloc, 0, b"%!\r\n/FontName  /ABCDEF+T def\n", NONE)?;
