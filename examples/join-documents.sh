@@ -1,5 +1,5 @@
 #!/bin/sh
-# Joins two PostScript documents, each with its own subset of one font, into one document with one font.
+# Pools two PostScript documents, each with its own subset of one font, into one document with one font.
 #
 # usage: examples/join-documents.sh [FONT [FOLDER]]
 # FONT is a Type 1 font with the glyphs of the two texts below, by default one of Debian's package fonts-urw-base35.
@@ -36,26 +36,14 @@ page() {
     echo showpage
 }
 
-# document FONT PAGE...: a document with this font, a PFA, and these pages.
+# document FONT PAGE: a document with this font, a PFA, and this page.
 document() {
-    printf '%%!PS-Adobe-3.0\n%%%%Pages: %d\n%%%%EndComments\n%%%%BeginSetup\n' $(($# - 1))
+    printf '%%!PS-Adobe-3.0\n%%%%Pages: 1\n%%%%EndComments\n%%%%BeginSetup\n'
     echo "%%BeginFont: $(name_of "$1")"
     cat "$1"
-    printf '%%%%EndFont\n%%%%EndSetup\n'
-    shift
-    number=0
-    for body; do
-        number=$((number + 1))
-        echo "%%Page: $number $number"
-        cat "$body"
-    done
+    printf '%%%%EndFont\n%%%%EndSetup\n%%%%Page: 1 1\n'
+    cat "$2"
     echo '%%EOF'
-}
-
-# between FIRST LAST DOCUMENT: the lines after the first of these comments and before the last.
-between() {
-    awk -v first="%%$1" -v last="%%$2" \
-        'index($0, last) == 1 { inside = 0 } inside { print } index($0, first) == 1 { inside = 1 }' "$3"
 }
 
 mkdir -p "$folder"
@@ -71,15 +59,10 @@ for text in 'one F i r s t space p a g e' 'two S e c o n d space p a g e'; do
     rm "$this.pfa" "$this.page"
 done
 
-# The joining tool has nothing but the two documents.
-for this in "$folder/one" "$folder/two"; do
-    between BeginFont: EndFont "$this.ps" >"$this.pfa"
-    between Page: EOF "$this.ps" >"$this.page"
-    echo "$this.ps carries a font: $("$program" check "$this.pfa")"
-done
-"$program" merge "$folder/joined.pfa" "$folder/one.pfa" "$folder/two.pfa"
-document "$folder/joined.pfa" "$folder/one.page" "$folder/two.page" >"$folder/joined.ps"
-echo "$folder/joined.ps carries a font: $("$program" check "$folder/joined.pfa")"
+# The joining tool has nothing but the two documents. `cat` would make a document that draws with the last of the fonts.
+"$program" fonts "$folder/one.ps" "$folder/two.ps"
+"$program" pool "$folder/joined.ps" "$folder/one.ps" "$folder/two.ps"
+"$program" fonts "$folder/joined.ps"
 
 for name in one two joined; do
     gs -q -dSAFER -sDEVICE=png16m -r144 -g720x200 -o "$folder/$name-%d.png" "$folder/$name.ps"

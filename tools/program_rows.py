@@ -126,15 +126,17 @@ def files():
     given["tested.font"] = given["one.cut"].replace(b"/FontName", TESTED + b"/FontName")
     given["one.ps"], given["two.ps"] = document(PARTS[0]), document(PARTS[1])
     given["other.ps"] = document(small_font(b"ABCDEF+Small", [STUB] * 5 + [UP], {b"B": 5}, b"/Encoding ISOLatin1Encoding def\n"))
+    given["nested.ps"] = given["one.ps"] + b"%%BeginDocument: a.eps\n" + given["two.ps"] + b"%%EndDocument\n"
     given["no.font"] = b"no font"
     given["no.listing"] = b"no listing"
+    given["nothing.ps"] = b""
     given["old"] = b"what stood here"
     return given
 
 
 def rows_of_words():
     """Words that ask for help or don't parse."""
-    commands = ["subset", "merge", "rejoin", "pool", "diff", "mend", "check", "list", "show", "pfa", "pfb", "join"]
+    commands = ["subset", "merge", "rejoin", "pool", "level", "fonts", "diff", "mend", "check", "list", "show", "pfa", "pfb", "join"]
     yield Row(["--help"], 0, SOME)
     yield Row(["--version"], 0, version_of_the_man_page() + b"\n")
     for command in commands:
@@ -353,6 +355,54 @@ def rows_of_pooled():
     yield Row(["pool", "old", "one.ps", "absent"], 3, b"", b"failed: read\n")
     yield Row(["pool", "no.folder/out", "one.ps"], 3, b"", b"failed: write\n")
     yield Row(["pool", "out"], 2, b"", SOME)
+    yield Row(["pool", "out", "nothing.ps", "nothing.ps"], 0, b"", b"", {"out": b""})
+
+
+def rows_of_levelled():
+    """Documents that get one font for each name, each by itself."""
+    given, both = files(), document(BOTH)
+    levelled = {"folder/one.ps": both, "folder/two.ps": both}
+    yield Row(["level", "folder", "one.ps"], 0, b"", b"", {"folder/one.ps": given["one.ps"]})
+    yield Row(["level", "folder", "one.ps", "two.ps"], 0, b"", b"", levelled)
+    yield Row(["level", "folder", "two.ps", "./one.ps", "no.font"], 0, b"", b"", {**levelled, "folder/no.font": b"no font"})
+    yield Row(["level", "folder", "nothing.ps"], 0, b"", b"", {"folder/nothing.ps": b""})
+    kept = {name: given[name.split("/")[1]] for name in ("folder/one.ps", "folder/other.ps")}
+    yield Row(["level", "folder", "one.ps", "other.ps"], 0, b"", b"kept ABCDEF+Small: shells differ in encoding\n", kept)
+    yield Row(["level", "folder", "one.ps", "./one.ps"], 2, b"", b"error: two documents have the name one.ps\n")
+    yield Row(["level", ".", "one.ps", "two.ps"], 2, b"", b"error: . holds the document one.ps\n")
+    yield Row(["level", "./folder/..", "two.ps"], 2, b"", b"error: ./folder/.. holds the document two.ps\n")
+    yield Row(["level", "folder", "one.ps", "absent"], 3, b"", b"failed: read\n")
+    yield Row(["level", "no.folder", "one.ps"], 3, b"", b"failed: write\n")
+    rows = page_rows()
+    explained = f"failed: write\nfile: no.folder\n{rows['failed: write']}\n".encode()
+    yield Row(["level", "--explain", "no.folder", "one.ps"], 3, b"", explained)
+
+
+def rows_of_listed_fonts():
+    """The fonts of documents."""
+    given = files()
+    nested = b"%%BeginDocument: a.eps\n" + given["two.ps"] + b"%%EndDocument\n"
+    first, second, other = (text.find(b"%!", 2) for text in (given["one.ps"], given["two.ps"], given["other.ps"]))
+    listed = f"one.ps: {first} ABCDEF+Small 2 0 joined\n".encode()
+    two = f"two.ps: {second} ABCDEF+Small 2 0 joined\n".encode()
+    yield Row(["fonts", "one.ps", "two.ps"], 0, listed + two + b"2 places, 1 names, 0 kept\n")
+    assert given["nested.ps"] == given["one.ps"] + nested
+    behind = len(given["one.ps"]) + len(b"%%BeginDocument: a.eps\n") + second
+    inner = f"nested.ps: {first} ABCDEF+Small 2 0 joined\nnested.ps: {behind} ABCDEF+Small 2 1 joined\n".encode()
+    yield Row(["fonts", "nested.ps"], 0, inner + b"2 places, 1 names, 0 kept\n")
+    why = b"kept: shells differ in encoding\n"
+    kept = f"other.ps: {other} ABCDEF+Small 2 0 ".encode() + why + listed.replace(b"joined\n", why)
+    yield Row(["fonts", "other.ps", "nothing.ps", "one.ps"], 0, kept + b"2 places, 1 names, 1 kept\n")
+    yield Row(["fonts", "no.font"], 0, b"0 places, 0 names, 0 kept\n")
+    yield Row(["fonts", "--extract", "ABCDEF+Small", "out", "no.font", "one.ps", "two.ps"], 0, b"", b"", {"out": PARTS[0]})
+    yield Row(["fonts", "--extract", "ABCDEF+Small", "one.ps", "two.ps", "one.ps"], 0, b"", b"", {"one.ps": PARTS[1]})
+    yield Row(["fonts", "--extract", "Small", "old", "one.ps"], 1, b"", b"refused: no font Small\n")
+    rows = page_rows()
+    explained = f"refused: no font Small\nfiles: all of them together\n{rows['no font NAME']}\n".encode()
+    yield Row(["fonts", "--explain", "--extract", "Small", "old", "one.ps"], 1, b"", explained)
+    yield Row(["fonts", "--extract", "Small", "out"], 2, b"", SOME)
+    yield Row(["fonts", "one.ps", "absent"], 3, b"", b"failed: read\n")
+    yield Row(["fonts", "--extract", "ABCDEF+Small", "no.folder/out", "one.ps"], 3, b"", b"failed: write\n")
 
 
 def rows_of_mended():
@@ -400,4 +450,4 @@ def rows_of_listings():
 
 def all_rows(given):
     rows = [*rows_of_words(), *rows_of_fonts(), *rows_of_full(), *rows_of_several(), *rows_of_explained(), *rows_of_outputs(given)]
-    return [*rows, *rows_of_names(), *rows_of_codes(), *rows_of_rejoined(), *rows_of_pooled(), *rows_of_mended(), *rows_of_differences(), *rows_of_listings()]
+    return [*rows, *rows_of_names(), *rows_of_codes(), *rows_of_rejoined(), *rows_of_pooled(), *rows_of_levelled(), *rows_of_listed_fonts(), *rows_of_mended(), *rows_of_differences(), *rows_of_listings()]

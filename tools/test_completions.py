@@ -16,7 +16,7 @@ SCRIPT = os.path.join(TOP, "packaging/completions/t1subset.bash")
 TRIED = """PATH=$1:$PATH; . "$2"; shift 2
 COMP_WORDS=("$@"); COMP_CWORD=$(($# - 1)); _t1subset; printf '%s\\n' "${COMPREPLY[@]}"
 """
-WORDS = "subset merge rejoin pool diff mend check list show pfa pfb join"
+WORDS = "subset merge rejoin pool level fonts diff mend check list show pfa pfb join"
 NAMES = ".notdef A Aacute B F H L N X Y acute"
 # A glyph whose name a shell would run.
 HOSTILE = b"`id`"

@@ -19,14 +19,21 @@ def same(written, want):
     return written != b"" if want is SOME else written == want
 
 
+def files_in(folder):
+    """The files in a folder and below it, by their paths there."""
+    paths = [os.path.join(above, name) for above, _, names in os.walk(folder) for name in names]
+    return {os.path.relpath(path, folder): bytes_of(path) for path in paths}
+
+
 def wrong(program, row, given):
-    """What is wrong with a run of the program, or None."""
+    """What is wrong with a run of the program, or None. It finds the files, and an empty folder."""
     with tempfile.TemporaryDirectory() as folder:
+        os.mkdir(os.path.join(folder, "folder"))
         for name, text in given.items():
             put(text, folder, name)
         words = [os.fsencode(word) for word in [program, *row.words]]
         done = subprocess.run(words, cwd=folder, stdin=subprocess.DEVNULL, capture_output=True, timeout=60)
-        stand = {name: bytes_of(folder, name) for name in os.listdir(folder)}
+        stand = files_in(folder)
     if done.returncode != row.status:
         return f"status {done.returncode}"
     if not same(done.stdout, row.out):

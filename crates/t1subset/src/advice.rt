@@ -1,13 +1,14 @@
 //! What to do about a fault: the rows of the man page, which `tools/test_explained.py` compares.
 use std::io;
 use std::io::Write;
-use t1_cmd::{Reason, RunFault};
+use t1_cmd::{Counted, Reason, RunFault};
 use t1_font::ReadFault;
 use t1_join::{JoinFault, ListFault};
 use t1_subset::Conflict;
 
 const FILE_TOO_LONG: &str = "\
-The file has more than 268,435,456 bytes, so it is not a single font: take the font out of the document first.";
+The file has more than 268,435,456 bytes, so it is not a single font: take the font out of the document first. \
+Documents to pool may have no more together: pool fewer.";
 
 const BAD_SEGMENT_AT_N: &str = "\
 The PFB header at this offset of the file is wrong: it has a wrong type, or a length beyond the end. The file is cut off or damaged; fetch it again in \
@@ -55,6 +56,9 @@ A font, or the merged font, is larger than LIMITS allows. Merge fewer fonts.";
 
 const NO_GLYPH_NAME: &str = "\
 The font has no glyph of this name, the first missing one that was asked for. t1subset list prints the names.";
+
+const NO_FONT_NAME: &str = "\
+No place of a font in the documents has this name. t1subset fonts prints the names.";
 
 const NO_CODE_N: &str = "\
 The font's Encoding has no name for this code, the first such code that was asked for. t1subset list prints the codes; ask for the glyph by its name.";
@@ -162,6 +166,7 @@ fn of_reason(reason: &Reason) -> &'static str {
         Reason::Join(fault) => of_join(fault),
         Reason::Font(fault) => of_font(fault),
         Reason::NoGlyph { .. } => NO_GLYPH_NAME,
+        Reason::NoFont { .. } => NO_FONT_NAME,
         Reason::NoCode { .. } => NO_CODE_N,
         Reason::Lacks { .. } => GLYPH_NAME_LACKS_SUBR_N,
         Reason::Merge(conflict) => of_conflict(conflict),
@@ -172,7 +177,7 @@ fn of_reason(reason: &Reason) -> &'static str {
 fn tell_file<E: Write>(reason: &Reason, input: &str, err: &mut E) -> io::Result<()> {
     match reason {
         Reason::Memory => writeln!(err, "file: none"),
-        Reason::Join(_) | Reason::Lacks { .. } | Reason::Merge(_) => {
+        Reason::Join(_) | Reason::NoFont { .. } | Reason::Lacks { .. } | Reason::Merge(_) => {
             writeln!(err, "files: all of them together")
         }
         _ => writeln!(err, "file: {input}"),
@@ -181,7 +186,7 @@ fn tell_file<E: Write>(reason: &Reason, input: &str, err: &mut E) -> io::Result<
 
 /// Explains a fault in two lines: the file that is meant, which is the input of this path, or the file that is written; and what to
 /// do. Without a path, standard output is written.
-pub fn explain<E: Write>(
+fn explain<E: Write>(
     fault: &RunFault,
     input: &str,
     out: Option<&str>,
@@ -203,4 +208,20 @@ pub fn explain<E: Write>(
         }
     };
     writeln!(err, "{advice}")
+}
+
+/// Where faults are told, and whether they are explained.
+#[derive(Drop)]
+pub struct Told<E> {
+    pub err: Counted<E>,
+    pub explains: bool,
+}
+
+impl<E: Write + Drop> Told<E> {
+    /// Explains a fault in two more lines, if that is asked for.
+    pub fn explain(&mut self, fault: &RunFault, input: &str, out: Option<&str>) {
+        if self.explains {
+            let _ = explain(fault, input, out, &mut self.err);
+        }
+    }
 }

@@ -174,17 +174,72 @@ opened only when the result is complete.
 
 Example: t1subset pool all.ps one.ps two.ps";
 
-fn pool_command<'a>(alloc: Global) -> Result<Command<'a>, AllocError> {
-    let documents = Arg::new(alloc, "IN")
+fn documents_word<'a>(alloc: Global) -> Arg<'a> {
+    Arg::new(alloc, "IN")
         .num_args(1..)
         .required(true)
         .action(ArgAction::Append)
-        .help("The documents");
+        .help("The documents")
+}
+
+fn pool_command<'a>(alloc: Global) -> Result<Command<'a>, AllocError> {
     Command::new(alloc, "pool")
         .about("Writes documents one behind the other with each font once")
         .after_help(POOL_HELP)
         .arg(word(alloc, "OUT", "The file that is written"))?
-        .arg(documents)
+        .arg(documents_word(alloc))
+}
+
+const LEVEL_HELP: &str = "\
+Writes each PostScript document into FOLDER, under its own last name, so that
+a program that joins documents, and keeps one font of each name, loses no
+glyph. The fonts of a name, in all documents, are rejoined as by `pool`, and
+each place of the name gets the font that they rejoin to. Nothing else changes:
+each document still has all of its fonts. The fonts of a name that don't rejoin
+stay as they are, and a line on standard error tells why. FOLDER has to be
+there. Two documents of one name, or one that stands in FOLDER, are refused
+before anything is written.
+
+Example: mkdir even && t1subset level even one.ps two.ps";
+
+fn level_command<'a>(alloc: Global) -> Result<Command<'a>, AllocError> {
+    Command::new(alloc, "level")
+        .about("Writes documents again with one font for each name")
+        .after_help(LEVEL_HELP)
+        .arg(word(alloc, "FOLDER", "The folder that they are written to"))?
+        .arg(documents_word(alloc))
+}
+
+const FONTS_HELP: &str = "\
+Prints a line for each place of a font in PostScript documents, as
+`one.ps: 2210 CMR10 17 0 joined`: the document, the offset of the font there,
+its name, how many glyphs it has, how many embedded documents are open around
+it, and what `level` makes of the fonts of its name, `joined` or `kept: REASON`.
+The last line counts the places, the names, and the names that are kept.
+
+With --extract it writes the first font of this name to OUT, which comes before
+the documents, as `mend` writes it. OUT is opened only when the result is
+complete.
+
+Examples: t1subset fonts one.ps two.ps
+          t1subset fonts --extract CMR10 cmr10.pfa one.ps two.ps";
+
+/// The option that takes a font out.
+fn extract_option<'a>(alloc: Global) -> Arg<'a> {
+    Arg::new(alloc, "extract")
+        .long("extract")
+        .value_name("NAME")
+        .allow_hyphen_values(true)
+        .action(ArgAction::Set)
+        .help("Writes the first font of this name to OUT, which comes first")
+}
+
+fn fonts_command<'a>(alloc: Global) -> Result<Command<'a>, AllocError> {
+    Command::new(alloc, "fonts")
+        .about("Lists the fonts of documents, or takes one out")
+        .after_help(FONTS_HELP)
+        .arg(documents_word(alloc))?
+        .arg(extract_option(alloc))
 }
 
 const DIFF_HELP: &str = "\
@@ -374,6 +429,8 @@ fn program<'a>(alloc: Global) -> Result<Command<'a>, AllocError> {
     let program = with(program, merge_command(alloc));
     let program = with(program, rejoin_command(alloc));
     let program = with(program, pool_command(alloc));
+    let program = with(program, level_command(alloc));
+    let program = with(program, fonts_command(alloc));
     let program = with(program, diff_command(alloc));
     let program = with(program, mend_command(alloc));
     let program = with(program, check_command(alloc));
@@ -398,15 +455,40 @@ fn bad_list<'a>(alloc: Global, matches: &ArgMatches<'a>) -> Result<Option<&'a st
     }
 }
 
+/// Whether a font is to be taken out, and OUT or a document lacks.
+fn lacks_out(matches: &ArgMatches<'_>) -> bool {
+    match matches.subcommand() {
+        Some(("fonts", given)) => {
+            given.get_str("extract").is_some() && given.get_raw("IN").unwrap_or(&[]).len() < 2
+        }
+        _ => false,
+    }
+}
+
+/// Why words that parse can't be followed: what clap says of a value, or of a word that lacks.
+fn wrong_words<'a>(
+    alloc: Global,
+    matches: &ArgMatches<'a>,
+) -> Result<Option<(ErrorKind, String)>, AllocError> {
+    if let Some(list) = bad_list(alloc, matches)? {
+        let text = format!(in alloc;
+            "invalid value '{list}' for '--codes <LIST>': codes are numbers from 0 to 255 and ranges of them, as 65-90,97"
+        )?;
+        return Ok(Some((ErrorKind::ValueValidation, text)));
+    }
+    if lacks_out(matches) {
+        let text = format!(in alloc; "--extract <NAME> needs OUT before the documents")?;
+        return Ok(Some((ErrorKind::TooFewValues, text)));
+    }
+    Ok(None)
+}
+
 /// What the words ask for, or clap's text if they don't parse.
 pub fn parse<'a>(alloc: Global, words: &'a [String]) -> Result<ArgMatches<'a>, Error> {
     let mut program = program(alloc)?;
     let matches = program.try_get_matches_from_mut(words)?;
-    let Some(list) = bad_list(alloc, &matches)? else {
-        return Ok(matches);
-    };
-    let text = format!(in alloc;
-        "invalid value '{list}' for '--codes <LIST>': codes are numbers from 0 to 255 and ranges of them, as 65-90,97"
-    )?;
-    Err(program.error(ErrorKind::ValueValidation, text.as_str())?)
+    match wrong_words(alloc, &matches)? {
+        Some((kind, text)) => Err(program.error(kind, text.as_str())?),
+        None => Ok(matches),
+    }
 }

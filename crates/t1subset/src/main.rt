@@ -3,6 +3,8 @@
 
 mod advice;
 mod commands;
+mod documents;
+mod files;
 mod output;
 mod perform;
 

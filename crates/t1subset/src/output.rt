@@ -179,9 +179,15 @@ impl<'r, 'p, R: Files> Out<'r, 'p, R> {
         })
     }
 
-    /// Finishes the output of an engine that ended in this way: a whole result takes OUT's name, and a part is removed.
-    /// Answers also what is to be said of it.
-    pub fn end(self, done: Result<(), RunFault>) -> (Result<(), RunFault>, Note<'p>) {
+    /// Finishes the output of an engine that ended in this way: a whole result takes OUT's name, and a part is removed. A whole
+    /// result without bytes was not opened by a write. Answers also what is to be said of it.
+    pub fn end(mut self, done: Result<(), RunFault>) -> (Result<(), RunFault>, Note<'p>) {
+        if done.is_ok() && self.opened.is_none() {
+            match self.open() {
+                Ok(opened) => self.opened = Some(opened),
+                Err(_) => return (Err(RunFault::Write), Note::Nothing),
+            }
+        }
         let Out {
             rt,
             path,

@@ -1,56 +1,20 @@
 //! Performs what the words ask for.
-use crate::advice::explain;
+use crate::advice::Told;
 use crate::commands::parse;
-use crate::output::{Note, Out};
+use crate::documents::{fonts, level, pool};
+use crate::files::{Seen, end, flush, last_read, named, not_opened, opened, out};
+use crate::output::Note;
 use clap::{ArgMatches, Error};
 use std::alloc::{AllocError, Global};
-use std::io::{ErrorKind, Write};
+use std::fs;
+use std::io::Write;
 use std::rt::Files;
-use std::{fs, io};
 use t1_cmd::{
-    Counted, FILE_LIMIT, Reason, RunFault, read_all, read_codes, run_check, run_check_of,
-    run_convert, run_diff, run_join, run_list, run_list_full, run_mend, run_merge, run_pool,
+    Counted, FILE_LIMIT, RunFault, read_all, read_codes, run_check, run_check_of,
+    run_convert, run_diff, run_join, run_list, run_list_full, run_mend, run_merge,
     run_rejoin, run_show, run_subset_with_codes, status, write_fault, write_fault_of,
 };
 use t1_font::Form;
-
-/// What is seen of a run while it goes on.
-#[derive(Drop)]
-struct Seen<'p> {
-    /// The input that was opened or read last.
-    input: &'p str,
-    /// What is said of OUT behind the result.
-    note: Note<'p>,
-    /// Lines that tell what was mended.
-    told: Vec<u8>,
-}
-
-/// How an input that can't be opened ends the run.
-fn not_opened(error: io::Error) -> RunFault {
-    if error.kind() == ErrorKind::OutOfMemory {
-        RunFault::Refused(Reason::Memory)
-    } else {
-        RunFault::Read
-    }
-}
-
-/// Flushes standard output behind a result.
-fn flush<O: Write + Drop>(mut out: Counted<O>) -> Result<(), RunFault> {
-    out.flush().map_err(|_| RunFault::Write)
-}
-
-/// The file that the words name so, opened.
-fn named<'p, R: Files>(
-    rt: &R,
-    given: &ArgMatches<'p>,
-    name: &str,
-    seen: &mut Seen<'p>,
-) -> Result<Counted<R::File>, RunFault> {
-    let path = given.get_str(name).unwrap_or("");
-    seen.input = path;
-    let file = fs::open(rt, path).map_err(not_opened)?;
-    Ok(Counted::new(file))
-}
 
 fn join<'p, R: Files, O: Write + Drop>(
     rt: &R,
@@ -185,27 +149,6 @@ fn show<'p, R: Files, O: Write + Drop>(
     flush(out)
 }
 
-/// The file that the words name for the result.
-fn out<'r, 'p, R: Files>(
-    rt: &'r R,
-    alloc: Global,
-    given: &ArgMatches<'p>,
-) -> Counted<Out<'r, 'p, R>> {
-    let path = given.get_str("OUT").unwrap_or("");
-    Counted::new(Out::new(rt, alloc, path))
-}
-
-/// Finishes the file that the words name for the result of an engine that ended in this way.
-fn end<'p, R: Files>(
-    out: Counted<Out<'_, 'p, R>>,
-    done: Result<(), RunFault>,
-    seen: &mut Seen<'p>,
-) -> Result<(), RunFault> {
-    let (done, said) = out.into_inner().end(done);
-    seen.note = said;
-    done
-}
-
 fn convert<'p, R: Files>(
     rt: &R,
     alloc: Global,
@@ -324,55 +267,17 @@ fn subset<'p, R: Files>(
     end(out, done, seen)
 }
 
-/// The fonts that the words name, all of them opened.
-fn fonts<'p, R: Files>(
-    rt: &R,
-    alloc: Global,
-    given: &ArgMatches<'p>,
-    seen: &mut Seen<'p>,
-) -> Result<Vec<Counted<R::File>>, RunFault> {
-    let mut fonts = Vec::new(alloc);
-    for path in given.get_raw("IN").unwrap_or(&[]) {
-        seen.input = *path;
-        let file = fs::open(rt, *path).map_err(not_opened)?;
-        if fonts.push(Counted::new(file)).is_err() {
-            return Err(RunFault::Refused(Reason::Memory));
-        }
-    }
-    Ok(fonts)
-}
-
-/// How many of the fonts were read: an engine reads them one after the other, and stops at the first that it refuses.
-fn read_count<F>(fonts: &[Counted<F>]) -> usize {
-    let mut count = 0usize;
-    for font in fonts {
-        if font.calls() > 0 {
-            count = count.saturating_add(1);
-        }
-    }
-    count
-}
-
-/// The path of the last of the fonts that was read.
-fn last_read<'p, F>(given: &ArgMatches<'p>, fonts: &[Counted<F>]) -> &'p str {
-    let paths = given.get_raw("IN").unwrap_or(&[]);
-    let last = read_count(fonts).saturating_sub(1);
-    match paths.get(last) {
-        Some(path) => *path,
-        None => "",
-    }
-}
-
 fn merge<'p, R: Files>(
     rt: &R,
     alloc: Global,
     given: &ArgMatches<'p>,
     seen: &mut Seen<'p>,
 ) -> Result<(), RunFault> {
-    let mut fonts = fonts(rt, alloc, given, seen)?;
+    let paths = given.get_raw("IN").unwrap_or(&[]);
+    let mut fonts = opened(rt, alloc, paths, seen)?;
     let mut out = out(rt, alloc, given);
     let done = run_merge(alloc, fonts.as_mut_slice(), form(given), &mut out);
-    seen.input = last_read(given, fonts.as_slice());
+    seen.input = last_read(paths, fonts.as_slice());
     end(out, done, seen)
 }
 
@@ -382,34 +287,15 @@ fn rejoin<'p, R: Files>(
     given: &ArgMatches<'p>,
     seen: &mut Seen<'p>,
 ) -> Result<(), RunFault> {
-    let mut fonts = fonts(rt, alloc, given, seen)?;
+    let paths = given.get_raw("IN").unwrap_or(&[]);
+    let mut fonts = opened(rt, alloc, paths, seen)?;
     let mut out = out(rt, alloc, given);
     let done = run_rejoin(alloc, fonts.as_mut_slice(), form(given), &mut out);
-    seen.input = last_read(given, fonts.as_slice());
+    seen.input = last_read(paths, fonts.as_slice());
     end(out, done, seen)
 }
 
-fn pool<'p, R: Files>(
-    rt: &R,
-    alloc: Global,
-    given: &ArgMatches<'p>,
-    seen: &mut Seen<'p>,
-) -> Result<(), RunFault> {
-    let mut documents = fonts(rt, alloc, given, seen)?;
-    let mut out = out(rt, alloc, given);
-    let done = run_pool(alloc, documents.as_mut_slice(), &mut out);
-    seen.input = last_read(given, documents.as_slice());
-    match done {
-        Ok(lines) => {
-            end(out, Ok(()), seen)?;
-            seen.told = lines;
-            Ok(())
-        }
-        Err(fault) => end(out, Err(fault), seen),
-    }
-}
-
-/// Does what a command says, but for `check` and `diff`.
+/// Does what a command says, but for those that answer a status of their own.
 fn perform<'p, R: Files, O: Write + Drop>(
     rt: &R,
     alloc: Global,
@@ -423,6 +309,7 @@ fn perform<'p, R: Files, O: Write + Drop>(
         "merge" => merge(rt, alloc, given, seen),
         "rejoin" => rejoin(rt, alloc, given, seen),
         "pool" => pool(rt, alloc, given, seen),
+        "fonts" => fonts(rt, alloc, given, out, seen),
         "mend" => mend(rt, alloc, given, seen),
         "list" => list(rt, alloc, given, out, seen),
         "show" => show(rt, alloc, given, out, seen),
@@ -430,22 +317,6 @@ fn perform<'p, R: Files, O: Write + Drop>(
         "pfb" => convert(rt, alloc, given, Form::Pfb, seen),
         "join" => join(rt, alloc, given, out, seen),
         _ => Ok(()),
-    }
-}
-
-/// Where faults are told, and whether they are explained.
-#[derive(Drop)]
-struct Told<E> {
-    err: Counted<E>,
-    explains: bool,
-}
-
-impl<E: Write + Drop> Told<E> {
-    /// Explains a fault in two more lines, if that is asked for.
-    fn explain(&mut self, fault: &RunFault, input: &str, out: Option<&str>) {
-        if self.explains {
-            let _ = explain(fault, input, out, &mut self.err);
-        }
     }
 }
 
@@ -472,25 +343,25 @@ fn run_word<R: Files, O: Write + Drop, E: Write + Drop>(
 ) -> u8 {
     let mut seen = Seen {
         input: "",
+        out: given.get_str("OUT"),
         note: Note::Nothing,
         told: Vec::new(alloc),
     };
     let done = match word {
         "check" => check(rt, alloc, given, out, told, &mut seen),
         "diff" => diff(rt, alloc, given, out, &mut seen),
+        "level" => level(rt, alloc, given, told, &mut seen),
         _ => perform(rt, alloc, word, given, out, &mut seen).map(|()| 0u8),
     };
     let ended = match done {
-        Ok(status) => {
-            let _ = told.err.write_all(seen.told.as_slice());
-            status
-        }
+        Ok(status) => status,
         Err(fault) => {
             let _ = write_fault(alloc, &fault, &mut told.err);
-            told.explain(&fault, seen.input, given.get_str("OUT"));
+            told.explain(&fault, seen.input, seen.out);
             status(&fault)
         }
     };
+    let _ = told.err.write_all(seen.told.as_slice());
     let _ = seen.note.tell(&mut told.err);
     ended
 }

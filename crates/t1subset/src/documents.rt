@@ -1,0 +1,231 @@
+//! The words over documents.
+use crate::advice::Told;
+use crate::files::{Seen, end, flush, last_read, opened, out};
+use crate::output::Out;
+use clap::ArgMatches;
+use std::alloc::{AllocError, Global};
+use std::fs;
+use std::fs::Metadata;
+use std::io::Write;
+use std::os::unix::fs::MetadataExt;
+use std::rt::Files;
+use t1_cmd::{Counted, RunFault, run_extract, run_fonts, run_level, run_pool, write_text};
+
+/// Writes documents one behind the other with each font once.
+pub fn pool<'p, R: Files>(
+    rt: &R,
+    alloc: Global,
+    given: &ArgMatches<'p>,
+    seen: &mut Seen<'p>,
+) -> Result<(), RunFault> {
+    let paths = given.get_raw("IN").unwrap_or(&[]);
+    let mut documents = opened(rt, alloc, paths, seen)?;
+    let mut out = out(rt, alloc, given);
+    let done = run_pool(alloc, documents.as_mut_slice(), &mut out);
+    seen.input = last_read(paths, documents.as_slice());
+    match done {
+        Ok(lines) => {
+            end(out, Ok(()), seen)?;
+            seen.told = lines;
+            Ok(())
+        }
+        Err(fault) => end(out, Err(fault), seen),
+    }
+}
+
+/// The last name of a path.
+fn last_name(path: &str) -> &str {
+    match path.rsplit_once('/') {
+        Some((_, name)) => name,
+        None => path,
+    }
+}
+
+/// Whether one of some paths has this last name.
+fn has_name(paths: &[&str], name: &str) -> bool {
+    for path in paths {
+        if last_name(*path) == name {
+            return true;
+        }
+    }
+    false
+}
+
+/// The last name that two paths have, if there are two such.
+fn repeated_name<'p>(paths: &[&'p str]) -> Option<&'p str> {
+    for at in 0..paths.len() {
+        let (before, behind) = paths.split_at(at);
+        if let Some(path) = behind.first() {
+            let name = last_name(*path);
+            if has_name(before, name) {
+                return Some(name);
+            }
+        }
+    }
+    None
+}
+
+/// The paths in a folder of files with the last names of these paths.
+fn paths_in(alloc: Global, folder: &str, paths: &[&str]) -> Result<Vec<String>, AllocError> {
+    let mut targets = Vec::new(alloc);
+    for path in paths {
+        let name = last_name(*path);
+        let target = format!(in alloc; "{folder}/{name}")?;
+        if targets.push(target).is_err() {
+            return Err(AllocError);
+        }
+    }
+    Ok(targets)
+}
+
+/// Whether the input of this path is the file that was found.
+fn is_file<R: Files>(rt: &R, path: &str, found: &Metadata) -> bool {
+    match fs::metadata(rt, path) {
+        Ok(input) => input.dev() == found.dev() && input.ino() == found.ino(),
+        Err(_) => false,
+    }
+}
+
+/// The input that is the file of this path, if one is.
+fn input_at<'p, R: Files>(rt: &R, target: &str, paths: &[&'p str]) -> Option<&'p str> {
+    let Ok(found) = fs::metadata(rt, target) else {
+        return None;
+    };
+    for path in paths {
+        if is_file(rt, *path, &found) {
+            return Some(*path);
+        }
+    }
+    None
+}
+
+/// The first input that stands where a result would be written.
+fn input_in_place<'p, R: Files>(rt: &R, targets: &[String], paths: &[&'p str]) -> Option<&'p str> {
+    for target in targets {
+        if let Some(path) = input_at(rt, target.as_str(), paths) {
+            return Some(path);
+        }
+    }
+    None
+}
+
+/// Writes a text to the file of this path, and adds what is to be said of the file.
+fn write_file<R: Files>(
+    rt: &R,
+    alloc: Global,
+    path: &str,
+    text: &[u8],
+    told: &mut Vec<u8>,
+) -> Result<(), RunFault> {
+    let mut out = Counted::new(Out::new(rt, alloc, path));
+    let done = write_text(&mut out, text);
+    let (done, note) = out.into_inner().end(done);
+    let _ = note.tell(told);
+    done
+}
+
+/// Writes texts to the files of these paths, one after the other.
+fn write_files<R: Files>(
+    rt: &R,
+    alloc: Global,
+    paths: &[String],
+    texts: &[Vec<u8>],
+    told: &mut Vec<u8>,
+) -> Result<(), RunFault> {
+    for (path, text) in paths.iter().zip(texts.iter()) {
+        write_file(rt, alloc, path.as_str(), text.as_slice(), told)?;
+    }
+    Ok(())
+}
+
+/// Writes each document into a folder, with one font at each place of a name. Answers status 2 if two have one name, or if the
+/// folder holds one of them.
+pub fn level<'p, R: Files, E: Write + Drop>(
+    rt: &R,
+    alloc: Global,
+    given: &ArgMatches<'p>,
+    told: &mut Told<E>,
+    seen: &mut Seen<'p>,
+) -> Result<u8, RunFault> {
+    let folder = given.get_str("FOLDER").unwrap_or("");
+    seen.out = Some(folder);
+    let paths = given.get_raw("IN").unwrap_or(&[]);
+    if let Some(name) = repeated_name(paths) {
+        let _ = writeln!(told.err, "error: two documents have the name {name}");
+        return Ok(2);
+    }
+    let mut documents = opened(rt, alloc, paths, seen)?;
+    let targets = paths_in(alloc, folder, paths)?;
+    if let Some(path) = input_in_place(rt, targets.as_slice(), paths) {
+        let _ = writeln!(told.err, "error: {folder} holds the document {path}");
+        return Ok(2);
+    }
+    let done = run_level(alloc, documents.as_mut_slice());
+    seen.input = last_read(paths, documents.as_slice());
+    drop(documents);
+    let levelled = done?;
+    let texts = levelled.texts.as_slice();
+    write_files(rt, alloc, targets.as_slice(), texts, &mut seen.told)?;
+    seen.told.extend_from_slice(levelled.kept.as_slice())?;
+    Ok(0)
+}
+
+/// The bytes of words.
+fn bytes_of<'p>(alloc: Global, words: &[&'p str]) -> Result<Vec<&'p [u8]>, AllocError> {
+    let mut texts = Vec::with_capacity(alloc, words.len())?;
+    for word in words {
+        texts.push(word.as_bytes())?;
+    }
+    Ok(texts)
+}
+
+/// Lists the fonts of documents.
+fn list_fonts<'p, R: Files, O: Write + Drop>(
+    rt: &R,
+    alloc: Global,
+    given: &ArgMatches<'p>,
+    out: O,
+    seen: &mut Seen<'p>,
+) -> Result<(), RunFault> {
+    let paths = given.get_raw("IN").unwrap_or(&[]);
+    let labels = bytes_of(alloc, paths)?;
+    let mut documents = opened(rt, alloc, paths, seen)?;
+    let mut out = Counted::new(out);
+    let done = run_fonts(alloc, labels.as_slice(), documents.as_mut_slice(), &mut out);
+    seen.input = last_read(paths, documents.as_slice());
+    done?;
+    flush(out)
+}
+
+/// Writes the first font of a name to the first of the paths that the words give.
+fn extract<'p, R: Files>(
+    rt: &R,
+    alloc: Global,
+    given: &ArgMatches<'p>,
+    name: &str,
+    seen: &mut Seen<'p>,
+) -> Result<(), RunFault> {
+    let Some((path, paths)) = given.get_raw("IN").unwrap_or(&[]).split_first() else {
+        return Ok(());
+    };
+    seen.out = Some(*path);
+    let mut documents = opened(rt, alloc, paths, seen)?;
+    let mut out = Counted::new(Out::new(rt, alloc, *path));
+    let done = run_extract(alloc, name.as_bytes(), documents.as_mut_slice(), &mut out);
+    seen.input = last_read(paths, documents.as_slice());
+    end(out, done, seen)
+}
+
+/// Lists the fonts of documents, or takes one out.
+pub fn fonts<'p, R: Files, O: Write + Drop>(
+    rt: &R,
+    alloc: Global,
+    given: &ArgMatches<'p>,
+    out: O,
+    seen: &mut Seen<'p>,
+) -> Result<(), RunFault> {
+    match given.get_str("extract") {
+        Some(name) => extract(rt, alloc, given, name, seen),
+        None => list_fonts(rt, alloc, given, out, seen),
+    }
+}
