@@ -127,10 +127,39 @@ def kept_result(program, folder):
     return is_kept and (done.stdout, done.stderr) == (b"status 3\n", said)
 
 
+def said_to_a_terminal(words):
+    """The status of a run whose standard error is a terminal, and what it says there."""
+    reader, terminal = os.openpty()
+    done = subprocess.run(words, stderr=terminal, timeout=60)
+    os.close(terminal)
+    said = b""
+    while True:
+        try:
+            more = os.read(reader, 65536)
+        except OSError:
+            break
+        if not more:
+            break
+        said += more
+    os.close(reader)
+    return done.returncode, said
+
+
+def shown_progress(program, folder):
+    """On a terminal ten documents are shown in one line as they are read, and nine are not."""
+    names = [f"{number}.ps" for number in range(10)]
+    for name in names:
+        put(b"no font\n", name)
+    shown = b"".join(b"\r\x1b[Kreading %d of 10: %d.ps" % (number + 1, number) for number in range(10)) + b"\r\x1b[K"
+    many = said_to_a_terminal([program, "pool", "out", *names])
+    few = said_to_a_terminal([program, "pool", "out", *names[1:]])
+    return many == (0, shown) and few == (0, b"") and bytes_of("out") == b"no font\n" * 9
+
+
 def outputs(program):
-    """What becomes of the file that OUT names."""
+    """What becomes of the file that OUT names, and what a terminal shows."""
     here = os.getcwd()
-    for test in (kept_output, same_output, left_parts, kept_result):
+    for test in (kept_output, same_output, left_parts, kept_result, shown_progress):
         with tempfile.TemporaryDirectory() as folder:
             os.chdir(folder)
             try:
@@ -151,7 +180,7 @@ def main():
                 sys.exit(f"{program} {row.words}: {fault}")
         full(program)
         outputs(program)
-    print(f"t1subset: {len(rows) + 5} rows of words, by {len(programs)} builds", file=sys.stderr)
+    print(f"t1subset: {len(rows) + 6} rows of words, by {len(programs)} builds", file=sys.stderr)
 
 
 if __name__ == "__main__":

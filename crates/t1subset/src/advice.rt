@@ -1,4 +1,5 @@
 //! What to do about a fault: the rows of the man page, which `tools/test_explained.py` compares.
+use crate::progress::Progress;
 use std::io;
 use std::io::Write;
 use t1_cmd::{Counted, Reason, RunFault};
@@ -215,9 +216,16 @@ fn explain<E: Write>(
 pub struct Told<E> {
     pub err: Counted<E>,
     pub explains: bool,
+    /// Whether standard error is a terminal.
+    pub is_terminal: bool,
 }
 
 impl<E: Write + Drop> Told<E> {
+    /// What is shown while so many documents are read.
+    pub fn progress(&mut self, count: usize) -> Progress<&mut Counted<E>> {
+        Progress::new(&mut self.err, count, self.is_terminal)
+    }
+
     /// Explains a fault in two more lines, if that is asked for.
     pub fn explain(&mut self, fault: &RunFault, input: &str, out: Option<&str>) {
         if self.explains {

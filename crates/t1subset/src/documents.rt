@@ -1,28 +1,64 @@
 //! The words over documents.
 use crate::advice::Told;
-use crate::files::{Seen, end, flush, last_read, opened, out};
+use crate::files::{Seen, end, flush, last_read, not_opened, opened, out};
 use crate::output::Out;
+use crate::progress::{Progress, Watched};
 use clap::ArgMatches;
 use std::alloc::{AllocError, Global};
+use std::cell::RefCell;
 use std::fs;
 use std::fs::Metadata;
 use std::io::Write;
 use std::os::unix::fs::MetadataExt;
 use std::rt::Files;
-use t1_cmd::{Counted, RunFault, run_extract, run_fonts, run_level, run_pool, write_text};
+use t1_cmd::{
+    Counted, Levelled, Reason, RunFault, run_extract, run_fonts, run_level, run_pool, write_text,
+};
+
+/// The documents of these paths, all of them opened, each of which is shown when it is read.
+fn watched<'c, 'p, R: Files, E: Write>(
+    rt: &R,
+    alloc: Global,
+    paths: &[&'p str],
+    progress: &'c RefCell<Progress<E>>,
+    seen: &mut Seen<'p>,
+) -> Result<Vec<Counted<Watched<'c, 'p, R::File, E>>>, RunFault> {
+    let mut documents = Vec::new(alloc);
+    for path in paths {
+        seen.input = *path;
+        let file = fs::open(rt, *path).map_err(not_opened)?;
+        let number = documents.len().saturating_add(1);
+        let document = Watched::new(file, progress, number, *path);
+        if documents.push(Counted::new(document)).is_err() {
+            return Err(RunFault::Refused(Reason::Memory));
+        }
+    }
+    Ok(documents)
+}
+
+/// Clears what was shown.
+fn clear<E: Write>(progress: &RefCell<Progress<E>>) {
+    if let Ok(mut progress) = progress.try_borrow_mut() {
+        progress.clear();
+    }
+}
 
 /// Writes documents one behind the other with each font once.
-pub fn pool<'p, R: Files>(
+pub fn pool<'p, R: Files, E: Write + Drop>(
     rt: &R,
     alloc: Global,
     given: &ArgMatches<'p>,
+    told: &mut Told<E>,
     seen: &mut Seen<'p>,
 ) -> Result<(), RunFault> {
     let paths = given.get_raw("IN").unwrap_or(&[]);
-    let mut documents = opened(rt, alloc, paths, seen)?;
+    let progress = RefCell::new(told.progress(paths.len()));
+    let mut documents = watched(rt, alloc, paths, &progress, seen)?;
     let mut out = out(rt, alloc, given);
     let done = run_pool(alloc, documents.as_mut_slice(), &mut out);
     seen.input = last_read(paths, documents.as_slice());
+    drop(documents);
+    clear(&progress);
     match done {
         Ok(lines) => {
             end(out, Ok(()), seen)?;
@@ -138,6 +174,23 @@ fn write_files<R: Files>(
     Ok(())
 }
 
+/// The documents of these paths, levelled.
+fn levelled<'p, R: Files, E: Write + Drop>(
+    rt: &R,
+    alloc: Global,
+    paths: &[&'p str],
+    told: &mut Told<E>,
+    seen: &mut Seen<'p>,
+) -> Result<Levelled, RunFault> {
+    let progress = RefCell::new(told.progress(paths.len()));
+    let mut documents = watched(rt, alloc, paths, &progress, seen)?;
+    let done = run_level(alloc, documents.as_mut_slice());
+    seen.input = last_read(paths, documents.as_slice());
+    drop(documents);
+    clear(&progress);
+    done
+}
+
 /// Writes each document into a folder, with one font at each place of a name. Answers status 2 if two have one name, or if the
 /// folder holds one of them.
 pub fn level<'p, R: Files, E: Write + Drop>(
@@ -154,16 +207,12 @@ pub fn level<'p, R: Files, E: Write + Drop>(
         let _ = writeln!(told.err, "error: two documents have the name {name}");
         return Ok(2);
     }
-    let mut documents = opened(rt, alloc, paths, seen)?;
     let targets = paths_in(alloc, folder, paths)?;
     if let Some(path) = input_in_place(rt, targets.as_slice(), paths) {
         let _ = writeln!(told.err, "error: {folder} holds the document {path}");
         return Ok(2);
     }
-    let done = run_level(alloc, documents.as_mut_slice());
-    seen.input = last_read(paths, documents.as_slice());
-    drop(documents);
-    let levelled = done?;
+    let levelled = levelled(rt, alloc, paths, told, seen)?;
     let texts = levelled.texts.as_slice();
     write_files(rt, alloc, targets.as_slice(), texts, &mut seen.told)?;
     seen.told.extend_from_slice(levelled.kept.as_slice())?;

@@ -7,8 +7,9 @@ mod documents;
 mod files;
 mod output;
 mod perform;
+mod progress;
 
-use std::io::{ErrorKind, Write};
+use std::io::{ErrorKind, IsTerminal, Write};
 use std::process::ExitCode;
 use std::rt::Env;
 use std::{env, io};
@@ -34,6 +35,14 @@ fn main(rt: HostRuntime) -> ExitCode {
         Ok(words) => words,
         Err(error) => return refuse_words(&error, rt.stderr()),
     };
-    let status = perform::run(&rt, rt.alloc(), words.as_slice(), rt.stdout(), rt.stderr());
+    let err = rt.stderr();
+    let is_terminal = err.is_terminal();
+    let status = perform::run(
+        &rt,
+        rt.alloc(),
+        words.as_slice(),
+        rt.stdout(),
+        (err, is_terminal),
+    );
     ExitCode::from(status)
 }

@@ -10,9 +10,9 @@ use std::fs;
 use std::io::Write;
 use std::rt::Files;
 use t1_cmd::{
-    Counted, FILE_LIMIT, RunFault, read_all, read_codes, run_check, run_check_of,
-    run_convert, run_diff, run_join, run_list, run_list_full, run_mend, run_merge,
-    run_rejoin, run_show, run_subset_with_codes, status, write_fault, write_fault_of,
+    Counted, FILE_LIMIT, RunFault, read_all, read_codes, run_check, run_check_of, run_convert,
+    run_diff, run_join, run_list, run_list_full, run_mend, run_merge, run_rejoin, run_show,
+    run_subset_with_codes, status, write_fault, write_fault_of,
 };
 use t1_font::Form;
 
@@ -308,7 +308,6 @@ fn perform<'p, R: Files, O: Write + Drop>(
         "subset" => subset(rt, alloc, given, seen),
         "merge" => merge(rt, alloc, given, seen),
         "rejoin" => rejoin(rt, alloc, given, seen),
-        "pool" => pool(rt, alloc, given, seen),
         "fonts" => fonts(rt, alloc, given, out, seen),
         "mend" => mend(rt, alloc, given, seen),
         "list" => list(rt, alloc, given, out, seen),
@@ -350,6 +349,7 @@ fn run_word<R: Files, O: Write + Drop, E: Write + Drop>(
     let done = match word {
         "check" => check(rt, alloc, given, out, told, &mut seen),
         "diff" => diff(rt, alloc, given, out, &mut seen),
+        "pool" => pool(rt, alloc, given, told, &mut seen).map(|()| 0u8),
         "level" => level(rt, alloc, given, told, &mut seen),
         _ => perform(rt, alloc, word, given, out, &mut seen).map(|()| 0u8),
     };
@@ -366,13 +366,13 @@ fn run_word<R: Files, O: Write + Drop, E: Write + Drop>(
     ended
 }
 
-/// Does what the words say, and answers the exit status.
+/// Does what the words say, and answers the exit status. Standard error may be a terminal.
 pub fn run<R: Files, O: Write + Drop, E: Write + Drop>(
     rt: &R,
     alloc: Global,
     words: &[String],
     out: O,
-    err: E,
+    (err, is_terminal): (E, bool),
 ) -> u8 {
     let matches = match parse(alloc, words) {
         Ok(matches) => matches,
@@ -381,6 +381,7 @@ pub fn run<R: Files, O: Write + Drop, E: Write + Drop>(
     let mut told = Told {
         err: Counted::new(err),
         explains: matches.get_flag("explain"),
+        is_terminal,
     };
     match matches.subcommand() {
         Some((word, given)) => run_word(rt, alloc, word, given, out, &mut told),
