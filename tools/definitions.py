@@ -152,6 +152,7 @@ def bound(text):
         for found in binder.finditer(text):
             last = ends_at(text, found.start())
             for name in re.findall(NAME, found[1]):
+                yield name, found.start(1), found.end(1)
                 yield name, found.end(), last
 
 
