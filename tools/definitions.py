@@ -40,7 +40,7 @@ class Definition:
 
     def __init__(self, crate, module, name, kind):
         self.crate, self.module, self.name, self.kind = crate, module, name, kind
-        self.says, self.lines, self.at = "", [], 0
+        self.says, self.comment, self.lines, self.at = "", [], [], 0
         self.header, self.inside = "", []
 
     def key(self):
@@ -123,7 +123,8 @@ class File:
         above = at
         while above and (COMMENT.match(lines[above - 1]) or lines[above - 1].lstrip().startswith("infix")):
             above -= 1
-        now.says = " ".join(line.strip()[2:].strip() for line in lines[above:at] if COMMENT.match(line))
+        now.comment = [line for line in lines[above:at] if COMMENT.match(line)]
+        now.says = " ".join(line.strip()[2:].strip() for line in now.comment)
         self.definitions[name] = now
         return now
 

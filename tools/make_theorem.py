@@ -1,5 +1,6 @@
 #!/usr/bin/env python3
-"""Makes the reading list of docs/THEOREM.md: what the statement of the theorem needs by name, and nothing else, lowest first.
+"""Makes two parts of docs/THEOREM.md: the statement of the theorem as it stands, and the reading list, which is what the statement
+needs by name, and nothing else, lowest first.
 
 It begins at the statement, and goes from each definition to those that it names. Lemmas are counted and not gone into: they
 can't be unfolded, so the statement means the same whatever their proofs are, and the prover has checked them.
@@ -15,8 +16,8 @@ from common import TOP, needs, put, say, text_of
 from definitions import Definitions
 
 PAGE = os.path.join(TOP, "docs/THEOREM.md")
-BEGIN, END = "<!-- The list is made by tools/make_theorem.py. -->\n", "<!-- The list ends here. -->\n"
 STATEMENT = ("t1_algebra", "Headline", "Headline")
+QUOTED = ("ComesToSubset", "Headline")
 # The chapters of Adobe Type 1 Font Format, version 1.1, or the Technical Note, for which a file stands; the others are this
 # project's own choice or no matter of the standard.
 CHAPTERS = {
@@ -79,9 +80,11 @@ def reading_list():
     code = sum(one.kind == "code" for one in found)
     files = sorted_files(definitions, groups)
     lines = sum(len(one.lines) for one in found)
+    longest = sorted(files, key=lambda path: -sum(len(one.lines) for one in groups[path]))[:4]
     return [
         f"{len(found)} definitions in {len(groups)} files, {lines:,} lines without their comments; {code} of them are types that code declares. "
-        f"They name {len(lemmas)} lemmas, of {sum(len(one.lines) for one in lemmas)} lines, beside these.",
+        f"They name {len(lemmas)} lemmas, of {sum(len(one.lines) for one in lemmas)} lines, beside these. The longest files are "
+        f"{', '.join(f'`{os.path.basename(path)}`' for path in longest[:-1])} and `{os.path.basename(longest[-1])}`.",
         "",
         "| File | Standard | Lines | Definitions |",
         "|---|---|---|---|",
@@ -89,11 +92,23 @@ def reading_list():
     ]
 
 
+def statement():
+    """The statement, and what it says of each making, as they stand in the file."""
+    file = Definitions().files[STATEMENT[:2]]
+    quoted = [one.comment + one.lines for one in map(file.definitions.get, QUOTED)]
+    return ["```", *"\n\n".join(map("\n".join, quoted)).splitlines(), "```"]
+
+
+def put_between(text, name, lines):
+    """A page with these lines in its part of this name."""
+    begin, end = f"<!-- The {name} is made by tools/make_theorem.py. -->\n", f"<!-- The {name} ends here. -->\n"
+    before, behind = text.split(begin)[0], text.split(end)[1]
+    return before + begin + "\n" + "\n".join(lines) + "\n\n" + end + behind
+
+
 def page():
-    """The page with the list as it has to be."""
-    text = text_of(PAGE)
-    before, behind = text.split(BEGIN)[0], text.split(END)[-1]
-    return before + BEGIN + "\n" + "\n".join(reading_list()) + "\n\n" + END + behind
+    """The page as it has to be."""
+    return put_between(put_between(text_of(PAGE), "statement", statement()), "list", reading_list())
 
 
 def show_imports():
