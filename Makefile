@@ -18,8 +18,7 @@ SHARED := libt1subset.so.$(VERSION)
 all: bin/t1subset
 
 bin/t1subset: crates.txt $(shell find crates -name out -prune -o -type f -print)
-	@echo "Proving and building t1subset: 22 minutes on four quiet cores the first time, 50 on busy ones."
-	cd crates/t1subset && rt run -- --version
+	@tools/build.py
 	install -D crates/t1subset/out/t1subset bin/t1subset
 
 # The library for C. The crates below it are those of the program.

@@ -5,7 +5,7 @@
 # FONT is a Type 1 font with the glyphs of the two texts below, by default one of Debian's package fonts-urw-base35.
 # FOLDER gets the documents and the images of their pages, by default out/join-documents.
 #
-# A document that carried both subsets under their common name would draw with the last of them, and lack glyphs.
+# A document that had both subsets before its pages would draw with the last of them, and lack glyphs.
 # The merged font has the glyphs of both, so each page of the joined document has exactly the image that it had before.
 set -eu
 export LC_ALL=C
@@ -59,7 +59,7 @@ for text in 'one F i r s t space p a g e' 'two S e c o n d space p a g e'; do
     rm "$this.pfa" "$this.page"
 done
 
-# The joining tool has nothing but the two documents. `cat` would make a document that draws with the last of the fonts.
+# The joining tool has nothing but the two documents.
 "$program" fonts "$folder/one.ps" "$folder/two.ps"
 "$program" pool "$folder/joined.ps" "$folder/one.ps" "$folder/two.ps"
 "$program" fonts "$folder/joined.ps"

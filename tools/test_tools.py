@@ -346,6 +346,42 @@ def producers(program):
     check(rows[0] == ["1", "fonts"] and len(both) == 4 and all(row[2] == row[4] == row[5] == "1" for row in both), out)
 
 
+STAND_IN = """#!/bin/sh
+for crate in t1_tiny t1_grammar; do
+    mkdir -p ../$crate/out/rlib
+    touch ../$crate/out/rlib/$crate.rlib
+    sleep 3
+done
+echo "$@"
+exit 3
+"""
+
+
+def build(folder):
+    """tools/build.py runs rt in the program's crate, says which crates are done, and ends with rt's status."""
+    for name in ("tools/build.py", "tools/common.py", "crates.txt"):
+        os.makedirs(os.path.dirname(os.path.join(folder, name)), exist_ok=True)
+        shutil.copy(os.path.join(TOP, name), os.path.join(folder, name))
+    os.makedirs(os.path.join(folder, "crates/t1subset"))
+    os.chmod(put(STAND_IN.encode(), folder, "rt"), 0o755)
+    env = {**os.environ, "PATH": folder + ":" + os.environ["PATH"]}
+    done = subprocess.run([sys.executable, os.path.join(folder, "tools/build.py")], env=env, capture_output=True, text=True, timeout=60)
+    told = done.stderr.splitlines()
+    check(done.returncode == 3 and done.stdout == "run -- --version\n", f"tools/build.py: {done}")
+    check(told[0].startswith("Proving and building t1subset, ") and "0 of which have a library" in told[0], f"tools/build.py: {told}")
+    wanted = ["t1_tiny is proved, after 0 minutes: 1 of ", "t1_grammar is proved, after 0 minutes: 2 of "]
+    check([line[:len(start)] for line, start in zip(told[2:], wanted)] == wanted and len(told) == 4, f"tools/build.py: {told}")
+
+
+def pooled_pages(program, folder):
+    """examples/pool-pages.sh makes a page that lacks glyphs and the same page right."""
+    if lacks("examples/pool-pages.sh", ["tex", "dvips", "gs"]):
+        return
+    printed([os.path.join(TOP, "examples/pool-pages.sh"), folder], env={**os.environ, "T1SUBSET": program})
+    before, after = (bytes_of(folder, name) for name in ("joined-1.png", "pooled-1.png"))
+    check(before != after and before[:4] == after[:4] == b"\x89PNG", "examples/pool-pages.sh makes no pictures")
+
+
 def library_of(folder):
     """The folder of the library that tools/build_library.sh makes of the archive that the gate leaves, or None."""
     if not (compiler() and os.path.exists(os.path.join(TOP, "crates/t1_c/out/libt1_c.a"))):
@@ -365,6 +401,8 @@ def main():
         library = os.path.abspath(asked.lib) if asked.lib else library_of(os.path.join(folder, "lib"))
         specimens(program, library)
         examples(folder)
+        build(os.path.join(folder, "build"))
+        pooled_pages(program, os.path.join(folder, "pages"))
         compare(program)
         many(program)
         hostile(program)
