@@ -13,7 +13,10 @@ from xml.sax.saxutils import escape
 from common import TOP, needs, put, say, text_of
 
 WIDTH, HEIGHT, GAP, RISE, EDGE = 150, 46, 24, 52, 20
-STYLE = "text{font:13px sans-serif;text-anchor:middle}.small{font-size:11px;fill:#555}rect{fill:#f4f6fa;stroke:#456;rx:6}path{fill:none;stroke:#888}"
+STYLE = (
+    "text{font:13px sans-serif;text-anchor:middle}.small{font-size:11px;fill:#555}"
+    "rect{fill:#f4f6fa;stroke:#456;rx:6}path{fill:none;stroke:#888}"
+)
 ABOUT = {
     "t1_tiny": "a font for tests", "t1_grammar": "grammars", "t1_bytes": "files and ciphers", "t1_char": "charstring tokens", "t1_run": "the interpreter",
     "t1_join": "joins and tables", "t1_font": "fonts, read and written", "t1_algebra": "laws of subsets", "t1_subset": "subset, merge",
