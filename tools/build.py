@@ -55,7 +55,7 @@ def main():
     progress = Progress()
     known = sum(made is not None for made in progress.made.values())
     say(f"Proving and building {NAME}, {len(progress.crates)} crates, {known} of which have a library from before. From nothing this took 22")
-    say("minutes on four quiet cores of 2.5 GHz, and 50 on busy ones; that was before t1_document was there.")
+    say("minutes on four quiet cores, and 50 on busy ones; that was before t1_document was there.")
     running = subprocess.Popen(WORD, cwd=os.path.join(TOP, "crates", NAME))
     try:
         while running.poll() is None:
