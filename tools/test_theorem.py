@@ -1,10 +1,12 @@
 #!/usr/bin/env python3
-"""Checks that docs/THEOREM.md lists what the statement needs, and that tools/definitions.py finds what a definition needs: on files
+"""Checks that docs/THEOREM.md lists what the statement needs, that the rows and calls that it names are there, and that tools/definitions.py finds what a definition needs: on files
 that are made for this, whose answers were written by hand, and which bind names, pass them on and name them anew.
 
 usage: tools/test_theorem.py
 Ends with status 1 if the page is stale or a need is missed.
 """
+import glob
+import os
 import re
 import sys
 
@@ -110,6 +112,21 @@ def check_needs():
         yield "a name that is passed on is another"
 
 
+def check_rows():
+    """Each row that the worked example names stands in its file, and each call of the page in the code."""
+    text = text_of(PAGE)
+    for cell in re.findall(r"\| ([^|]*) \|$", text, re.M):
+        for part in cell.split("; "):
+            file, names = re.match(r"(?:`(Tiny\w+)::)?", part)[1], re.findall(r"`(?:\w+::)?(\w+)`", part)
+            rows = text_of(TOP, f"crates/t1_font/proofs/rows/{file}.antt") if file else ""
+            missing = [name for name in names if file and not re.search(rf"^(?:pub )?{name} :", rows, re.M)]
+            yield from (f"docs/THEOREM.md names {file}::{name}, which isn't there" for name in missing)
+    for crate, path in re.findall(r"`(t1_\w+)::([\w:]+)`", text):
+        code = "".join(map(text_of, glob.glob(os.path.join(TOP, f"crates/{crate}/src/**/*.rt"), recursive=True)))
+        if not re.search(rf"\bfn {path.split('::')[-1]}\b", code):
+            yield f"docs/THEOREM.md names {crate}::{path}, which isn't there"
+
+
 def check_files():
     """Each file of specs/ is read to its end: every declaration that begins a line is found."""
     for (crate, module), file in Definitions().files.items():
@@ -121,7 +138,7 @@ def check_files():
 
 
 def main():
-    faults = [*check_needs(), *check_files()]
+    faults = [*check_needs(), *check_rows(), *check_files()]
     if text_of(PAGE) != page():
         faults.append("docs/THEOREM.md is stale: run tools/make_theorem.py")
     for fault in faults:
