@@ -18,14 +18,15 @@ STYLE = (
     "rect{fill:#f4f6fa;stroke:#456;rx:6}path{fill:none;stroke:#888}"
 )
 ABOUT = {
-    "t1_tiny": "a font for tests", "t1_grammar": "grammars", "t1_bytes": "files and ciphers", "t1_char": "charstring tokens", "t1_run": "the interpreter",
-    "t1_join": "joins and tables", "t1_font": "fonts, read and written", "t1_algebra": "laws of subsets", "t1_subset": "subset, merge",
+    "t1_tiny": "a font for tests", "t1_grammar": "grammars", "t1_bytes": "files and ciphers", "t1_char": "charstring tokens",
+    "t1_run": "the interpreter", "t1_join": "joins and tables", "t1_font": "fonts, read and written", "t1_algebra": "laws of subsets", "t1_subset": "subset, merge",
     "t1_document": "PostScript documents", "t1_cmd": "the engines", "t1_example": "a caller", "t1_c": "the library for C", "t1subset": "the program",
 }
 # The path of `merge`: what the bytes are, the call that makes the next of it, and that call's crate.
 STEPS = [
     ("the files", "read_all", "t1_cmd"), ("bytes in memory", "flatten_vec", "t1_bytes"), ("flat text", "find_cipher", "t1_bytes"),
-    ("clear text, cipher", "open_private", "t1_font"), ("clear text, private text", "source_parts", "t1_font"), ("a Source, which owns them", "font", "t1_font"), ("Fonts, lent by Sources", "merge_all", "t1_subset"),
+    ("clear text, cipher", "open_private", "t1_font"), ("clear text, private text", "source_parts", "t1_font"),
+    ("a Source, which owns them", "font", "t1_font"), ("Fonts, lent by Sources", "merge_all", "t1_subset"),
     ("states of names, codes, Subrs", "join_all", "t1_join"), ("the joined states", "of_parts", "t1_font"), ("the joined Font", "write", "t1_font"),
     ("the canonical file", "write_text", "t1_cmd"), ("OUT", None, None),
 ]

@@ -1,6 +1,7 @@
 #!/usr/bin/env python3
-"""Checks that docs/THEOREM.md lists what the statement needs, that the rows and calls that it names are there, and that tools/definitions.py finds what a definition needs: on files
-that are made for this, whose answers were written by hand, and which bind names, pass them on and name them anew.
+"""Checks that docs/THEOREM.md lists what the statement needs, that the rows and calls that it names are there, and that
+tools/definitions.py finds what a definition needs: on files that are made for this, whose answers were written by hand, and which
+bind names, pass them on and name them anew.
 
 usage: tools/test_theorem.py
 Ends with status 1 if the page is stale or a need is missed.
