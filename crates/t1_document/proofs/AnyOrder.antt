@@ -180,7 +180,8 @@ filled_in_order : (fs gs : List FontValue) → IsPermutation fs gs → IsPermuta
 filled_in_order fs gs moved =
     let is = indices_of_all fs in
     let js = indices_of_all gs in
-    subst (IsPermutation (map (filled is) fs)) (all_filled is js (flat_in_order (λ f. maps.keys f.subrs) fs gs moved) gs) (IsPermutation-map (filled is) fs gs moved)
+    subst (IsPermutation (map (filled is) fs)) (all_filled is js (flat_in_order (λ f. maps.keys f.subrs) fs gs moved) gs)
+    (IsPermutation-map (filled is) fs gs moved)
 
 -- ---- lacks
 
