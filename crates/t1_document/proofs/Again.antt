@@ -47,11 +47,11 @@ each_document P (d ∷ ds) h = let parts = all_parts P (document_of d).places (p
 -- what holds of places holds of those of a name
 all_under : (P : Place → Type 0) (name : List ℕ) (ps : List Place) → AllByRecursion P ps → AllByRecursion P (places_under name ps)
 all_under P name [] h = tt
-all_under P name (p ∷ ps) h = by_test (bytes_eq p.name name)
+all_under P name (p ∷ ps) h = by_test (bytes_eq p.name name) (all_under P name ps h.1)
   where
-    by_test : (b : Bool) → AllByRecursion P (cond b (p ∷ places_under name ps) (places_under name ps))
-    by_test true = (h.0, all_under P name ps h.1)
-    by_test false = all_under P name ps h.1
+    by_test : (b : Bool) → AllByRecursion P (places_under name ps) → AllByRecursion P (cond b (p ∷ places_under name ps) (places_under name ps))
+    by_test true more = (h.0, more)
+    by_test false more = more
 
 -- what holds of the places of each name holds of each place and its name
 from_names : (P : List ℕ → Place → Type 0) (ps : List Place) → ((name : List ℕ) → AllByRecursion (P name) (places_under name ps)) →
@@ -89,7 +89,7 @@ listed_stand text (p ∷ ps) h =
     let parts = and_parts (can_stand text p) (list_all (can_stand text) ps) h in (parts.0, listed_stand text ps parts.1)
 
 module _ (name : List ℕ) (p : Place) (ps : List Place) (own : AllByRecursion Own (p ∷ ps)) where
-  Stand : List ℕ → Type 0
+  abbrev Stand : List ℕ → Type 0
   Stand text = AllByRecursion (λ q. can_stand text q ≡ true) (p ∷ ps)
 
   of_fonts : (r : Result (List FontValue) ReadFault) (o : Outcome) (text : List ℕ) → OfFonts name (p ∷ ps) r o → text_of o ≡ Some text → Stand text
@@ -190,16 +190,17 @@ module _ (old left : List Place) (a b : Outcomes) (are_old : AreOutcomes old a) 
 
 pooled_have : (new : NewTexts) (ps : List Place) → ArePooled new ps → (name text : List ℕ) → new name ≡ Some text → HaveText text (places_under name ps)
 pooled_have new [] h name text e = tt
-pooled_have new (p ∷ ps) h name text e = by_test (bytes_eq p.name name) refl
+pooled_have new (p ∷ ps) h name text e = by_test (bytes_eq p.name name) refl (pooled_have new ps h.1 name text e)
   where
-    by_test : (b : Bool) → bytes_eq p.name name ≡ b → HaveText text (cond b (p ∷ places_under name ps) (places_under name ps))
-    by_test true k = ((h.0 text (ap new ((bytes_eq-Decides p.name name).0 k) ∙ e)).0, pooled_have new ps h.1 name text e)
-    by_test false k = pooled_have new ps h.1 name text e
+    by_test : (b : Bool) → bytes_eq p.name name ≡ b → HaveText text (places_under name ps) →
+        HaveText text (cond b (p ∷ places_under name ps) (places_under name ps))
+    by_test true k more = ((h.0 text (ap new ((bytes_eq-Decides p.name name).0 k) ∙ e)).0, more)
+    by_test false k more = more
 
 pooled_by_fewer : (new fewer : NewTexts) → ((name text : List ℕ) → fewer name ≡ Some text → new name ≡ Some text) → (ps : List Place) → ArePooled new ps →
     ArePooled fewer ps
-pooled_by_fewer new fewer among [] h = tt
-pooled_by_fewer new fewer among (p ∷ ps) h = (λ text e. h.0 text (among p.name text e), pooled_by_fewer new fewer among ps h.1)
+pooled_by_fewer new fewer inside [] h = tt
+pooled_by_fewer new fewer inside (p ∷ ps) h = (λ text e. h.0 text (inside p.name text e), pooled_by_fewer new fewer inside ps h.1)
 
 pub pooled_again : PooledAgain
 pooled_again text a b h k =
@@ -238,36 +239,37 @@ module _ (new : NewTexts) where
 
   renewed_have : (ps : List Place) (name text : List ℕ) → new name ≡ Some text → HaveText text (places_under name (map (renewed new) ps))
   renewed_have [] name text e = tt
-  renewed_have (p ∷ ps) name text e = by_new (new p.name) refl
+  renewed_have (p ∷ ps) name text e = by_new (new p.name) refl (renewed_have ps name text e)
     where
-      by_name : (q : Place) → (bytes_eq q.name name ≡ true → q.text ≡ text) → (b : Bool) → bytes_eq q.name name ≡ b →
+      by_name : (q : Place) → (bytes_eq q.name name ≡ true → q.text ≡ text) → HaveText text (places_under name (map (renewed new) ps)) →
+          (b : Bool) → bytes_eq q.name name ≡ b →
           HaveText text (cond b (q ∷ places_under name (map (renewed new) ps)) (places_under name (map (renewed new) ps)))
-      by_name q h true k = (h k, renewed_have ps name text e)
-      by_name q h false k = renewed_have ps name text e
+      by_name q h more true k = (h k, more)
+      by_name q h more false k = more
 
-      by_new : (o : Option (List ℕ)) → new p.name ≡ o → HaveText text (places_under name (with_new o p ∷ map (renewed new) ps))
-      by_new None k = by_name p (λ same. absurd (none-some text (sym k ∙ (ap new ((bytes_eq-Decides p.name name).0 same) ∙ e)))) (bytes_eq p.name name) refl
-      by_new (Some t) k = by_name (record p { text = t })
-          (λ same. same_Some t text (sym k ∙ (ap new ((bytes_eq-Decides p.name name).0 same) ∙ e))) (bytes_eq p.name name) refl
+      by_new : (o : Option (List ℕ)) → new p.name ≡ o → HaveText text (places_under name (map (renewed new) ps)) →
+          HaveText text (places_under name (with_new o p ∷ map (renewed new) ps))
+      by_new None k more =
+          by_name p (λ same. absurd (none-some text (sym k ∙ (ap new ((bytes_eq-Decides p.name name).0 same) ∙ e)))) more (bytes_eq p.name name) refl
+      by_new (Some t) k more = by_name (record p { text = t })
+          (λ same. same_Some t text (sym k ∙ (ap new ((bytes_eq-Decides p.name name).0 same) ∙ e))) more (bytes_eq p.name name) refl
 
   renewed_stay : (ps : List Place) (name : List ℕ) → new name ≡ None → map bare (places_under name (map (renewed new) ps)) ≡ map bare (places_under name ps)
   renewed_stay [] name e = refl
-  renewed_stay (p ∷ ps) name e = by_new (new p.name) refl
+  renewed_stay (p ∷ ps) name e = by_new (new p.name) refl (renewed_stay ps name e)
     where
-      others : map bare (places_under name (map (renewed new) ps)) ≡ map bare (places_under name ps)
-      others = renewed_stay ps name e
-
-      by_name : (q : Place) → (bytes_eq p.name name ≡ true → bare q ≡ bare p) → (b : Bool) → bytes_eq p.name name ≡ b →
+      by_name : (q : Place) → (bytes_eq p.name name ≡ true → bare q ≡ bare p) →
+          map bare (places_under name (map (renewed new) ps)) ≡ map bare (places_under name ps) → (b : Bool) → bytes_eq p.name name ≡ b →
           map bare (cond b (q ∷ places_under name (map (renewed new) ps)) (places_under name (map (renewed new) ps)))
           ≡ map bare (cond b (p ∷ places_under name ps) (places_under name ps))
-      by_name q h true k = λ i. h k i ∷ others i
-      by_name q h false k = others
+      by_name q h others true k = λ i. h k i ∷ others i
+      by_name q h others false k = others
 
-      by_new : (o : Option (List ℕ)) → new p.name ≡ o →
+      by_new : (o : Option (List ℕ)) → new p.name ≡ o → map bare (places_under name (map (renewed new) ps)) ≡ map bare (places_under name ps) →
           map bare (places_under name (with_new o p ∷ map (renewed new) ps)) ≡ map bare (places_under name (p ∷ ps))
-      by_new None k = by_name p (λ same. refl) (bytes_eq p.name name) refl
-      by_new (Some t) k = by_name (record p { text = t })
-          (λ same. absurd (none-some t (sym e ∙ (ap new (sym ((bytes_eq-Decides p.name name).0 same)) ∙ k)))) (bytes_eq p.name name) refl
+      by_new None k others = by_name p (λ same. refl) others (bytes_eq p.name name) refl
+      by_new (Some t) k others = by_name (record p { text = t })
+          (λ same. absurd (none-some t (sym e ∙ (ap new (sym ((bytes_eq-Decides p.name name).0 same)) ∙ k)))) others (bytes_eq p.name name) refl
 
   module _ (more : NewTexts) (inside : (name text : List ℕ) → more name ≡ Some text → new name ≡ Some text) where
     -- each place that was levelled has its new text, or there is none

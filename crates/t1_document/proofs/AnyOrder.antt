@@ -13,7 +13,7 @@ use Rattle.std.proofs.lemmas.Option.{none-some, same_Some}
 use Rattle.std.proofs.lemmas.Slice.Eq.{bytes_eq-Decides}
 use Rattle.std.proofs.lemmas.List.Sorted.{IsPermutation-refl, IsPermutation-sym, IsPermutation-trans, IsPermutation-map, IsPermutation-cons, length_permutation, list_any-IsPermutation}
 use Rattle.t1_bytes.specs.Laws.{AreBytes}
-use Rattle.t1_join.specs.Groupings.{one, from_left}
+use Rattle.t1_join.specs.Groupings.{one, from_left, leaves}
 use Rattle.t1_join.proofs.OrderLemmas.{leaves_from_left}
 use Rattle.t1_font.specs.declared.fault.ReadFault.{ReadFault}
 use Rattle.t1_font.specs.FontValue.{FontValue, Numbered, declared_count}
@@ -81,7 +81,7 @@ count_in_order fs gs moved = in_each_order (λ l. largest_count fs ≡ largest_c
 -- ---- boxes
 
 -- two lists of boxes in another order, or none twice
-BoxesAlike : Option (List Box) → Option (List Box) → Type 0
+abbrev BoxesAlike : Option (List Box) → Option (List Box) → Type 0
 BoxesAlike None None = Unit {0}
 BoxesAlike None (Some cs) = ⊥
 BoxesAlike (Some bs) None = ⊥
@@ -218,9 +218,10 @@ comes_in_order : (fs gs : List FontValue) (j : FontValue) → AllByRecursion IsF
 comes_in_order [] gs j h moved c = absurd c
 comes_in_order (f ∷ fs) [] j h moved c = let never = length_permutation (f ∷ fs) [] moved in absurd (omega (arith, never))
 comes_in_order (f ∷ fs) (g ∷ gs) j h moved c =
-    let leaves_moved = subst (λ (l : List FontValue). IsPermutation l _) (sym (leaves_from_left (one f) fs))
+    let there = from_left (one g) gs in
+    let leaves_moved = subst (λ (l : List FontValue). IsPermutation l (leaves there)) (sym (leaves_from_left (one f) fs))
     (subst (IsPermutation (f ∷ fs)) (sym (leaves_from_left (one g) gs)) moved) in
-    (any_order_of_fonts profile (from_left (one f) fs) (from_left (one g) gs) leaves_moved (each_font f fs h) j c).1
+    (any_order_of_fonts profile (from_left (one f) fs) there leaves_moved (each_font f fs h) j c).1
 
 evened_in_order : (name : List ℕ) (fs gs : List FontValue) → IsPermutation fs gs → IsPermutation (evened_named name fs) (evened_named name gs)
 evened_in_order name fs gs moved =
@@ -279,7 +280,7 @@ have_of text (p ∷ ps) h =
 
 module _ (name : List ℕ) (p q : Place) (ps qs : List Place) (moved : IsPermutation (p ∷ ps) (q ∷ qs))
     (u : AllByRecursion (IsUnder name) (p ∷ ps)) (v : AllByRecursion (IsUnder name) (q ∷ qs)) where
-  all_same : Bool
+  abbrev all_same : Bool
   all_same = list_all (λ r. bytes_eq p.text r.text) ps
 
   same_there : (o : Outcome) (text : List ℕ) → all_same ≡ true → IsSame p.text o → text_of o ≡ Some text → Gets name (q ∷ qs) text

@@ -125,23 +125,23 @@ comes_to_font (f ∷ fs) j h c =
 bytes_named : (name text : List ℕ) → AreBytes name → AreBytes text → AreBytes (text_named name text)
 bytes_named name text n t = by_read ((first name_marker).read text) refl
   where
-    by_read : (o : Option (List ℕ × List ℕ)) → (first name_marker).read text ≡ o → AreBytes (name_between name text
+    by_read : (o : Option ((List ℕ × List ℕ) × List ℕ)) → (first name_marker).read text ≡ o → AreBytes (name_between name text
         (option_map (λ x. (take (length text - length x.1) text, (parted is_regular x.1).1)) o))
     by_read None e = t
     by_read (Some x) e =
         let taken = (first name_marker).takes text x e in
         let behind : AreBytes x.1 = bytes_right taken.0 x.1 (subst AreBytes taken.1 t) in
         let k = length text - length x.1 in
-        AreBytes-append (take k text) (name ++ (parted is_regular x.1).1)
-        (bytes_left (take k text) (drop k text) (subst AreBytes (sym (take-append-drop k text)) t))
-        (AreBytes-append name (parted is_regular x.1).1 n
-        (bytes_right (parted is_regular x.1).0 (parted is_regular x.1).1 (subst AreBytes (sym (take-append-drop _ x.1)) behind)))
+        AreBytes-append (take k text ++ name) (parted is_regular x.1).1
+        (AreBytes-append (take k text) name (bytes_left (take k text) (drop k text) (subst AreBytes (sym (take-append-drop k text)) t)) n)
+        (bytes_right (parted is_regular x.1).0 (parted is_regular x.1).1 (subst AreBytes (sym (take-append-drop _ x.1)) behind))
 
 -- the name that a text has is bytes
 pub name_bytes : (text name : List ℕ) → AreBytes text → name_in text ≡ Some name → AreBytes name
 name_bytes text name t e = by_read ((first name_marker).read text) refl e
   where
-    by_read : (o : Option (List ℕ × List ℕ)) → (first name_marker).read text ≡ o → option_map (λ x. (parted is_regular x.1).0) o ≡ Some name → AreBytes name
+    by_read : (o : Option ((List ℕ × List ℕ) × List ℕ)) → (first name_marker).read text ≡ o → option_map (λ x. (parted is_regular x.1).0) o ≡ Some name →
+        AreBytes name
     by_read None h k = absurd (none-some name k)
     by_read (Some x) h k =
         let taken = (first name_marker).takes text x h in

@@ -3,11 +3,11 @@ use Rattle.std.proofs.Common.{◌≡◌, zero, suc, set, ltb, ◌<◌, ◌≤◌
 use Rattle.std.proofs.Common.{ap, subst, arith, append_assoc, List, [], ◌∷◌, ◌++◌, length, take, drop, get_or, map, filter, IsPermutation, Option, Some, None}
 use Rattle.std.specs.List.{AllByRecursion, list_all, list_any, flat_map, swap}
 use Rattle.std.proofs.lemmas.Bool.{ltb-true, ltb-false}
-use Rattle.std.proofs.lemmas.List.{length-append, get_or_at, set_at}
+use Rattle.std.proofs.lemmas.List.{length-append, get_or_at, set_at, set_comm, set-get_or}
 use Rattle.std.proofs.lemmas.List.Elements.{filter-append}
 use Rattle.std.proofs.lemmas.Grind.{flat_map-append}
 use Rattle.std.proofs.lemmas.List.Sorted.{IsPermutation-keeps, IsPermutation-refl, IsPermutation-trans, IsPermutation-append_right, IsPermutation-append_left, IsPermutation-append_comm}
-use Rattle.core.proofs.slice.Lists.{swap_is, exchanged_flips, exchanged_same}
+use Rattle.std.proofs.lemmas.List.Edits.{swap_is}
 
 -- two lists that are the same but for two neighbours, which change places
 pub record Exchanged {X : Type 0} (xs ys : List X) : Type 0 where
@@ -78,8 +78,14 @@ module _ {X : Type 0} (P : List X → Type 0) (exchange : (xs ys : List X) → E
       by_other : (v : Bool) → ltb j i ≡ v → ltb i j ≡ false → P (swap l i j)
       by_other true e f =
           let less = ltb-true j i e in
-          subst P (exchanged_flips l j i (λ same. omega (arith, less, same))) (apart l j i less a h)
-      by_other false e f = subst P (exchanged_same l i j (omega (arith, ltb-false i j f, ltb-false j i e))) h
+          let d = (at l i a).x in
+          let same : swap l j i ≡ swap l i j = sym (swap_is l j i d b a) ∙ (set_comm l j i _ _ (λ k. absurd (omega (arith, k, less))) ∙ swap_is l i j d a b) in
+          subst P same (apart l j i less a h)
+      by_other false e f =
+          let d = (at l j b).x in
+          let same : i ≡ j = omega (arith, ltb-false i j f, ltb-false j i e) in
+          let still : swap l j j ≡ l = sym (swap_is l j j d b b) ∙ (ap (λ (v : List X). set v j (get_or l j d)) (set-get_or l j d) ∙ set-get_or l j d) in
+          subst P (sym (ap (λ (k : ℕ). swap l k j) same ∙ still)) h
 
       by_order : (v : Bool) → ltb i j ≡ v → P (swap l i j)
       by_order true e = apart l i j (ltb-true i j e) b h
@@ -134,8 +140,8 @@ pub all_in_order : {X : Type 0} (P : X → Type 0) (xs ys : List X) → IsPermut
 all_in_order P xs ys moved h = in_each_order (AllByRecursion P) exchanged xs ys moved h
   where
     middle : (front : List _) (x y : _) (back : List _) → AllByRecursion P (front ++ x ∷ y ∷ back) → AllByRecursion P (front ++ y ∷ x ∷ back)
-    middle [] x y back (a, b, more) = (b, a, more)
-    middle (z ∷ front) x y back (a, more) = (a, middle front x y back more)
+    middle [] x y back k = (k.1.0, (k.0, k.1.1))
+    middle (z ∷ front) x y back k = (k.0, middle front x y back k.1)
 
     exchanged : (l m : List _) → Exchanged l m → AllByRecursion P l → AllByRecursion P m
     exchanged l m e k = subst (AllByRecursion P) (sym e.after) (middle e.front e.x e.y e.back (subst (AllByRecursion P) e.before k))

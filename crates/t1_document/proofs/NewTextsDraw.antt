@@ -76,11 +76,12 @@ IsUnder name p = IsSound p × (p.name ≡ name)
 
 pub sound_under : (name : List ℕ) (ps : List Place) → AllByRecursion IsSound ps → AllByRecursion (IsUnder name) (places_under name ps)
 sound_under name [] h = tt
-sound_under name (p ∷ ps) h = by_test (bytes_eq p.name name) refl
+sound_under name (p ∷ ps) h = by_test (bytes_eq p.name name) refl (sound_under name ps h.1)
   where
-    by_test : (b : Bool) → bytes_eq p.name name ≡ b → AllByRecursion (IsUnder name) (cond b (p ∷ places_under name ps) (places_under name ps))
-    by_test true e = ((h.0, (bytes_eq-Decides p.name name).0 e), sound_under name ps h.1)
-    by_test false e = sound_under name ps h.1
+    by_test : (b : Bool) → bytes_eq p.name name ≡ b → AllByRecursion (IsUnder name) (places_under name ps) →
+        AllByRecursion (IsUnder name) (cond b (p ∷ places_under name ps) (places_under name ps))
+    by_test true e more = ((h.0, (bytes_eq-Decides p.name name).0 e), more)
+    by_test false e more = more
 
 -- ---- one text
 
@@ -105,15 +106,15 @@ AreFonts (p ∷ ps) (f ∷ fs) = (read_font_widely p.text ≡ Ok f) × AreFonts 
 pub fonts_read : (ps : List Place) (fs : List FontValue) → fonts_of ps ≡ Ok fs → AreFonts ps fs
 fonts_read [] [] e = tt
 fonts_read [] (f ∷ fs) e = absurd cc
-fonts_read (p ∷ ps) fs e = by_read (read_font_widely p.text) (fonts_of ps) refl refl fs e
+fonts_read (p ∷ ps) fs e = by_read (read_font_widely p.text) (fonts_of ps) refl refl fs e (λ gs k. fonts_read ps gs k)
   where
     by_read : (r : Result FontValue ReadFault) (more : Result (List FontValue) ReadFault) → read_font_widely p.text ≡ r → fonts_of ps ≡ more →
-        (fs : List FontValue) → with_font r more ≡ Ok fs → AreFonts (p ∷ ps) fs
-    by_read (Ok f) (Ok gs) h k fs w =
+        (fs : List FontValue) → with_font r more ≡ Ok fs → ((gs : List FontValue) → fonts_of ps ≡ Ok gs → AreFonts ps gs) → AreFonts (p ∷ ps) fs
+    by_read (Ok f) (Ok gs) h k fs w others =
         let same : f ∷ gs ≡ fs = cc in
-        subst (AreFonts (p ∷ ps)) same (h, fonts_read ps gs k)
-    by_read (Ok f) (Err e) h k fs w = absurd cc
-    by_read (Err e) more h k fs w = absurd cc
+        subst (AreFonts (p ∷ ps)) same (h, others gs k)
+    by_read (Ok f) (Err e) h k fs w others = absurd cc
+    by_read (Err e) more h k fs w others = absurd cc
 
 pub fonts_sound : (name : List ℕ) (ps : List Place) (fs : List FontValue) → AllByRecursion (IsUnder name) ps → AreFonts ps fs → AllByRecursion IsFont fs
 fonts_sound name [] [] u r = tt
@@ -141,9 +142,9 @@ stands_plain text p h = by_font (font_in (text ++ p.rest)) refl
     by_font : (o : Option FontText) → font_in (text ++ p.rest) ≡ o → is_font p.name text p.rest o ≡ true → starts_segment text ≡ false
     by_font None e k = absurd (true≢false (sym k))
     by_font (Some f) e k =
-        let parts = and_parts (bytes_eq f.name p.name) (bytes_eq f.text text && bytes_eq f.rest p.rest) k in
-        let more = and_parts (bytes_eq f.text text) (bytes_eq f.rest p.rest) parts.1 in
-        let same : f.text ≡ text = (bytes_eq-Decides f.text text).0 more.0 in
+        let parts = and_parts (bytes_eq f.name p.name && bytes_eq f.text text) (bytes_eq f.rest p.rest) k in
+        let more = and_parts (bytes_eq f.name p.name) (bytes_eq f.text text) parts.0 in
+        let same : f.text ≡ text = (bytes_eq-Decides f.text text).0 more.1 in
         ap starts_segment (sym same ∙ (font_stands (text ++ p.rest) f e).starts)
 
 -- ---- what a name gets

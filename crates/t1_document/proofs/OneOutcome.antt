@@ -20,7 +20,7 @@ use Rattle.t1_subset.specs.declared.fault.RejoinFault.{RejoinFault}
 use Rattle.t1_subset.specs.declared.fault.RejoinFault.TheVariants.{Lacks, Merge}
 use Rattle.t1_subset.specs.Merger.{NotMerged}
 use Rattle.t1_subset.specs.Rejoins.{Rejoin, NotRejoined, NotMergedFilled}
-use Rattle.t1_subset.proofs.Answered.{refusal_is}
+use Rattle.t1_subset.proofs.Answered.{never_stops}
 use Rattle.t1_document.specs.declared.joins.Kept.{Kept}
 use Rattle.t1_document.specs.declared.joins.Kept.TheVariants.{Unread, Unlike, Barred}
 use Rattle.t1_document.specs.declared.joins.Outcome.{Outcome}
@@ -47,7 +47,8 @@ one_font (f ∷ fs) j k a b = one_result profile (from_left (one f) fs) j k a b
 -- fonts that come to one are refused for want of memory alone
 not_merged : (fs : List FontValue) (j : FontValue) (e : Conflict) → ComesTo fs j → NotMerged fs e → e ≡ Memory
 not_merged [] j e a h = absurd a
-not_merged (f ∷ fs) j e a h = refusal_is f fs e j h a
+not_merged (f ∷ fs) j e a (inl h) = h
+not_merged (f ∷ fs) j e a (inr h) = never_stops f fs j a e h
 
 -- so are they when they rejoin
 not_rejoined : (es : List FontValue) (j : FontValue) (fault : RejoinFault) → Rejoin es j → NotRejoined es fault → wants_memory fault ≡ true

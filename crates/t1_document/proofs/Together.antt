@@ -56,7 +56,7 @@ levelled_together a b x y breaks closed h =
     let first : x ≡ levelled new a = ap head_of h.2 in
     let second : y ≡ levelled new b = ap (λ (ts : List (List ℕ)). head_of (tail_of ts)) h.2 in (
       h.0,
-      λ name. come_alike name (places_under name (places_of_all (a ∷ b ∷ []))) (places_under name (places_of_all (a ++ b ∷ []))) (h.0 name)
+      λ name. come_alike name (places_under name (places_of_all (a ∷ b ∷ []))) (places_under name (places_of_all ((a ++ b) ∷ []))) (h.0 name)
           (places_alike d e name ∙ ap (λ (f : Document). map bare (places_under name (f.places ++ []))) (sym both)) (h.1 name),
       ap (λ (t : List ℕ). t ∷ []) ((λ i. first i ++ second i) ∙ sym (levelled_apart new a b breaks closed stand.0 stand.1.0)),
     )

@@ -62,7 +62,7 @@ LevelledAgain = (documents a b : List (List ℕ)) → LevelsTo documents a → L
 
 -- two documents between which a line ends, of which the first leaves nothing open, are levelled as one text to what both are levelled to
 abbrev pub LevelledTogether : Type 0
-LevelledTogether = (a b x y : List ℕ) → breaks a b ≡ true → IsClosed a → LevelsTo (a ∷ b ∷ []) (x ∷ y ∷ []) → LevelsTo (a ++ b ∷ []) (x ++ y ∷ [])
+LevelledTogether = (a b x y : List ℕ) → breaks a b ≡ true → IsClosed a → LevelsTo (a ∷ b ∷ []) (x ∷ y ∷ []) → LevelsTo ((a ++ b) ∷ []) ((x ++ y) ∷ [])
 
 -- in another order documents get the same texts
 abbrev pub InAnyOrder : Type 0
