@@ -71,6 +71,21 @@ run_ends f =
     let size : length front ≡ length (front ++ 99 ∷ []) - 1 = omega (arith, length-append front (99 ∷ [])) in
     ap ends_with_c whole ∙ ap (λ (b : ℕ). b == 99) (get_or_at front 99 [] 0 (length (front ++ 99 ∷ []) - 1) size)
 
+-- ---- it is read
+
+strictly_read : (f : FontValue) → IsFont f → starts_segment (canon_text f) ≡ false → read_font (canon_text f) ≡ Ok f
+strictly_read f h plain =
+    let e : canon_text f ≡ canon_clear f ++ run_before f (codes "leartomark") =
+    sym (append-nil (canon_text f)) ∙ regrouped f [] in
+    let short : length (canon_text f) ≤ file_limit =
+    omega (arith, canon_short f Pfa h, ap length (canon_text_is f), length-append (canon_text f) (10 ∷ [])) in
+    ap read_font e ∙ read_before f (codes "leartomark") h refl (ap starts_segment (sym e) ∙ plain) (subst (λ (t : List ℕ). length t ≤ file_limit) e short)
+
+-- unless it would be taken for a PFB, it spells the font
+pub canon_read : (f : FontValue) → IsFont f → starts_segment (canon_text f) ≡ false → read_font_widely (canon_text f) ≡ Ok f
+canon_read f h plain =
+    reads_again wide (canon_text f) f (spells_widely (canon_text f) f (reads strict (canon_text f) f (strictly_read f h plain)))
+
 -- ---- its shape
 
 fixed_read : (w rest : List ℕ) → (fixed w).read (w ++ rest) ≡ Some (w, rest)
@@ -114,24 +129,13 @@ module _ (f : FontValue) (inner : List ℕ) (h : IsFont f) (starts : f.shell.hea
 
   -- ---- its font
 
-  plain_text : (v : List ℕ) → starts_segment (canon_clear f ++ v) ≡ false
-  plain_text v = ap starts_segment (behind_sign v).1
-
-  text_read : read_font (canon_text f) ≡ Ok f
-  text_read =
-      let e : canon_text f ≡ canon_clear f ++ run_before f (codes "leartomark") =
-      sym (append-nil (canon_text f)) ∙ regrouped f [] in
-      let short : length (canon_text f) ≤ file_limit =
-      omega (arith, canon_short f Pfa h, ap length (canon_text_is f), length-append (canon_text f) (10 ∷ [])) in
-      ap read_font e ∙ read_before f (codes "leartomark") h refl (plain_text (run_before f (codes "leartomark")))
-      (subst (λ (t : List ℕ). length t ≤ file_limit) e short)
+  plain_text : starts_segment (canon_text f) ≡ false
+  plain_text = ap starts_segment (sym (append-nil (canon_text f)) ∙ (regrouped f [] ∙ (behind_sign (run_before f (word_and []))).1))
 
   text_named : (name : List ℕ) → name_in f.shell.head ≡ Some name → 0 < length name → spelled_name (canon_text f) ≡ Some name
   unfolding spelled_name
   text_named name named some =
-      let wide_font : read_font_widely (canon_text f) ≡ Ok f =
-      reads_again wide (canon_text f) f (spells_widely (canon_text f) f (reads strict (canon_text f) f text_read)) in
-      ap name_read wide_font ∙ (ap (option_and_then if_any) named ∙ ap (λ (b : Bool). cond b (Some name) None) (lt-ltb 0 (length name) some))
+      ap name_read (canon_read f h plain_text) ∙ (ap (option_and_then if_any) named ∙ ap (λ (b : Bool). cond b (Some name) None) (lt-ltb 0 (length name) some))
 
   -- it is a font text, whatever follows
   pub canon_is_font_text : (name rest : List ℕ) → name_in f.shell.head ≡ Some name → 0 < length name →

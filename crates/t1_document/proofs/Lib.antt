@@ -19,3 +19,11 @@ pub mod OffsetLoop
 pub mod JoinLoops
 pub mod NameLoop
 pub mod NewTexts
+pub mod Drawn
+pub mod NewTextsDraw
+pub mod OneOutcome
+pub mod Bare
+pub mod Again
+pub mod Together
+pub mod Exchanges
+pub mod AnyOrder

@@ -1,18 +1,23 @@
 -- The laws of fonts that are pooled.
-use Rattle.std.proofs.Common.{◌≡◌, ℕ, Bool, true, false, cond, List, [], ◌∷◌, ◌++◌, Option, Some, None, refl, sym, ap, subst, ◌∙◌, inl, inr}
+use Rattle.std.proofs.Common.{◌≡◌, ℕ, Bool, true, false, cond, List, [], ◌∷◌, ◌++◌, map, Option, Some, None, refl, sym, ap, subst, ◌∙◌, inl, inr}
 use Rattle.std.specs.Prelude.{◌==◌, ◌&&◌, ◌||◌, not}
 use Rattle.std.specs.List.{list_any}
 use Rattle.std.specs.Str.{bytes_eq}
 use Rattle.std.proofs.Math.Bool.{and-false}
-use Rattle.std.proofs.lemmas.Bool.{cases_Bool, or_parts, true≢false}
+use Rattle.std.proofs.lemmas.Bool.{cases_Bool, or_parts, true≢false, cond-false}
 use Rattle.std.proofs.lemmas.Option.{none-some, same_Some}
 use Rattle.std.proofs.lemmas.Slice.Eq.{bytes_eq-Decides}
 use Rattle.t1_document.specs.declared.rewriting.Way.TheVariants.{Pool}
 use Rattle.t1_document.specs.Documents.{Place, Document, document_bytes, behind_bytes, document_of}
 use Rattle.t1_document.specs.Rewriting.{NewTexts, can_stand, is_barred, is_refused, standing, Fate, Stays, Becomes, Goes, is_seen, fate_of, seen_behind, at_fate}
 use Rattle.t1_document.specs.Rewriting.{rewritten_from, rewritten, pooled, lacks_name, ArePooled}
+use Rattle.t1_document.specs.Joins.{places_under}
 use Rattle.t1_document.proofs.Retold.{AllStand, not_true}
 use Rattle.t1_document.proofs.Rewritten.{standing_stands, where_stands, same_bytes, rewritten_is_read}
+
+-- a place without the bytes before it
+abbrev pub bare : Place → Place
+bare p = record p { before = [] }
 
 -- the names of a list with texts are in no place
 abbrev pub Lacks : NewTexts → List (List ℕ) → List Place → Type 0
@@ -137,6 +142,57 @@ module _ (last : List ℕ) where
             others (seen_behind (Becomes t) p seen),
           )
 
+  -- ---- names that keep their fonts
+
+  module _ (name : List ℕ) where
+    -- a place more, of either list
+    under_more : (p : Place) (ps qs : List Place) → map bare (places_under name ps) ≡ map bare (places_under name qs) →
+        map bare (places_under name (p ∷ ps)) ≡ map bare (places_under name (p ∷ qs))
+    under_more p ps qs h = by_test (bytes_eq p.name name)
+      where
+        by_test : (b : Bool) → map bare (cond b (p ∷ places_under name ps) (places_under name ps))
+            ≡ map bare (cond b (p ∷ places_under name qs) (places_under name qs))
+        by_test true = ap (λ (rs : List Place). bare p ∷ rs) h
+        by_test false = h
+
+    -- with other bytes before them
+    under_behind : (b : List ℕ) (ps : List Place) (end : List ℕ) → map bare (places_under name (behind_bytes b ps end).places) ≡ map bare (places_under name ps)
+    under_behind b [] end = refl
+    under_behind b (p ∷ ps) end = by_test (bytes_eq p.name name)
+      where
+        by_test : (t : Bool) → map bare (cond t (record p { before = b ++ p.before } ∷ places_under name ps) (places_under name ps))
+            ≡ map bare (cond t (p ∷ places_under name ps) (places_under name ps))
+        by_test true = refl
+        by_test false = refl
+
+    -- a place of another name is left out
+    not_under : (p : Place) (ps : List Place) → bytes_eq p.name name ≡ false → places_under name (p ∷ ps) ≡ places_under name ps
+    not_under p ps e = cond-false (bytes_eq p.name name) (p ∷ places_under name ps) (places_under name ps) e
+
+    -- the places of a name that has no new text are left as they are, but for the bytes before them
+    pub kept_left : (new : NewTexts) (seen : List (List ℕ)) (ps : List Place) → new name ≡ None →
+        map bare (places_under name (rewritten_from Pool new seen ps last).places) ≡ map bare (places_under name ps)
+    kept_left new seen [] e = ap (λ (d : Document). map bare (places_under name d.places)) (nothing_left new seen)
+    kept_left new seen (p ∷ ps) e = by_turn (turn new seen p) (λ (names : List (List ℕ)). kept_left new names ps e)
+      where
+        by_turn : Turn new seen p →
+            ((names : List (List ℕ)) → map bare (places_under name (rewritten_from Pool new names ps last).places) ≡ map bare (places_under name ps)) →
+            map bare (places_under name (rewritten_from Pool new seen (p ∷ ps) last).places) ≡ map bare (places_under name (p ∷ ps))
+        by_turn (stays k) others =
+            ap (λ (d : Document). map bare (places_under name d.places)) (step new seen p ps Stays (ap (fate_of Pool seen p) k))
+            ∙ under_more p (rewritten_from Pool new seen ps last).places ps (others seen)
+        by_turn (goes t k s) others =
+            let d = rewritten_from Pool new seen ps last in
+            ap (λ (d : Document). map bare (places_under name d.places)) (step new seen p ps Goes (fate_goes new seen p t k s))
+            ∙ (under_behind p.before d.places d.last
+            ∙ (others seen ∙ ap (map bare) (sym (not_under p ps (other_text new p.name name t k e)))))
+        by_turn (becomes t k s) others =
+            let next = seen_behind (Becomes t) p seen in
+            let apart = other_text new p.name name t k e in
+            ap (λ (d : Document). map bare (places_under name d.places)) (step new seen p ps (Becomes t) (fate_becomes new seen p t k s))
+            ∙ (ap (map bare) (not_under (record p { text = t }) (rewritten_from Pool new next ps last).places apart)
+            ∙ (others next ∙ ap (map bare) (sym (not_under p ps apart))))
+
 -- what is pooled are places so
 pub pools_all : (new : NewTexts) (d : Document) → ArePooled (standing new d.places) (rewritten Pool new d).places
 pools_all new d = left_pooled d.last (standing new d.places) [] d.places
@@ -208,7 +264,7 @@ module _ (last : List ℕ) (new other : NewTexts) (same : (name : List ℕ) → 
       ]
       by_depth false d = λ name t s k. (not_lacked name p ps (lack name t s k)).1
 
-  pooled_stays : (seen : List (List ℕ)) (ps : List Place) → ArePooled new ps → Lacks new seen ps →
+  pub pooled_stays : (seen : List (List ℕ)) (ps : List Place) → ArePooled new ps → Lacks new seen ps →
       rewritten_from Pool other seen ps last ≡ record { places = ps; last = last }
   pooled_stays seen [] all lack = nothing_left last other seen
   pooled_stays seen (p ∷ ps) all lack = by_turn (turn other seen p) (λ (names : List (List ℕ)). pooled_stays names ps all.1)

@@ -1,6 +1,6 @@
 -- What becomes of the fonts of a document: those of one name are joined.
-use Rattle.std.specs.Prelude.{◌≡◌, ℕ, Bool, true, false, List, [], ◌∷◌, filter, codes, Option, Some, None, Result, Ok, Err, if◌then◌else◌}
-use Rattle.std.specs.List.{list_all}
+use Rattle.std.specs.Prelude.{◌≡◌, ℕ, map, Bool, true, false, List, [], ◌∷◌, filter, codes, Option, Some, None, Result, Ok, Err, if◌then◌else◌}
+use Rattle.std.specs.List.{list_all, flat_map}
 use Rattle.std.specs.Option.{option_and_then}
 use Rattle.std.specs.Str.{bytes_eq}
 use Rattle.t1_font.specs.declared.fault.ReadFault.{ReadFault}
@@ -19,8 +19,8 @@ use Rattle.t1_document.specs.declared.joins.Kept.TheVariants.{Unread, Unlike, Ba
 use Rattle.t1_document.specs.declared.joins.Outcome.{Outcome}
 use Rattle.t1_document.specs.declared.joins.Outcome.TheVariants.{Same, Joined, Stays}
 use Rattle.t1_document.specs.Fonts.{canon_text}
-use Rattle.t1_document.specs.Documents.{Place}
-use Rattle.t1_document.specs.Rewriting.{NewTexts, can_stand, is_seen}
+use Rattle.t1_document.specs.Documents.{Place, document_of}
+use Rattle.t1_document.specs.Rewriting.{NewTexts, can_stand, is_seen, pooled, levelled}
 
 -- what is printed of a reason to keep texts
 abbrev pub kept_text : Kept → List ℕ
@@ -29,6 +29,10 @@ kept_text (Unlike fault) = rejoin_text fault
 kept_text Barred = codes "the joined font does not fit a place"
 
 -- ---- the fonts of a name
+
+-- the places of documents, each by itself
+abbrev pub places_of_all : List (List ℕ) → List Place
+places_of_all documents = flat_map (λ d. (document_of d).places) documents
 
 -- the places of a name, in their order
 abbrev pub places_under : List ℕ → List Place → List Place
@@ -111,6 +115,16 @@ AreOutcomes ps outcomes = (name : List ℕ) → ComeTo name (places_under name p
 -- the new texts of names
 abbrev pub new_texts : Outcomes → NewTexts
 new_texts outcomes name = option_and_then text_of (outcomes name)
+
+-- ---- documents
+
+-- the outcomes are those of the fonts of a text, and the text with each font once is this
+abbrev pub PooledBy : List ℕ → List ℕ → Type 0
+PooledBy text out = (outcomes : Outcomes) × AreOutcomes (document_of text).places outcomes × (out ≡ pooled (new_texts outcomes) text)
+
+-- the outcomes are those of the fonts of all documents, and each document with them is one of these
+abbrev pub LevelsTo : List (List ℕ) → List (List ℕ) → Type 0
+LevelsTo documents out = (outcomes : Outcomes) × AreOutcomes (places_of_all documents) outcomes × (out ≡ map (levelled (new_texts outcomes)) documents)
 
 -- ---- names
 

@@ -9,3 +9,4 @@ pub mod Views
 pub mod Laws
 pub mod Joins
 pub mod Groups
+pub mod JoinLaws

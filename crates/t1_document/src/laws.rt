@@ -1,6 +1,7 @@
 //! Laws of documents.
 
 ghost use Rattle.t1_document.specs.Laws.{StretchesOfText, ReadAgain, DocumentOfText, PlacesSpell, JoinedDocuments};
+ghost use Rattle.t1_document.specs.JoinLaws.{NewTextsDraw, NewTextsStand, OneOutcome, OnePooled, OneLevelled, PooledAgain, LevelledAgain, LevelledTogether, InAnyOrder};
 ghost use Rattle.t1_document.specs.Laws.{RewrittenIsRead, MarksStay, OthersStay, LevelRenews, CanonStands, OwnTextsStand, OwnTextsStay, LevelledTwice, LevelledApart, PoolsAll, PooledTwice};
 
 /// The stretches of a text, joined, are the text.
@@ -77,4 +78,44 @@ pub fn pools_all()
 /// To pool twice with the same new texts is to pool once.
 pub fn pooled_twice()
     ensures { PooledTwice }
+{}
+
+/// What the places of a name get spells a font in which each glyph that draws without a fault in the font of one of these places
+/// draws the same, where hints are replaced and where they are kept, and each code keeps its name.
+pub fn new_texts_draw()
+    ensures { NewTextsDraw }
+{}
+
+/// What the places of a name get can stand at each of them, so that none of it is refused.
+pub fn new_texts_stand()
+    ensures { NewTextsStand }
+{}
+
+/// What places get for a name is one text or none, so there is one text that documents are pooled to, and one list of documents
+/// that they are levelled to.
+pub fn one_outcome()
+    ensures texts { OneOutcome }
+    ensures pooled { OnePooled }
+    ensures levelled { OneLevelled }
+{}
+
+/// A text that was pooled is pooled to itself.
+pub fn pooled_again()
+    ensures { PooledAgain }
+{}
+
+/// Documents that were levelled are levelled to themselves.
+pub fn levelled_again()
+    ensures { LevelledAgain }
+{}
+
+/// Two documents between which a line ends, of which the first leaves nothing open, are levelled as one text to what both are
+/// levelled to.
+pub fn levelled_together()
+    ensures { LevelledTogether }
+{}
+
+/// In any order documents get the same texts for their names.
+pub fn in_any_order()
+    ensures { InAnyOrder }
 {}

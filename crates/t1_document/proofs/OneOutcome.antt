@@ -1,0 +1,118 @@
+-- The fonts of a name come to one text, or to none.
+use Rattle.std.proofs.Common.{◌≡◌, ℕ, arith, Bool, true, false, refl, sym, ◌∙◌, ap, List, [], ◌∷◌, map, inl, inr, Option, Some, None, Result, Ok, Err}
+use Rattle.std.specs.List.{list_all}
+use Rattle.std.specs.Option.{option_and_then}
+use Rattle.std.specs.Str.{bytes_eq}
+use Rattle.std.proofs.lemmas.Bool.{true≢false}
+use Rattle.std.proofs.lemmas.Option.{none-some}
+use Rattle.t1_join.specs.Groupings.{one, from_left}
+use Rattle.t1_font.specs.declared.fault.ReadFault.{ReadFault}
+use Rattle.t1_font.specs.FontValue.{FontValue}
+use Rattle.t1_font.specs.Filling.{AreLight, AnyHeavy}
+use Rattle.t1_font.specs.Evening.{filled_all}
+use Rattle.t1_font.specs.FontNames.{evened_named}
+use Rattle.t1_algebra.specs.Profile.{profile}
+use Rattle.t1_algebra.specs.Merges.{ComesTo}
+use Rattle.t1_algebra.proofs.Orders.{one_result}
+use Rattle.t1_subset.specs.declared.conflict.Conflict.{Conflict}
+use Rattle.t1_subset.specs.declared.conflict.Conflict.TheVariants.{Memory}
+use Rattle.t1_subset.specs.declared.fault.RejoinFault.{RejoinFault}
+use Rattle.t1_subset.specs.declared.fault.RejoinFault.TheVariants.{Lacks, Merge}
+use Rattle.t1_subset.specs.Merger.{NotMerged}
+use Rattle.t1_subset.specs.Rejoins.{Rejoin, NotRejoined, NotMergedFilled}
+use Rattle.t1_subset.proofs.Answered.{never_stops}
+use Rattle.t1_document.specs.declared.joins.Kept.{Kept}
+use Rattle.t1_document.specs.declared.joins.Kept.TheVariants.{Unread, Unlike, Barred}
+use Rattle.t1_document.specs.declared.joins.Outcome.{Outcome}
+use Rattle.t1_document.specs.declared.joins.Outcome.TheVariants.{Same, Joined, Stays}
+use Rattle.t1_document.specs.Fonts.{canon_text}
+use Rattle.t1_document.specs.Documents.{Place, document_of}
+use Rattle.t1_document.specs.Rewriting.{NewTexts, can_stand, pooled, levelled}
+use Rattle.t1_document.specs.Joins.{is_full, wants_memory, places_under, fonts_of, new_texts, text_of, ComeTo, OfPlaces, OfFonts, OfEvened, IsSame}
+use Rattle.t1_document.specs.JoinLaws.{OneOutcome, OnePooled, OneLevelled}
+
+-- ---- fonts that rejoin
+
+-- fonts of which each is light are not heavy
+pub light_or_heavy : (fs : List FontValue) → AreLight fs → AnyHeavy fs → ⊥
+light_or_heavy [] l h = h
+light_or_heavy (f ∷ fs) l (inl h) = omega (arith, l.0, h)
+light_or_heavy (f ∷ fs) l (inr h) = light_or_heavy fs l.1 h
+
+-- fonts come to one font
+one_font : (fs : List FontValue) (j k : FontValue) → ComesTo fs j → ComesTo fs k → j ≡ k
+one_font [] j k a b = absurd a
+one_font (f ∷ fs) j k a b = one_result profile (from_left (one f) fs) j k a b
+
+-- fonts that come to one are refused for want of memory alone
+not_merged : (fs : List FontValue) (j : FontValue) (e : Conflict) → ComesTo fs j → NotMerged fs e → e ≡ Memory
+not_merged [] j e a h = absurd a
+not_merged (f ∷ fs) j e a (inl h) = h
+not_merged (f ∷ fs) j e a (inr h) = never_stops f fs j a e h
+
+-- so are they when they rejoin
+not_rejoined : (es : List FontValue) (j : FontValue) (fault : RejoinFault) → Rejoin es j → NotRejoined es fault → wants_memory fault ≡ true
+not_rejoined es j (Lacks glyph index) r h = absurd (none-some _ (sym r.lacks ∙ h))
+not_rejoined es j (Merge e) r (inl m) = ap is_full m
+not_rejoined es j (Merge e) r (inr h) = by_weight h.1
+  where
+    by_weight : NotMergedFilled es e → is_full e ≡ true
+    by_weight (inl k) = ap is_full (not_merged (filled_all es) j e r.comes k.1)
+    by_weight (inr k) = absurd (light_or_heavy (filled_all es) r.light k.0)
+
+-- ---- one text
+
+-- fonts that were joined didn't stay
+joined_or_stay : (es : List FontValue) (ps : List Place) (t : _) (why : Kept) → OfEvened es ps (Joined t) → OfEvened es ps (Stays why) → ⊥
+joined_or_stay es ps t (Unread fault) a b = b
+joined_or_stay es ps t (Unlike fault) a b = true≢false (sym (not_rejoined es a.0.0 fault a.0.1 b.0) ∙ b.1)
+joined_or_stay es ps t Barred a b =
+    let same : t.items ≡ b.0 = a.0.2 ∙ (ap canon_text (one_font (filled_all es) a.0.0 b.1.0 a.0.1.comes b.1.1.comes) ∙ sym b.1.2) in
+    true≢false (sym a.1 ∙ (ap (λ (u : List ℕ). list_all (can_stand u) ps) same ∙ b.2))
+
+one_of_evened : (es : List FontValue) (ps : List Place) (a b : Outcome) → OfEvened es ps a → OfEvened es ps b → text_of a ≡ text_of b
+one_of_evened es ps (Same t) b h k = absurd h
+one_of_evened es ps (Joined t) (Same u) h k = absurd k
+one_of_evened es ps (Joined t) (Joined u) h k =
+    ap (λ (v : List ℕ). Some v) (h.0.2 ∙ (ap canon_text (one_font (filled_all es) h.0.0 k.0.0 h.0.1.comes k.0.1.comes) ∙ sym k.0.2))
+one_of_evened es ps (Joined t) (Stays why) h k = absurd (joined_or_stay es ps t why h k)
+one_of_evened es ps (Stays why) (Same u) h k = absurd k
+one_of_evened es ps (Stays why) (Joined u) h k = absurd (joined_or_stay es ps u why k h)
+one_of_evened es ps (Stays why) (Stays other) h k = refl
+
+one_of_fonts : (name : List ℕ) (ps : List Place) (r : Result (List FontValue) ReadFault) (a b : Outcome) → OfFonts name ps r a → OfFonts name ps r b →
+    text_of a ≡ text_of b
+one_of_fonts name ps (Ok fs) a b h k = one_of_evened (evened_named name fs) ps a b h k
+one_of_fonts name ps (Err fault) a b h k = ap text_of (h ∙ sym k)
+
+pub same_text : (text : List ℕ) (o : Outcome) → IsSame text o → text_of o ≡ Some text
+same_text text (Same t) h = ap (λ (u : List ℕ). Some u) h
+same_text text (Joined t) h = absurd h
+same_text text (Stays why) h = absurd h
+
+one_of_places : (name : List ℕ) (ps : List Place) (text : List ℕ) (same : Bool) (a b : Outcome) → OfPlaces name ps text same a →
+    OfPlaces name ps text same b → text_of a ≡ text_of b
+one_of_places name ps text true a b h k = same_text text a h ∙ sym (same_text text b k)
+one_of_places name ps text false a b h k = one_of_fonts name ps (fonts_of ps) a b h k
+
+-- places of a name come to one text, or to none
+pub one_text_for : (name : List ℕ) (ps : List Place) (a b : Option Outcome) → ComeTo name ps a → ComeTo name ps b →
+    option_and_then text_of a ≡ option_and_then text_of b
+one_text_for name [] a b h k = ap (option_and_then text_of) (h ∙ sym k)
+one_text_for name (p ∷ ps) None b h k = absurd h
+one_text_for name (p ∷ ps) (Some a) None h k = absurd k
+one_text_for name (p ∷ ps) (Some a) (Some b) h k =
+    one_of_places name (p ∷ ps) p.text (list_all (λ q. bytes_eq p.text q.text) ps) a b h k
+
+pub one_outcome : OneOutcome
+one_outcome ps a b h k name = one_text_for name (places_under name ps) (a name) (b name) (h name) (k name)
+
+pub one_pooled : OnePooled
+one_pooled text a b h k =
+    let same : new_texts h.0 ≡ new_texts k.0 = λ i name. one_outcome (document_of text).places h.0 k.0 h.1 k.1 name i in
+    h.2 ∙ (ap (λ (new : NewTexts). pooled new text) same ∙ sym k.2)
+
+pub one_levelled : OneLevelled
+one_levelled documents a b h k =
+    let same : new_texts h.0 ≡ new_texts k.0 = λ i name. one_outcome _ h.0 k.0 h.1 k.1 name i in
+    h.2 ∙ (ap (λ (new : NewTexts). map (levelled new) documents) same ∙ sym k.2)
