@@ -54,6 +54,8 @@ REFUSALS = {
     "run_diff": [READS],
     "run_pool": ["TooLong"],
     "run_level": ["TooLong"],
+    "run_fonts": ["TooLong"],
+    "run_extract": ["TooLong", "NoFont"],
     "check_file": [READS],
     "list_file": [READS],
     "list_file_full": [READS],
@@ -66,6 +68,10 @@ REFUSALS = {
     "merge_files": [READS, "Conflict"],
     "rejoin_files": [READS, "Lacks", "Conflict"],
     "diff_files": [READS],
+    "pool_files": ["TooLong"],
+    "level_files": ["TooLong"],
+    "list_fonts": ["TooLong"],
+    "extract_file": ["TooLong", "NoFont"],
     "join_listings": ["TooLong", "ListFault", "JoinFault"],
 }
 # What a call can't answer, though its type has it.
@@ -94,7 +100,10 @@ LARGE = {
     "t1_font": {"": 65_535, "even_shells": 1000, "even_boxes": 1000, "even_named": 1000, "fill_all": 65_535},
     "t1_document": {"": 300, "Texts::new": None, "Place::source": None, "Place::can_stand": None},
     "t1_subset": {"": 65_535, "merge": 65_535},
-    "t1_cmd": {"": 65_535, "run_pool": 300, "run_level": 300, "Name::new": 127, "read_all": 268_435_456, "write_fault": None, "write_fault_of": None},
+    "t1_cmd": {
+        "": 65_535, "run_pool": 300, "run_level": 300, "run_fonts": 300, "run_extract": 300, "pool_files": 300, "level_files": 300, "list_fonts": 300,
+        "extract_file": 300, "Name::new": 127, "read_all": 268_435_456, "write_fault": None, "write_fault_of": None,
+    },
 }
 # Constants that choose between two ways, or limit what is read: the calls that a test has to take to their value and beyond.
 THRESHOLDS = {

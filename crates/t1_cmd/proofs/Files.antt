@@ -6,7 +6,7 @@ use Rattle.std.proofs.lemmas.List.{append-nil}
 use Rattle.t1_subset.specs.NameSets.{lent}
 use Rattle.t1_cmd.specs.declared.faults.FilesRefusal.{FilesRefusal}
 use Rattle.t1_cmd.specs.declared.faults.Reason.{Reason}
-use Rattle.t1_cmd.specs.declared.faults.Reason.TheVariants.{TooLong, Memory, List as ListReason, Join as JoinReason, Font, NoGlyph, NoCode, Lacks, Merge}
+use Rattle.t1_cmd.specs.declared.faults.Reason.TheVariants.{TooLong, Memory, List as ListReason, Join as JoinReason, Font, NoGlyph, NoCode, NoFont, Lacks, Merge}
 use Rattle.t1_cmd.specs.Answers.{MayRefuse}
 use Rattle.t1_cmd.specs.Files.{Values, value_before, values_from, IsUnread, IsRefusalAt, OfFiles, RefusedAt}
 use Rattle.t1_cmd.proofs.Refusals.{refuses, by_answer}
@@ -99,7 +99,7 @@ module _ {A : Type 0} (understand : List ℕ → Result A Reason) where
   -- ---- refusals
 
   -- a file that is refused is the first one
-  first_refused : (files : List (Bor (List ℕ))) (place : ℕ) (done : List A) (d : Bor (List ℕ)) (r : Reason) → SoFar place files done
+  pub first_refused : (files : List (Bor (List ℕ))) (place : ℕ) (done : List A) (d : Bor (List ℕ)) (r : Reason) → SoFar place files done
       → place < length files → Err r ≡ understand (get_or files place d).now → values_from understand 0 (lent files) ≡ Err (place, r)
   first_refused files place done d r h l e =
       by_place files place done d h l
@@ -126,6 +126,7 @@ module _ {A : Type 0} (understand : List ℕ → Result A Reason) where
   refused_file files place (Font f) e at h = unread_at files e (Some place) (Font f) at.0 at.1 h
   refused_file files place (NoGlyph n) e at h = unread_at files e (Some place) (NoGlyph n) at.0 at.1 h
   refused_file files place (NoCode code) e at h = unread_at files e (Some place) (NoCode code) at.0 at.1 h
+  refused_file files place (NoFont n) e at h = unread_at files e (Some place) (NoFont n) at.0 at.1 h
   refused_file files place (Lacks g k) e at h = unread_at files e (Some place) (Lacks g k) at.0 at.1 h
   refused_file files place (Merge m) e at h = unread_at files e (Some place) (Merge m) at.0 at.1 h
 

@@ -8,7 +8,7 @@ use Rattle.t1_subset.specs.Merger.{NotMerged}
 use Rattle.t1_algebra.specs.Merges.{ComesTo}
 use Rattle.t1_subset.proofs.Answered.{never_stops}
 use Rattle.t1_cmd.specs.declared.faults.Reason.{Reason}
-use Rattle.t1_cmd.specs.declared.faults.Reason.TheVariants.{TooLong, Memory, List as ListReason, Join as JoinReason, Font, NoGlyph, NoCode, Lacks, Merge}
+use Rattle.t1_cmd.specs.declared.faults.Reason.TheVariants.{TooLong, Memory, List as ListReason, Join as JoinReason, Font, NoGlyph, NoCode, NoFont, Lacks, Merge}
 use Rattle.t1_cmd.specs.declared.faults.RunFault.{RunFault}
 use Rattle.t1_cmd.specs.declared.faults.RunFault.TheVariants.{Refused, Read, Write}
 use Rattle.t1_cmd.specs.Inputs.{Input}
@@ -33,6 +33,7 @@ merges_apart form fs text (JoinReason f) h k = absurd k
 merges_apart form fs text (Font f) h k = absurd k
 merges_apart form fs text (NoGlyph n) h k = absurd k
 merges_apart form fs text (NoCode code) h k = absurd k
+merges_apart form fs text (NoFont n) h k = absurd k
 merges_apart form fs text (Lacks g q) h k = absurd k
 merges_apart form fs text (Merge e) h k = absurd (apart_at fs h.0 e h.1 k.0 k.1)
 
@@ -49,6 +50,7 @@ inputs_stop input Answers is (Refused (JoinReason f)) h = inl h
 inputs_stop input Answers is (Refused (Font f)) h = inl h
 inputs_stop input Answers is (Refused (NoGlyph n)) h = inl h
 inputs_stop input Answers is (Refused (NoCode code)) h = inl h
+inputs_stop input Answers is (Refused (NoFont n)) h = inl h
 inputs_stop input Answers is (Refused (Lacks g k)) h = inl h
 inputs_stop input Answers is (Refused (Merge f)) h = inl h
 inputs_stop input Answers is Read h = h

@@ -5,7 +5,7 @@ use Rattle.std.specs.Io.KnownBytes.{Appends}
 use Rattle.t1_font.specs.FontValue.{FontValue}
 use Rattle.t1_cmd.specs.declared.counting.Counted.{Counted}
 use Rattle.t1_cmd.specs.declared.faults.Reason.{Reason}
-use Rattle.t1_cmd.specs.declared.faults.Reason.TheVariants.{TooLong, Memory, List as ListReason, Join as JoinReason, Font, NoGlyph, NoCode, Lacks, Merge}
+use Rattle.t1_cmd.specs.declared.faults.Reason.TheVariants.{TooLong, Memory, List as ListReason, Join as JoinReason, Font, NoGlyph, NoCode, NoFont, Lacks, Merge}
 use Rattle.t1_cmd.specs.declared.faults.RunFault.{RunFault}
 use Rattle.t1_cmd.specs.declared.faults.RunFault.TheVariants.{Refused, Read, Write}
 use Rattle.t1_cmd.specs.declared.faults.FilesRefusal.{FilesRefusal}
@@ -80,6 +80,7 @@ module _ (input : List ℕ → Result FontValue Reason) (Answers : List FontValu
       only_memory (Font x) d = refused_so (Font x) d
       only_memory (NoGlyph x) d = refused_so (NoGlyph x) d
       only_memory (NoCode code) d = refused_so (NoCode code) d
+      only_memory (NoFont x) d = refused_so (NoFont x) d
       only_memory (Lacks g k) d = refused_so (Lacks g k) d
       only_memory (Merge x) d = refused_so (Merge x) d
 

@@ -2,7 +2,7 @@
 use Rattle.std.proofs.Common.{◌≡◌, ◌<◌, ◌≤◌, ◌+◌, ℕ, zero, suc, refl, sym, ◌∙◌, ap, subst, List, [], ◌∷◌, ◌++◌, length, get_or, set, inl, inr, Option}
 use Rattle.std.proofs.Common.{Result, Ok, IfSome, arith}
 use Rattle.t1_cmd.specs.declared.counting.Counted.{Counted}
-use Rattle.t1_cmd.specs.declared.faults.Reason.TheVariants.{TooLong, Memory, List as ListReason, Join as JoinReason, Font, NoGlyph, NoCode, Lacks, Merge}
+use Rattle.t1_cmd.specs.declared.faults.Reason.TheVariants.{TooLong, Memory, List as ListReason, Join as JoinReason, Font, NoGlyph, NoCode, NoFont, Lacks, Merge}
 use Rattle.t1_cmd.specs.declared.faults.RunFault.{RunFault}
 use Rattle.t1_cmd.specs.declared.faults.RunFault.TheVariants.{Refused, Read, Write}
 use Rattle.t1_cmd.specs.Count.{inner_of, calls_counted}
@@ -81,6 +81,7 @@ module _ {A : Type 0} (input : List ℕ → Result A Reason) {X : Type 0} (remai
   stops i os ns fs r x (Refused (Font f)) h l e s = first_with (IsRefused input (Font f)) i os ns fs r x h l e s
   stops i os ns fs r x (Refused (NoGlyph f)) h l e s = first_with (IsRefused input (NoGlyph f)) i os ns fs r x h l e s
   stops i os ns fs r x (Refused (NoCode code)) h l e s = first_with (IsRefused input (NoCode code)) i os ns fs r x h l e s
+  stops i os ns fs r x (Refused (NoFont f)) h l e s = first_with (IsRefused input (NoFont f)) i os ns fs r x h l e s
   stops i os ns fs r x (Refused (Lacks g k)) h l e s = first_with (IsRefused input (Lacks g k)) i os ns fs r x h l e s
   stops i os ns fs r x (Refused (Merge f)) h l e s = first_with (IsRefused input (Merge f)) i os ns fs r x h l e s
   stops i os ns fs r x Read h l e s = first_with HasFailed i os ns fs r x h l e s

@@ -1,7 +1,7 @@
 -- What refuses a value, a file, or the input that has the file.
 use Rattle.std.proofs.Common.{◌≡◌, ℕ, List, subst, sym, Option, Some, None, Result, Err, IfSome}
 use Rattle.t1_cmd.specs.declared.faults.Reason.{Reason}
-use Rattle.t1_cmd.specs.declared.faults.Reason.TheVariants.{TooLong, Memory, List as ListReason, Join as JoinReason, Font, NoGlyph, NoCode, Lacks, Merge}
+use Rattle.t1_cmd.specs.declared.faults.Reason.TheVariants.{TooLong, Memory, List as ListReason, Join as JoinReason, Font, NoGlyph, NoCode, NoFont, Lacks, Merge}
 use Rattle.t1_cmd.specs.declared.faults.RunFault.TheVariants.{Refused}
 use Rattle.t1_cmd.specs.Inputs.{Input, Holds, Say}
 use Rattle.t1_cmd.specs.Answers.{MayRefuse}
@@ -17,6 +17,7 @@ refuses P (JoinReason f) h = h
 refuses P (Font f) h = h
 refuses P (NoGlyph n) h = h
 refuses P (NoCode code) h = h
+refuses P (NoFont n) h = h
 refuses P (Lacks g k) h = h
 refuses P (Merge e) h = h
 
@@ -30,6 +31,7 @@ by_answer P Q (JoinReason e) m f h = f (JoinReason e) h
 by_answer P Q (Font e) m f h = f (Font e) h
 by_answer P Q (NoGlyph n) m f h = f (NoGlyph n) h
 by_answer P Q (NoCode code) m f h = f (NoCode code) h
+by_answer P Q (NoFont n) m f h = f (NoFont n) h
 by_answer P Q (Lacks g k) m f h = f (Lacks g k) h
 by_answer P Q (Merge e) m f h = f (Merge e) h
 
@@ -52,6 +54,7 @@ module _ {A : Type 0} (understand : List ℕ → Result A Reason) where
   input_stops i (Font f) h = h
   input_stops i (NoGlyph n) h = h
   input_stops i (NoCode code) h = h
+  input_stops i (NoFont n) h = h
   input_stops i (Lacks g k) h = h
   input_stops i (Merge e) h = h
 

@@ -6,7 +6,7 @@ use Rattle.std.specs.Result.{result_ok}
 use Rattle.std.specs.Io.KnownBytes.{Appends}
 use Rattle.t1_cmd.specs.declared.counting.Counted.{Counted}
 use Rattle.t1_cmd.specs.declared.faults.Reason.{Reason}
-use Rattle.t1_cmd.specs.declared.faults.Reason.TheVariants.{TooLong, Memory, List as ListReason, Join as JoinReason, Font, NoGlyph, NoCode, Lacks, Merge}
+use Rattle.t1_cmd.specs.declared.faults.Reason.TheVariants.{TooLong, Memory, List as ListReason, Join as JoinReason, Font, NoGlyph, NoCode, NoFont, Lacks, Merge}
 use Rattle.t1_cmd.specs.declared.faults.RunFault.{RunFault}
 use Rattle.t1_cmd.specs.declared.faults.RunFault.TheVariants.{Refused, Read, Write}
 use Rattle.t1_cmd.specs.Count.{inner_of, failed_of, last_count}
@@ -97,7 +97,7 @@ module _ {A : Type 0} (understand : List ℕ → Result A Reason) where
           (λ d. let ys = other (understand b) v k in ih ys.0 d.1 (w ∙ ys.1))
           h
 
-  first_failed : (is : List Input) → FirstWith understand HasFailed is → AllQuiet is → ⊥
+  pub first_failed : (is : List Input) → FirstWith understand HasFailed is → AllQuiet is → ⊥
   first_failed [] h q = h
   first_failed (i ∷ is) h q = ⊎_elim (λ r. not_risen i.before i.after r q.0.0 q.0.1) (λ r. first_failed is r.1 q.1) h
 
@@ -112,6 +112,7 @@ module _ {A : Type 0} (understand : List ℕ → Result A Reason) where
     stops_after front i rest (Refused (Font f)) h s = inl (first_at (IsRefused understand (Font f)) front i rest h s)
     stops_after front i rest (Refused (NoGlyph n)) h s = inl (first_at (IsRefused understand (NoGlyph n)) front i rest h s)
     stops_after front i rest (Refused (NoCode code)) h s = inl (first_at (IsRefused understand (NoCode code)) front i rest h s)
+    stops_after front i rest (Refused (NoFont n)) h s = inl (first_at (IsRefused understand (NoFont n)) front i rest h s)
     stops_after front i rest (Refused (Lacks g k)) h s = inl (first_at (IsRefused understand (Lacks g k)) front i rest h s)
     stops_after front i rest (Refused (Merge n)) h s = inl (first_at (IsRefused understand (Merge n)) front i rest h s)
     stops_after front i rest Read h s = first_at HasFailed front i rest h s
@@ -139,6 +140,7 @@ module _ {A : Type 0} (understand : List ℕ → Result A Reason) where
         by (Font f) b = inr (together (Font f) b)
         by (NoGlyph n) b = inr (together (NoGlyph n) b)
         by (NoCode code) b = inr (together (NoCode code) b)
+        by (NoFont n) b = inr (together (NoFont n) b)
         by (Lacks g k) b = inr (together (Lacks g k) b)
         by (Merge n) b = inr (together (Merge n) b)
 
@@ -187,6 +189,7 @@ module _ {A : Type 0} (understand : List ℕ → Result A Reason) where
         at xs e text a q same low (Err (Refused (Font f))) h = ap Refused (refused xs text (Font f) e a h.1)
         at xs e text a q same low (Err (Refused (NoGlyph n))) h = ap Refused (refused xs text (NoGlyph n) e a h.1)
         at xs e text a q same low (Err (Refused (NoCode code))) h = ap Refused (refused xs text (NoCode code) e a h.1)
+        at xs e text a q same low (Err (Refused (NoFont n))) h = ap Refused (refused xs text (NoFont n) e a h.1)
         at xs e text a q same low (Err (Refused (Lacks g k))) h = ap Refused (refused xs text (Lacks g k) e a h.1)
         at xs e text a q same low (Err (Refused (Merge n))) h = ap Refused (refused xs text (Merge n) e a h.1)
         at xs e text a q same low (Err Read) h = absurd (first_failed is h.1 q)

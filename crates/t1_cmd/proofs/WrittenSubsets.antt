@@ -25,7 +25,7 @@ use Rattle.t1_algebra.proofs.Headline.{subset_again}
 use Rattle.t1_subset.proofs.Answered.{of_all_subsets}
 use Rattle.t1_cmd.specs.declared.counting.Counted.{Counted}
 use Rattle.t1_cmd.specs.declared.faults.Reason.{Reason}
-use Rattle.t1_cmd.specs.declared.faults.Reason.TheVariants.{TooLong, Memory, List as ListReason, Join as JoinReason, Font, NoGlyph, NoCode, Lacks, Merge}
+use Rattle.t1_cmd.specs.declared.faults.Reason.TheVariants.{TooLong, Memory, List as ListReason, Join as JoinReason, Font, NoGlyph, NoCode, NoFont, Lacks, Merge}
 use Rattle.t1_cmd.specs.declared.faults.RunFault.{RunFault}
 use Rattle.t1_cmd.specs.Inputs.{Input, values_of, value_and}
 use Rattle.t1_bytes.specs.Limits.{file_limit}
@@ -77,6 +77,7 @@ module _ (f : FontValue) (h : IsFont f) where
     refused_so (Font x) d = absurd d
     refused_so (NoGlyph x) d = absurd d
     refused_so (NoCode code) d = absurd d
+    refused_so (NoFont x) d = absurd d
     refused_so (Lacks g k) d = absurd d
     refused_so (Merge e) d = absurd (not_told e d.0 d.1)
 

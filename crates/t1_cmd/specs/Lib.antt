@@ -19,3 +19,5 @@ pub mod Cuts
 pub mod CodeLists
 pub mod FullText
 pub mod Documents
+pub mod FontPlaces
+pub mod Extracts

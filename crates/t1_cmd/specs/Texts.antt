@@ -6,7 +6,7 @@ use Rattle.t1_join.specs.Shown.{shown}
 use Rattle.t1_join.specs.FaultTexts.{list_text, join_text}
 use Rattle.t1_subset.specs.FaultTexts.{conflict_text}
 use Rattle.t1_cmd.specs.declared.faults.Reason.{Reason}
-use Rattle.t1_cmd.specs.declared.faults.Reason.TheVariants.{TooLong, Memory, List as ListReason, Join as JoinReason, Font, NoGlyph, NoCode, Lacks, Merge}
+use Rattle.t1_cmd.specs.declared.faults.Reason.TheVariants.{TooLong, Memory, List as ListReason, Join as JoinReason, Font, NoGlyph, NoCode, NoFont, Lacks, Merge}
 use Rattle.t1_cmd.specs.declared.faults.RunFault.{RunFault}
 use Rattle.t1_cmd.specs.declared.faults.RunFault.TheVariants.{Refused, Read, Write}
 
@@ -19,6 +19,7 @@ reason_text (JoinReason f) = join_text f
 reason_text (Font f) = fault_text f
 reason_text (NoGlyph name) = codes "no glyph " ++ shown name
 reason_text (NoCode code) = codes "no code " ++ decimal code
+reason_text (NoFont name) = codes "no font " ++ shown name
 reason_text (Lacks glyph index) = codes "glyph " ++ (shown glyph ++ (codes " lacks subr " ++ decimal index))
 reason_text (Merge e) = conflict_text e
 

@@ -11,13 +11,14 @@ ghost use Rattle.t1_document.specs.Joins.{kept_text};
 ghost use Rattle.t1_document.specs.Views.{place_view};
 ghost use Rattle.t1_cmd.specs.Count.{calls_counted};
 ghost use Rattle.t1_cmd.specs.Inputs.{Say, input_of, values_of};
-ghost use Rattle.t1_cmd.specs.Runs.{ended, InputEnds, RunEnds};
+ghost use Rattle.t1_cmd.specs.Files.{values_from, IsUnread, OfFiles, RefusesFiles};
+ghost use Rattle.t1_cmd.specs.Runs.{ended, InputEnds, RunEnds, Succeeds};
 ghost use Rattle.t1_cmd.specs.Answers.{MayRefuse};
 ghost use Rattle.t1_cmd.specs.Mergers.{inputs_of, InTurns, InputsStop};
 ghost use Rattle.t1_cmd.specs.Documents.{text_input, PooledBy, PoolsTo, kept_line, kept_lines, TellsKept};
 
 use crate::counting::Counted;
-use crate::faults::{Reason, RunFault};
+use crate::faults::{FilesRefusal, Reason, RunFault};
 use crate::reading::read_all;
 use crate::texts::push_shown;
 use crate::writing::write_text;
@@ -71,6 +72,22 @@ pub(crate) fn read_texts<R: Read>(
     Ok(texts)
 }
 
+// That each of some documents is within the file limit.
+pub(crate) fn each_fits(documents: &[&[u8]]) -> Result<(), FilesRefusal>
+    ensures fit { OnOk result (values_from text_input 0 (lent documents.now) ≡ Ok (lent documents.now)) }
+    ensures refused { IfErr result (λ e. IsUnread text_input (lent documents.now) e.place e.reason) }
+{
+    'documents: for place in 0..documents.len() {
+        if documents[place].len() > FILE_LIMIT {
+            return Err(FilesRefusal {
+                place: Some(place),
+                reason: Reason::TooLong,
+            });
+        }
+    }
+    Ok(())
+}
+
 // Documents, lent.
 pub(crate) fn lent(alloc: Global, texts: &[Vec<u8>]) -> Result<Vec<&[u8]>, AllocError>
     ensures { IfOk result (λ v. lent v.items ≡ map (λ t. t.items) texts.now) }
@@ -105,7 +122,7 @@ fn push_kept(
 }
 
 // Why a name keeps its fonts.
-fn push_why(alloc: Global, out: &mut Vec<u8>, why: &Kept) -> Result<(), AllocError>
+pub(crate) fn push_why(alloc: Global, out: &mut Vec<u8>, why: &Kept) -> Result<(), AllocError>
     ensures { OnOk result (out.new.items ≡ out.old.items ++ kept_text why.now) }
 {
     let text = why.to_string(alloc)?;
@@ -132,10 +149,11 @@ pub(crate) fn kept_lines(
 
 /// Documents as one text, with each font once.
 #[derive(Drop)]
-struct Pooled {
-    text: Vec<u8>,
+pub struct Pooled {
+    /// The documents, one behind the other.
+    pub text: Vec<u8>,
     /// Lines of the names that keep their fonts.
-    kept: Vec<u8>,
+    pub kept: Vec<u8>,
 }
 
 // The documents, one behind the other.
@@ -180,15 +198,33 @@ fn pool(alloc: Global, documents: &[&[u8]]) -> Result<Pooled, Reason>
     Ok(pool_text(alloc, text.as_slice())?)
 }
 
-/// Writes documents one behind the other, with each font once, and answers a line for each name that keeps its fonts.
+/// Documents in memory, one behind the other, with each font once, and a line for each name that keeps its fonts, as [`run_pool`]
+/// has them.
 ///
-/// An LF stands between two documents where no line ends there. The places of fonts are those of
-/// [`read_document`](t1_document::read_document), and what becomes of them is told by [`join_fonts`](t1_document::join_fonts) and
-/// [`Document::pool`](t1_document::Document::pool).
+/// # Errors
 ///
-/// The inputs are read one after the other. [`Reason::TooLong`] is answered if one of them, or all together, are over the file
-/// limit. Nothing else is refused but for want of memory.
-pub fn run_pool<R: Read, W: Write>(
+/// [`Reason::TooLong`] with the place of the first document that is over the file limit, and without a place if all together are;
+/// [`Reason::Memory`] if a growth was refused.
+pub fn pool_files(alloc: Global, documents: &[&[u8]]) -> Result<Pooled, FilesRefusal>
+    ensures text { IfOk result (λ p. OfFiles text_input PoolsTo (lent documents.now) (Ok p.text.items)) }
+    ensures kept { IfOk result (λ p. TellsKept (document_of (one_text (lent documents.now))).places p.kept.items) }
+    ensures refused { IfErr result (RefusesFiles text_input PoolsTo (lent documents.now)) }
+{
+    match each_fits(documents) {
+        Ok(()) => {}
+        Err(refusal) => return Err(refusal),
+    }
+    match pool(alloc, documents) {
+        Ok(pooled) => Ok(pooled),
+        Err(reason) => Err(FilesRefusal {
+            place: None,
+            reason,
+        }),
+    }
+}
+
+// Writes the documents that readers have one behind the other, with each font once.
+fn write_pooled<R: Read, W: Write>(
     alloc: Global,
     readers: &mut [Counted<R>],
     writer: &mut Counted<W>,
@@ -212,4 +248,28 @@ pub fn run_pool<R: Read, W: Write>(
         Ok(()) => Ok(pooled.kept),
         Err(fault) => Err(fault),
     }
+}
+
+/// Writes documents one behind the other, with each font once, and answers a line for each name that keeps its fonts.
+///
+/// An LF stands between two documents where no line ends there. The places of fonts are those of
+/// [`read_document`](t1_document::read_document), and what becomes of them is told by [`join_fonts`](t1_document::join_fonts) and
+/// [`Document::pool`](t1_document::Document::pool).
+///
+/// The inputs are read one after the other. [`Reason::TooLong`] is answered if one of them, or all together, are over the file
+/// limit. Nothing else is refused but for want of memory.
+pub fn run_pool<R: Read, W: Write>(
+    alloc: Global,
+    readers: &mut [Counted<R>],
+    writer: &mut Counted<W>,
+) -> Result<Vec<u8>, RunFault>
+    ensures ends { RunEnds text_input PoolsTo W.contents
+        (inputs_of R.remaining readers.old readers.new) writer.old writer.new (ended result) }
+    ensures succeeds { Succeeds text_input PoolsTo
+        (inputs_of R.remaining readers.old readers.new) writer.old writer.new (ended result) }
+    ensures told { IfOk result (λ lines. IfSome (values_of text_input (inputs_of R.remaining readers.old readers.new))
+        (λ documents. TellsKept (document_of (one_text documents)).places lines.items)) }
+    ensures turns { InTurns readers.old readers.new }
+{
+    write_pooled(alloc, readers, writer)
 }

@@ -9,7 +9,7 @@ use t1_font::ReadFault;
 use t1_join::{JoinFault, ListFault, Shown};
 use t1_subset::Conflict;
 
-/// The name of a glyph, without its `/`.
+/// The name of a glyph or of a font, without its `/`.
 #[derive(Debug, Drop)]
 pub struct Name {
     bytes: Vec<u8>,
@@ -61,6 +61,8 @@ pub enum Reason {
     NoGlyph { name: Name },
     /// The font's Encoding has no name for this code.
     NoCode { code: u8 },
+    /// No document has a font of this name.
+    NoFont { name: Name },
     /// Of fonts that are rejoined, the first that lacks a Subr which its glyph executes and another of the fonts has: a stub there
     /// would draw something else. The index is the smallest, and the glyph the smallest that executes it.
     Lacks { glyph: Name, index: u16 },
@@ -83,6 +85,7 @@ impl fmt::Display for Reason {
             Reason::Font(fault) => write!(f, "{fault}"),
             Reason::NoGlyph { name } => write!(f, "no glyph {}", Shown(name.as_bytes())),
             Reason::NoCode { code } => write!(f, "no code {code}"),
+            Reason::NoFont { name } => write!(f, "no font {}", Shown(name.as_bytes())),
             Reason::Lacks { glyph, index } => {
                 write!(f, "glyph {} lacks subr {index}", Shown(glyph.as_bytes()))
             }

@@ -83,7 +83,7 @@ pub fn run_convert<R: Read, W: Write>(
 }
 
 // How many glyphs a font has.
-fn glyph_count(font: &Font<'_>) -> usize
+pub(crate) fn glyph_count(font: &Font<'_>) -> usize
     ensures { result ≡ fin.len font.now.glyphs }
 {
     font.proof_is_font();

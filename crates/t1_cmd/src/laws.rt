@@ -4,6 +4,7 @@ ghost use Rattle.t1_cmd.specs.Mends.{MendsAgain, MendsNothing, MendedIsSpelled, 
 ghost use Rattle.t1_cmd.specs.Rejoins.{RejoinsWhatMerges};
 ghost use Rattle.t1_cmd.specs.Cuts.{RejoinedDraw};
 ghost use Rattle.t1_cmd.specs.Subsets.{SubsetWithoutCodes};
+ghost use Rattle.t1_cmd.specs.Extracts.{TakesOutMended};
 
 /// Fonts that merge rejoin to the file of what they merge to, with even texts, and to nothing else: where the texts are even and
 /// have no test to lose, [`run_rejoin`](crate::run_rejoin) writes what [`run_merge`](crate::run_merge) writes, unless a growth was
@@ -52,4 +53,9 @@ pub fn tells_nothing()
 /// [`rejoin_files`](crate::rejoin_files) and [`run_rejoin`](crate::run_rejoin) may answer is the same.
 pub fn rejoins_mended()
     ensures { RejoinsMended }
+{}
+
+/// What [`run_extract`](crate::run_extract) writes of a place is what [`run_mend`](crate::run_mend) writes of its font text as a PFA.
+pub fn takes_out_mended()
+    ensures { TakesOutMended }
 {}

@@ -1,18 +1,21 @@
 //! The engine that levels documents: each place of a name gets one font.
-ghost use Rattle.std.specs.Prelude.{◌≡◌, ◌++◌, ◌∷◌, [], map, IfOk, IfErr, IfSome, OnOk};
+ghost use Rattle.std.specs.Prelude.{◌≡◌, ◌++◌, ◌∷◌, [], map, Ok, IfOk, IfErr, IfSome, OnOk, IsSome, IsOkUnless};
 ghost use Rattle.std.specs.List.{flat_map};
 ghost use Rattle.t1_subset.specs.NameSets.{lent};
 ghost use Rattle.t1_document.specs.Documents.{document_of};
 ghost use Rattle.t1_document.specs.Rewriting.{document_levelled};
 ghost use Rattle.t1_document.specs.Texts.{text_in};
 ghost use Rattle.t1_document.specs.Views.{document_view};
-ghost use Rattle.t1_cmd.specs.Inputs.{values_of};
+ghost use Rattle.t1_cmd.specs.declared.faults.Reason.TheVariants.{Memory};
+ghost use Rattle.t1_cmd.specs.declared.faults.RunFault.TheVariants.{Refused};
+ghost use Rattle.t1_cmd.specs.Inputs.{AllQuiet, values_of};
+ghost use Rattle.t1_cmd.specs.Files.{values_from, IsUnread};
 ghost use Rattle.t1_cmd.specs.Mergers.{inputs_of, InTurns, InputsStop};
 ghost use Rattle.t1_cmd.specs.Documents.{text_input, places_of_all, LevelsTo, TellsKept};
 
 use crate::counting::Counted;
-use crate::documents::{keep, kept_lines, lent, read_texts};
-use crate::faults::RunFault;
+use crate::documents::{each_fits, keep, kept_lines, lent, read_texts};
+use crate::faults::{FilesRefusal, Reason, RunFault};
 use std::alloc::{AllocError, Global};
 use std::io::Read;
 use t1_document::{Document, Texts, join_fonts, read_document};
@@ -105,15 +108,34 @@ fn level(alloc: Global, texts: &[&[u8]]) -> Result<Levelled, AllocError>
     Ok(Levelled { texts, kept })
 }
 
-/// Documents whose fonts of a name are one font at each place, and a line for each name that keeps its fonts.
+/// Documents in memory whose fonts of a name are one font at each place, and a line for each name that keeps its fonts, as
+/// [`run_level`] has them.
 ///
-/// Each document is read by itself ([`read_document`]), and the fonts of a name are those of all documents
-/// ([`join_fonts`](t1_document::join_fonts)). Nothing but the font texts of names that don't keep theirs changes
-/// ([`Document::level`]).
+/// # Errors
 ///
-/// The inputs are read one after the other. [`Reason::TooLong`](crate::Reason::TooLong) is answered if one of them is over the file
-/// limit. Nothing else is refused but for want of memory.
-pub fn run_level<R: Read>(alloc: Global, readers: &mut [Counted<R>]) -> Result<Levelled, RunFault>
+/// [`Reason::TooLong`] with the place of the first document that is over the file limit; [`Reason::Memory`] if a growth was
+/// refused.
+pub fn level_files(alloc: Global, documents: &[&[u8]]) -> Result<Levelled, FilesRefusal>
+    ensures fit { OnOk result (values_from text_input 0 (lent documents.now) ≡ Ok (lent documents.now)) }
+    ensures levels { IfOk result (λ l. LevelsTo (lent documents.now) (map (λ t. t.items) l.texts.items)) }
+    ensures kept { IfOk result (λ l. TellsKept (places_of_all (lent documents.now)) l.kept.items) }
+    ensures refused { IfErr result (λ e. IsUnread text_input (lent documents.now) e.place e.reason) }
+{
+    match each_fits(documents) {
+        Ok(()) => {}
+        Err(refusal) => return Err(refusal),
+    }
+    match level(alloc, documents) {
+        Ok(levelled) => Ok(levelled),
+        Err(_) => Err(FilesRefusal {
+            place: None,
+            reason: Reason::Memory,
+        }),
+    }
+}
+
+// The documents that readers have, levelled.
+fn read_levelled<R: Read>(alloc: Global, readers: &mut [Counted<R>]) -> Result<Levelled, RunFault>
     ensures levels { IfOk result (λ l. IfSome (values_of text_input (inputs_of R.remaining readers.old readers.new))
         (λ documents. LevelsTo documents (map (λ t. t.items) l.texts.items))) }
     ensures told { IfOk result (λ l. IfSome (values_of text_input (inputs_of R.remaining readers.old readers.new))
@@ -129,4 +151,26 @@ pub fn run_level<R: Read>(alloc: Global, readers: &mut [Counted<R>]) -> Result<L
     let documents = lent(alloc, texts.as_slice())?;
     let levelled = level(alloc, documents.as_slice())?;
     Ok(levelled)
+}
+
+/// Documents whose fonts of a name are one font at each place, and a line for each name that keeps its fonts.
+///
+/// Each document is read by itself ([`read_document`]), and the fonts of a name are those of all documents
+/// ([`join_fonts`](t1_document::join_fonts)). Nothing but the font texts of names that don't keep theirs changes
+/// ([`Document::level`]).
+///
+/// The inputs are read one after the other. [`Reason::TooLong`] is answered if one of them is over the file limit. Nothing else
+/// is refused but for want of memory.
+pub fn run_level<R: Read>(alloc: Global, readers: &mut [Counted<R>]) -> Result<Levelled, RunFault>
+    ensures levels { IfOk result (λ l. IfSome (values_of text_input (inputs_of R.remaining readers.old readers.new))
+        (λ documents. LevelsTo documents (map (λ t. t.items) l.texts.items))) }
+    ensures told { IfOk result (λ l. IfSome (values_of text_input (inputs_of R.remaining readers.old readers.new))
+        (λ documents. TellsKept (places_of_all documents) l.kept.items)) }
+    ensures stops { IfErr result
+        (λ e. InputsStop text_input (inputs_of R.remaining readers.old readers.new) e) }
+    ensures succeeds { IsSome (values_of text_input (inputs_of R.remaining readers.old readers.new))
+        → AllQuiet (inputs_of R.remaining readers.old readers.new) → IsOkUnless result (Refused Memory) }
+    ensures turns { InTurns readers.old readers.new }
+{
+    read_levelled(alloc, readers)
 }

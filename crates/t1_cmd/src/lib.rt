@@ -4,7 +4,8 @@
 //! of the bytes that were read; after a refusal, or if a reader failed, nothing is written.
 //!
 //! Beside the engines stand calls over files in memory, which answer the same texts: [`check_file`], [`list_file`], [`list_file_full`],
-//! [`show_file`], [`convert_file`], [`subset_file`], [`subset_file_with_codes`], [`merge_files`], [`rejoin_files`], [`diff_files`] and [`join_listings`].
+//! [`show_file`], [`convert_file`], [`subset_file`], [`subset_file_with_codes`], [`merge_files`], [`rejoin_files`], [`diff_files`] and [`join_listings`];
+//! and over documents [`pool_files`], [`level_files`], [`list_fonts`] and [`extract_file`].
 //!
 //! ```text
 //! let mut text = Vec::new(alloc);
@@ -18,8 +19,11 @@
 mod code_lists;
 mod counting;
 mod diffs;
+mod document_words;
 mod documents;
+mod extracts;
 mod faults;
+mod font_places;
 mod fonts;
 mod full;
 pub mod laws;
@@ -42,11 +46,13 @@ mod writing;
 pub use code_lists::read_codes;
 pub use counting::Counted;
 pub use diffs::{diff_files, run_diff};
-pub use documents::run_pool;
+pub use documents::{Pooled, pool_files, run_pool};
+pub use extracts::{extract_file, run_extract};
 pub use faults::{FilesRefusal, Name, Reason, RunFault, status};
+pub use font_places::{list_fonts, run_fonts};
 pub use fonts::{check_file, convert_file, run_check, run_check_of, run_convert};
 pub use full::{list_file_full, run_list_full};
-pub use levels::{Levelled, run_level};
+pub use levels::{Levelled, level_files, run_level};
 pub use list::{list_file, run_list};
 pub use listings::{join_listings, run_join};
 pub use mends::{list_mends, mend_file, run_mend};

@@ -6,6 +6,7 @@ mod documents;
 mod drawings;
 mod engines;
 mod failing_merges;
+mod fonts;
 mod growths;
 mod large;
 mod lists;

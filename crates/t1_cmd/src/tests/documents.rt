@@ -2,11 +2,59 @@
 use super::growths::{subset_of_x, written};
 use super::subsets::subset;
 use super::{FINE, Feed, Plan, Sink, line_of, word};
-use crate::{Counted, Reason, RunFault, run_level, run_pool};
+use crate::{
+    Counted, FilesRefusal, Levelled, Pooled, Reason, RunFault, level_files, pool_files, run_level,
+    run_pool,
+};
 use std::alloc::{AllocError, Global};
 use std::io::ErrorKind;
 use std::test::Fail;
 use t1_tiny::PFA;
+
+/// What the call pools documents to, and behind it what is told.
+fn pooled_files(alloc: Global, documents: &[&[u8]]) -> Result<Vec<u8>, AllocError> {
+    match pool_files(alloc, documents) {
+        Ok(Pooled { mut text, kept }) => {
+            text.extend_from_slice(kept.as_slice())?;
+            Ok(text)
+        }
+        Err(refusal) => {
+            drop(refusal);
+            Err(AllocError)
+        }
+    }
+}
+
+/// Documents that were levelled, each behind a `|`, and behind them what is told.
+fn shown(alloc: Global, levelled: Levelled) -> Result<Vec<u8>, AllocError> {
+    let mut out = Vec::new(alloc);
+    for text in levelled.texts.as_slice() {
+        out.push(b'|')?;
+        out.extend_from_slice(text.as_slice())?;
+    }
+    out.extend_from_slice(levelled.kept.as_slice())?;
+    Ok(out)
+}
+
+/// What the call levels documents to.
+fn levelled_files(alloc: Global, documents: &[&[u8]]) -> Result<Vec<u8>, AllocError> {
+    match level_files(alloc, documents) {
+        Ok(levelled) => shown(alloc, levelled),
+        Err(refusal) => {
+            drop(refusal);
+            Err(AllocError)
+        }
+    }
+}
+
+/// Whether the calls make of documents what the engines make of them.
+fn files_are_alike(alloc: Global, documents: &[&[u8]]) -> Result<bool, AllocError> {
+    let ran = pooled(alloc, documents)?;
+    let called = pooled_files(alloc, documents)?;
+    let levels = levelled(alloc, documents)?;
+    let calls = levelled_files(alloc, documents)?;
+    Ok(ran.as_slice() == called.as_slice() && levels.as_slice() == calls.as_slice())
+}
 
 /// What is written of documents that are pooled, and behind it what is told; or the line of the refusal.
 fn pooled(alloc: Global, documents: &[&[u8]]) -> Result<Vec<u8>, AllocError> {
@@ -30,22 +78,14 @@ fn levelled(alloc: Global, documents: &[&[u8]]) -> Result<Vec<u8>, AllocError> {
     for document in documents {
         readers.push(Counted::new(*document))?;
     }
-    let mut out = Vec::new(alloc);
     match run_level(alloc, readers.as_mut_slice()) {
-        Ok(levelled) => {
-            for text in levelled.texts.as_slice() {
-                out.push(b'|')?;
-                out.extend_from_slice(text.as_slice())?;
-            }
-            out.extend_from_slice(levelled.kept.as_slice())?;
-            Ok(out)
-        }
+        Ok(levelled) => shown(alloc, levelled),
         Err(fault) => Ok(line_of(alloc, &Err(fault))),
     }
 }
 
 /// Texts, one behind the other.
-fn joined(alloc: Global, parts: &[&[u8]]) -> Result<Vec<u8>, AllocError> {
+pub fn joined(alloc: Global, parts: &[&[u8]]) -> Result<Vec<u8>, AllocError> {
     let mut text = Vec::new(alloc);
     for part in parts {
         text.extend_from_slice(part)?;
@@ -54,31 +94,31 @@ fn joined(alloc: Global, parts: &[&[u8]]) -> Result<Vec<u8>, AllocError> {
 }
 
 /// A document with a place for a font, and a line behind it that has no end.
-fn document(alloc: Global, font: &[u8]) -> Result<Vec<u8>, AllocError> {
+pub fn document(alloc: Global, font: &[u8]) -> Result<Vec<u8>, AllocError> {
     joined(alloc, &[BEGIN, font, END])
 }
 
-const BEGIN: &[u8] = b"%!PS\n%%BeginFont: Tiny\n";
+pub const BEGIN: &[u8] = b"%!PS\n%%BeginFont: Tiny\n";
 
 const END: &[u8] = b"{restore}if\n%%EndFont\nshowpage";
 
 const EMPTY: &[u8] = b"%!PS\n%%BeginFont: Tiny\n%%EndFont\nshowpage";
 
 /// The font text of Tiny.
-fn whole() -> &'static [u8] {
+pub fn whole() -> &'static [u8] {
     let font = PFA.as_slice();
     &font[..font.len() - 1]
 }
 
 /// The font text of the subset of Tiny over X.
-fn part(alloc: Global) -> Vec<u8> {
+pub fn part(alloc: Global) -> Vec<u8> {
     let mut cut = subset(alloc, PFA, &[b"X"]);
     cut.pop();
     cut
 }
 
 /// The font text of Tiny with another first byte of the first comment.
-fn other(alloc: Global) -> Result<Vec<u8>, AllocError> {
+pub fn other(alloc: Global) -> Result<Vec<u8>, AllocError> {
     let mut text = Vec::from_slice(alloc, whole())?;
     if let Some(byte) = text.as_mut_slice().get_mut(2) {
         *byte = b'?';
@@ -88,6 +128,8 @@ fn other(alloc: Global) -> Result<Vec<u8>, AllocError> {
 
 // meets run_pool Ok at 0, 1, 2, 3 documents
 // meets run_level Ok at 0, 1, 2, 3 documents
+// like run_pool: pool_files
+// like run_level: level_files
 #[test]
 fn documents_become_one(rt: HostRuntime) -> Result<(), Fail> {
     let alloc = rt.alloc();
@@ -113,6 +155,9 @@ fn documents_become_one(rt: HostRuntime) -> Result<(), Fail> {
         levelled(alloc, &[a])?.as_slice() == want.as_slice(),
         "one, levelled"
     );
+    assert!(rt; files_are_alike(alloc, &[])?, "none, as files");
+    assert!(rt; files_are_alike(alloc, &[a])?, "one, as a file");
+    assert!(rt; files_are_alike(alloc, &[a, b, a])?, "three, as files");
     Ok(())
 }
 
@@ -135,6 +180,7 @@ fn other_fonts_are_kept(rt: HostRuntime) -> Result<(), Fail> {
         levelled(alloc, &[a, c])?.as_slice() == want.as_slice(),
         "levelled"
     );
+    assert!(rt; files_are_alike(alloc, &[a, c])?, "as files");
     Ok(())
 }
 
@@ -145,17 +191,20 @@ fn are_many(alloc: Global, count: usize) -> Result<bool, AllocError> {
     for _ in 0..count {
         documents.push(text.as_slice())?;
     }
+    let alike = files_are_alike(alloc, documents.as_slice())?;
     let pooled = pooled(alloc, documents.as_slice())?;
     let levelled = levelled(alloc, documents.as_slice())?;
     let rest = count
         .saturating_sub(1)
         .saturating_mul(EMPTY.len().saturating_add(1));
     let all = count.saturating_mul(text.len().saturating_add(1));
-    Ok(pooled.len() == text.len().saturating_add(rest) && levelled.len() == all)
+    Ok(alike && pooled.len() == text.len().saturating_add(rest) && levelled.len() == all)
 }
 
 // meets run_pool Ok at 300 documents
 // meets run_level Ok at 300 documents
+// like run_pool: pool_files
+// like run_level: level_files
 #[test]
 fn many_documents(rt: HostRuntime) -> Result<(), Fail> {
     assert!(rt; are_many(rt.alloc(), 300)?);
@@ -228,6 +277,42 @@ fn level_to(alloc: Global, a: &[u8], b: &[u8], want: &[u8]) -> Result<bool, Allo
     }
 }
 
+/// Whether the calls pool two documents to this text, and level them to that one, each.
+fn files_become(
+    alloc: Global,
+    documents: &[&[u8]],
+    pooled: &[u8],
+    levelled: &[u8],
+) -> Result<bool, AllocError> {
+    let one = of_call(pool_files(alloc, documents))?;
+    let each = of_call(level_files(alloc, documents))?;
+    let (Some(one), Some(each)) = (one, each) else {
+        return Ok(false);
+    };
+    let mut right = one.text.as_slice() == pooled && one.kept.is_empty();
+    for text in each.texts.as_slice() {
+        right = right && text.as_slice() == levelled;
+    }
+    Ok(right && each.kept.is_empty())
+}
+
+/// What a call answers, if it refuses nothing; want of memory if it was refused.
+fn of_call<T: Drop>(answer: Result<T, FilesRefusal>) -> Result<Option<T>, AllocError> {
+    match answer {
+        Ok(value) => Ok(Some(value)),
+        Err(
+            FilesRefusal {
+                place: None,
+                reason: Reason::Memory,
+            },
+        ) => Err(AllocError),
+        Err(refusal) => {
+            drop(refusal);
+            Ok(None)
+        }
+    }
+}
+
 /// Whether a document with a part of a font and one with the whole are pooled, and levelled.
 fn become_one(alloc: Global) -> Result<bool, AllocError> {
     let Some(mut cut) = subset_of_x(alloc)? else {
@@ -238,7 +323,8 @@ fn become_one(alloc: Global) -> Result<bool, AllocError> {
     let b = document(alloc, whole())?;
     let (a, b) = (a.as_slice(), b.as_slice());
     let want = joined(alloc, &[b, b"\n", EMPTY])?;
-    Ok(pool_to(alloc, a, b, want.as_slice())? && level_to(alloc, a, b, b)?)
+    let files = files_become(alloc, &[a, b], want.as_slice(), b)?;
+    Ok(files && pool_to(alloc, a, b, want.as_slice())? && level_to(alloc, a, b, b)?)
 }
 
 #[test]

@@ -6,8 +6,9 @@ use super::engines::{ENGINES, answers, made, run};
 use super::lists::{LISTS, listed, made_of, refused_place, run_list_of};
 use super::word;
 use crate::{
-    Counted, FILE_LIMIT, FilesRefusal, Reason, RunFault, diff_files, join_listings, read_all,
-    run_diff, run_join, run_level, run_pool,
+    Counted, FILE_LIMIT, FilesRefusal, Reason, RunFault, diff_files, extract_file, join_listings,
+    level_files, list_fonts, pool_files, read_all, run_diff, run_extract, run_fonts, run_join,
+    run_level, run_pool,
 };
 use std::alloc::{AllocError, Global};
 use std::io;
@@ -253,17 +254,28 @@ fn compared_zeros(alloc: Global, count: usize) -> &'static str {
     word
 }
 
-/// How documents of so many zeros are pooled, or levelled, as a word.
-fn zeros_as_documents(alloc: Global, left: usize, right: usize, level: bool) -> &'static str {
+/// An engine over documents.
+#[derive(Clone, Copy)]
+enum Engine {
+    Pool,
+    Level,
+    Fonts,
+    Extract,
+}
+
+/// How an engine over documents of so many zeros ends, as a word.
+fn zeros_as_documents(alloc: Global, left: usize, right: usize, engine: Engine) -> &'static str {
     let mut readers = [
         Counted::new(Zeros { left }),
         Counted::new(Zeros { left: right }),
     ];
     let mut out = Vec::new(alloc);
-    let ended = if level {
-        run_level(alloc, &mut readers).map(|_| ())
-    } else {
-        run_pool(alloc, &mut readers, &mut Counted::new(&mut out)).map(|_| ())
+    let mut writer = Counted::new(&mut out);
+    let ended = match engine {
+        Engine::Pool => run_pool(alloc, &mut readers, &mut writer).map(|_| ()),
+        Engine::Level => run_level(alloc, &mut readers).map(|_| ()),
+        Engine::Fonts => run_fonts(alloc, &[], &mut readers, &mut writer),
+        Engine::Extract => run_extract(alloc, b"Tiny", &mut readers, &mut writer),
     };
     let word = if is_too_long(&ended) {
         "too long"
@@ -272,6 +284,30 @@ fn zeros_as_documents(alloc: Global, left: usize, right: usize, level: bool) -> 
     };
     drop(ended);
     word
+}
+
+/// Whether it is told that the document at this place is too long, or that all are.
+fn told_too_long<T: Drop>(answer: Result<T, FilesRefusal>, at: Option<usize>) -> bool {
+    match answer {
+        Ok(value) => {
+            drop(value);
+            false
+        }
+        Err(FilesRefusal { place, reason }) => {
+            let long = matches!(&reason, Reason::TooLong);
+            drop(reason);
+            long && place == at
+        }
+    }
+}
+
+/// Whether a document is too long for each call over documents, behind an empty one and before itself.
+fn is_too_long_a_document(alloc: Global, document: &[u8]) -> bool {
+    let documents = [b"".as_slice(), document, document];
+    told_too_long(pool_files(alloc, &documents), Some(1))
+        && told_too_long(level_files(alloc, &documents), Some(1))
+        && told_too_long(list_fonts(alloc, &[], &documents), Some(1))
+        && told_too_long(extract_file(alloc, b"Tiny", &documents), Some(1))
 }
 
 /// How many bytes of so many zeros are read, if they are not too long.
@@ -329,18 +365,27 @@ fn files_over_the_limit(rt: HostRuntime) -> Result<(), Fail> {
 
 // meets run_pool TooLong at 268435457 bytes
 // meets run_level TooLong at 268435457 bytes
+// like run_pool: run_fonts, run_extract, pool_files, level_files, list_fonts, extract_file
 #[test]
 fn documents_over_the_limit(rt: HostRuntime) -> Result<(), Fail> {
     let alloc = rt.alloc();
-    assert_eq!(rt;
-        zeros_as_documents(alloc, 1, 268_435_457, false),
-        "too long"
-    );
-    assert_eq!(rt; zeros_as_documents(alloc, 268_435_457, 1, true), "too long");
-    assert_eq!(rt;
-        zeros_as_documents(alloc, 134_217_728, 134_217_728, false),
-        "too long"
-    );
-    assert_eq!(rt; zeros_as_documents(alloc, 1, 1, false), "ok");
+    const CASES: &[(usize, usize, Engine, &str)] = &[
+        (1, 268_435_457, Engine::Pool, "too long"),
+        (268_435_457, 1, Engine::Level, "too long"),
+        (134_217_728, 134_217_728, Engine::Pool, "too long"),
+        (1, 1, Engine::Pool, "ok"),
+        (1, 268_435_457, Engine::Fonts, "too long"),
+        (268_435_457, 1, Engine::Extract, "too long"),
+        (1, 1, Engine::Extract, "refused"),
+    ];
+    for &(left, right, engine, want) in CASES {
+        let word = zeros_as_documents(alloc, left, right, engine);
+        assert!(rt; word == want, "{left} {right}");
+    }
+    let mut zeros = Counted::new(Zeros { left: 268_435_457 });
+    let file = read_all(alloc, &mut zeros, 268_435_457)?;
+    assert!(rt; is_too_long_a_document(alloc, file.as_slice()));
+    let (half, _) = file.as_slice().split_at(134_217_728);
+    assert!(rt; told_too_long(pool_files(alloc, &[half, half]), None));
     Ok(())
 }

@@ -1,29 +1,9 @@
-use Rattle.std.proofs.Common.{◌≡◌, ℕ, List, map, Bor, Vec, sym, ap, subst, ◌∙◌}
 use Rattle.t1_cmd.specs.Mergers.{inputs_of}
-use Rattle.t1_cmd.specs.Documents.{text_input, places_of_all, LevelsTo, TellsKept}
-use Rattle.t1_cmd.proofs.RunLemmas.{values_have}
+use Rattle.t1_cmd.specs.Documents.{text_input}
+use Rattle.t1_cmd.proofs.LevelLemmas.{succeeds_where_known}
 use Rattle.t1_cmd.proofs.levels.run_level.Goals as goal
 
--- documents that were lent
-abbrev values : List (Bor (List ℕ)) → List (List ℕ)
-values ds = map (λ d. d.now) ds
-
--- documents that are owned
-abbrev owned : {Z : Type 0} → List (Vec ℕ Z) → List (List ℕ)
-owned ts = map (λ t. t.items) ts
-
-pub returns-clause-levels : goal.returns-clause-levels
-returns-clause-levels g c =
-    let inputs = inputs_of g.R.Read.remaining c.args.readers.now c.read_texts.new.readers in
-    let same = ap values c.as_slice-2.ensures.value ∙ (c.in_ok-documents.ensures ∙ ap owned c.as_slice.ensures.value) in
-    let out : List (List ℕ) = owned c.in_ok-levelled.levelled.texts.items in
-    values_have text_input (λ (ds : List (List ℕ)). LevelsTo ds out) inputs (owned c.in-Ok.texts.items) c.in-Ok.ensures.says
-    (subst (λ (ds : List (List ℕ)). LevelsTo ds out) same c.in_ok-levelled.ensures.levels)
-
-pub returns-clause-told : goal.returns-clause-told
-returns-clause-told g c =
-    let inputs = inputs_of g.R.Read.remaining c.args.readers.now c.read_texts.new.readers in
-    let same = ap values c.as_slice-2.ensures.value ∙ (c.in_ok-documents.ensures ∙ ap owned c.as_slice.ensures.value) in
-    let kept : List ℕ = c.in_ok-levelled.levelled.kept.items in
-    values_have text_input (λ (ds : List (List ℕ)). TellsKept (places_of_all ds) kept) inputs (owned c.in-Ok.texts.items) c.in-Ok.ensures.says
-    (subst (λ (ds : List (List ℕ)). TellsKept (places_of_all ds) kept) same c.in_ok-levelled.ensures.kept)
+pub returns-clause-succeeds : goal.returns-clause-succeeds
+returns-clause-succeeds g c =
+    succeeds_where_known text_input (inputs_of g.R.Read.remaining c.args.readers.now c.read_levelled.new.readers) c.read_levelled.result
+    c.read_levelled.ensures.stops
