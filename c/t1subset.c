@@ -1,5 +1,5 @@
-/* What libt1subset adds in C to the proved code: the heap that this code calls, the freeing of an answer, and the
- * version. No proof covers this file; what the proofs suppose of the heap stands at its functions. */
+/* What libt1subset adds in C to the proved code: the heap that this code calls, the freeing of an answer, the count of the
+ * answers of t1subset_level, and the version. No proof covers this file; what the proofs suppose of the heap stands at its functions. */
 #include "t1subset.h"
 
 #include <stdbool.h>
@@ -47,6 +47,13 @@ struct tried rattle_realloc(void *block, size_t kept, size_t size, size_t align)
 /* Frees what one of these two gave. */
 void rattle_dealloc(void *block) {
     resize(block, 0);
+}
+
+/* The proved call: it has the count of its answers, and a count that is not that of the documents is a bad call. */
+uint32_t level_answers(const t1subset_bytes *documents, size_t count, t1subset_answer *answers, size_t answers_count);
+
+uint32_t t1subset_level(const t1subset_bytes *documents, size_t count, t1subset_answer *answers) {
+    return level_answers(documents, count, answers, count);
 }
 
 void t1subset_use(const t1subset_heap *other) {

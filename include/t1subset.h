@@ -1,12 +1,13 @@
-/* libt1subset: Adobe Type 1 fonts (PFA, PFB or with a raw binary cipher), cut, merged, checked, listed and drawn.
+/* libt1subset: Adobe Type 1 fonts (PFA, PFB or with a raw binary cipher), cut, merged, checked, listed and drawn, also those
+ * that stand in PostScript documents.
  *
  * Every call takes whole files as bytes and answers a whole file or text as bytes: the same bytes that the program
  * t1subset writes for the same input. It returns T1SUBSET_OK and the result in answer->bytes, or the number of a
  * refusal and its text there ("no glyph Q", without a line feed), with what the refusal names in answer->detail and
  * answer->input. Any bytes are right as input: a call requires nothing of them, and it always returns.
  *
- * What the caller owes: pointers that point to as many bytes (or fonts, or names) as is said, which stay as they are
- * during the call and don't overlap the answer; a pointer may be NULL where its size or count is 0. The answer may hold
+ * What the caller owes: pointers that point to as many bytes (or fonts, names, documents, answers) as is said, which stay
+ * as they are during the call and don't overlap the answer; a pointer may be NULL where its size or count is 0. The answer may hold
  * anything before a call, since a call only writes it: free an earlier result first. Free every answer by
  * t1subset_free, whatever the call returned.
  *
@@ -65,6 +66,7 @@ enum t1subset_number {
     T1SUBSET_FILE_TOO_LONG = 3,         /* "file too long": it has more than 268,435,456 bytes */
     T1SUBSET_NO_GLYPH = 4,              /* "no glyph NAME": the first name that the font lacks */
     T1SUBSET_NO_CODE = 5,               /* "no code N": the first code for which the Encoding has no name; told before names */
+    T1SUBSET_NO_FONT = 6,               /* "no font NAME": no document has a font of this name */
 
     /* A file spells no font. answer->input is its place. Offsets count from 0: in the file for a segment, in the clear
      * text for the Encoding, else in the decrypted private text. */
@@ -162,6 +164,29 @@ uint32_t t1subset_diff(const uint8_t *first, size_t first_size, const uint8_t *s
 
 /* The join of two listings, texts of lines "S INDEX HEX" and "G NAME HEX". */
 uint32_t t1subset_join(const uint8_t *first, size_t first_size, const uint8_t *second, size_t second_size, t1subset_answer *answer);
+
+/* PostScript documents, one behind the other, with each font once. Where a font may stand says t1subset(1), under pool. Fonts
+ * of one name that are the same or rejoin become one font, which keeps the name: it stands at the first place of the name
+ * that is in no embedded document and at each place before, and later places are emptied. The fonts of any other name
+ * stay: t1subset_fonts says why fonts don't rejoin. Every other byte stays, and an LF stands between two documents where no line
+ * ends there. What a first place defines has to be in force at the later ones: a restore between them would take it away.
+ * The only refusals are T1SUBSET_MEMORY and T1SUBSET_FILE_TOO_LONG, of a document, or of all together (input -1). */
+uint32_t t1subset_pool(const t1subset_bytes *documents, size_t count, t1subset_answer *answer);
+
+/* Documents in which each place of a name has the joined font, so that any of them may be printed without the others.
+ * answers points to count answers, one for each document, in their order; free each of them. If the call is refused, for
+ * memory or since a document is too long, the first has the refusal and the others hold nothing. If count is 0, nothing is
+ * written. */
+uint32_t t1subset_level(const t1subset_bytes *documents, size_t count, t1subset_answer *answers);
+
+/* A line for each place of a font in documents, "DOCUMENT: OFFSET NAME GLYPHS DEPTH joined", or behind DEPTH "kept: " and why
+ * the fonts of the name don't rejoin; and a last line "N places, N names, N kept". DOCUMENT is the place of the document, and
+ * OFFSET that of the font in it, both from 0; DEPTH is how many embedded documents are open there. */
+uint32_t t1subset_fonts(const t1subset_bytes *documents, size_t count, t1subset_answer *answer);
+
+/* The canonical PFA of the first font of this name in documents, mended as by t1subset_mend. A document that is too long is
+ * told before T1SUBSET_NO_FONT. */
+uint32_t t1subset_extract(const uint8_t *name, size_t name_size, const t1subset_bytes *documents, size_t count, t1subset_answer *answer);
 
 /* Frees what an answer holds, and leaves it as T1SUBSET_ANSWER; an answer that holds nothing may be freed again. The pointer
  * is not NULL. */

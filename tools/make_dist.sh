@@ -50,7 +50,7 @@ tar_file() {
     sed -e 's|^prefix=.*|prefix=${pcfiledir}/../..|' -e 's|^libdir=.*|libdir=${prefix}/lib|' \
         -e 's|^includedir=.*|includedir=${prefix}/include|' "$tree/lib/pkgconfig/t1subset.pc" > "$work/pc"
     cat "$work/pc" > "$tree/lib/pkgconfig/t1subset.pc"
-    cp LICENSE CHANGELOG.md examples/cut.c "$tree"
+    cp LICENSE CHANGELOG.md examples/cut.c examples/filter.c "$tree"
     sed "s|@LIBC@|$libc|" packaging/README > "$tree/README"
     install -m 755 packaging/install.sh "$tree/install.sh"
     for file in $(sources python) $(sources rust); do install -D -m 644 "$file" "$tree/$file"; done

@@ -1,7 +1,7 @@
 #!/usr/bin/env python3
 """Compares include/t1subset.h with the exports of the crate t1_c: calls, parameters, the answer's fields and every number.
 
-Nothing may stand on one side alone, but for the three functions that c/t1subset.c defines. The man page has to have the
+Nothing may stand on one side alone, but for the three functions that c/t1subset.c defines by itself. The man page has to have the
 same calls and numbers, and the header has to compile as C and C++ with all warnings.
 
 usage: tools/test_header.py
@@ -19,6 +19,8 @@ PAGE = os.path.join(TOP, "docs/t1subset.3")
 HEADER = os.path.join(TOP, "include/t1subset.h")
 CRATE = os.path.join(TOP, "crates/t1_c")
 IN_C = {"t1subset_free", "t1subset_use", "t1subset_version"}
+# The call that c/t1subset.c makes of an export of another name: that has the count of the answers, too.
+COUNTED = {"t1subset_level": "level_answers"}
 
 # What a type of Rattle is in C.
 PARAMETERS = {
@@ -27,6 +29,7 @@ PARAMETERS = {
     "&[&[u8]]": ["const t1subset_bytes *", "size_t"],
     "u32": ["uint32_t"],
     "&mut Answer": ["t1subset_answer *"],
+    "&mut [Answer]": ["t1subset_answer *", "size_t"],
 }
 FIELDS = {"u64": "uint64_t", "i64": "int64_t", "&'static [u8]": "t1subset_bytes"}
 # The parts of `shells differ in PART`, as the program prints them, and the names of their numbers.
@@ -85,7 +88,7 @@ class Crate:
             types = [word.split(":")[1].strip() for word in words.split(",") if word.strip()]
             self.calls[name] = [answer, *types]
         self.exported = sources.count("no_mangle")
-        answer = re.search(r"#\[repr\(C\)\]\n(?:#.*\n)*pub struct Answer \{(.*?)\n\}", sources, re.S)
+        answer = re.search(r"#\[repr\(C\)\]\n(?:#[^\n]*\n)*pub struct Answer \{(.*?)\n\}", sources, re.S)
         self.fields = re.findall(r"^ *pub (\w+): (.*?),$", answer[1], re.M) if answer else []
         specs = text_of(folder + "/specs/Numbers.antt")
         pattern = r"^abbrev pub (\w+) : ℕ\n\1 = (\d+)$"
@@ -108,6 +111,7 @@ def in_c(types):
 def faults(header, crate):
     """Where the header and the crate differ."""
     calls = {name: types for name, types in header.calls.items() if name not in IN_C}
+    calls.update((export, [*calls.pop(name, []), "size_t"]) for name, export in COUNTED.items())
     yield from differing("call", calls, {name: in_c(types) for name, types in crate.calls.items()})
     fields = {f"{at}: {name}": word for at, (word, name) in enumerate(header.structs["t1subset_answer"])}
     of_crate = {f"{at}: {name}": FIELDS.get(word, word) for at, (name, word) in enumerate(crate.fields)}
@@ -178,6 +182,8 @@ CHANGES = [
     ("uint32_t t1subset_list(const uint8_t *font, size_t size, ", "uint32_t t1subset_list(const uint8_t *font, ", True),
     ("uint32_t t1subset_check(", "int32_t t1subset_check(", True),
     ("size_t count, uint32_t form,", "uint32_t form, size_t count,", True),
+    ("size_t count, t1subset_answer *answers)", "t1subset_answer *answers, size_t count)", True),
+    ("uint32_t t1subset_level(", "uint32_t t1subset_levels(", True),
 ]
 
 

@@ -3,7 +3,8 @@
 
 The words of the program run over the library (c/tests/words.c), and the status, what is printed and the files are
 compared with the program's, on the rows of tools/program_rows.py, on files that are refused, and on fonts that are
-installed here. In the end a library that lies has to be found out.
+installed here. The print filter of examples/ has to pool jobs as the program does. In the end a library that lies has to
+be found out.
 
 usage: tools/test_library.py [--lib FOLDER] [--program PROGRAM] [FONT...]
 Without names the library is made by tools/build_library.sh, the program is the one that `rt ci` leaves, and the fonts are
@@ -33,7 +34,7 @@ WARNINGS = ["-O1", "-g", "-Wall", "-Wextra", "-Wconversion", "-Wpedantic", "-Wsh
 IN_C = ["-std=c11", "-Wstrict-prototypes"]
 SANITIZERS = ["-fsanitize=address,undefined", "-fno-sanitize-recover=all"]
 # Numbers that no word over the library answers: growths.c and edges.c meet them.
-ELSEWHERE = {"ok", "memory", "bad_call", "file_too_long", "nothing_to_merge"}
+ELSEWHERE = {"ok", "memory", "bad_call", "file_too_long", "no_font", "nothing_to_merge"}
 # Options that no call has.
 OWN_OPTIONS = {"--names", "--explain", "--full"}
 
@@ -66,12 +67,10 @@ class Library:
 
 def library_rows(given):
     """The rows that a library can be held to. Status 2 is a fault of the command line, and 3 of opening files, which are the
-    program's own; so are its help and its version, files of names, and `check` of several files."""
+    program's own; so are its help and its version, files of names, `check` of several files, and the word that writes documents into a folder."""
     rows = [row for row in program_rows.all_rows(given) if row.status < 2 and row.out is not program_rows.SOME]
     rows = [row for row in rows if not OWN_OPTIONS.intersection(word.split("=")[0] for word in row.words if isinstance(word, str))]
-    rows = [row for row in rows if row.words[0] != "check" or len(row.words) == 2]
-    # The library has no call for documents.
-    rows = [row for row in rows if row.words[0] != "pool"]
+    rows = [row for row in rows if row.words[0] != "level" and (row.words[0] != "check" or len(row.words) == 2)]
     return [row for row in rows if not row.words[0].startswith("--")]
 
 
@@ -84,6 +83,50 @@ def run_rows(words):
         if fault:
             return f"{row.words}: {fault}"
     return len(rows)
+
+
+# The words of a job, and one of more bytes than a file may have.
+JOB = ("7", "me", "title", "1", "")
+TOO_LONG = bytes(268435457)
+
+
+class Filter:
+    """The print filter of examples/, as CUPS calls it."""
+
+    def __init__(self, library):
+        self.path = os.path.join(library.work, "filter")
+        source = os.path.join(TOP, "examples/filter.c")
+        ran([library.cc, "-std=c99", *WARNINGS, "-I", os.path.join(TOP, "include"), source, "-o", self.path, *library.static])
+
+    def wrong(self, want, *file, job=b"", words=JOB):
+        """What is wrong with a run of it: its status, what it writes, and the word before what it says; or None."""
+        done = subprocess.run([self.path, *words, *file], input=job, capture_output=True, timeout=120)
+        found = (done.returncode, done.stdout, done.stderr.split(b" ")[0])
+        whole = done.stderr.count(b"\n") == 1 and done.stderr.endswith(b"\n")
+        return None if found == want and whole else f"the print filter: {found!r:.200}, {done.stderr!r:.200}"
+
+    def to_full_disk(self):
+        with open("/dev/full", "wb") as out:
+            done = subprocess.run([self.path, *JOB], input=b"showpage\n", stdout=out, stderr=subprocess.PIPE, timeout=60)
+        return None if done.returncode == 1 and b"ERROR: " in done.stderr else f"the print filter on a full disk: {done!r}"
+
+
+def print_filter(library, program, folder):
+    """The print filter pools jobs as the program does, from standard input and from a file; what is wrong with it, or None."""
+    here = Filter(library)
+    given = program_rows.files()
+    jobs = [given["one.ps"] + given["two.ps"], given["one.ps"] + given["other.ps"], b"", b"showpage\n"]
+    jobs += [jobs[0] + b"%" * (size - len(jobs[0])) for size in (65535, 65536, 65537, 131072, 1000000)]
+    faults = []
+    for job in jobs:
+        path = put(job, folder, "job.ps")
+        ran([program, "pool", os.path.join(folder, "out.ps"), path])
+        pooled = (0, bytes_of(folder, "out.ps"), b"INFO:")
+        faults += [here.wrong(pooled, job=job), here.wrong(pooled, path, job=b"another job")]
+    failed = (1, b"", b"ERROR:")
+    faults += [here.wrong(failed, os.path.join(folder, "absent")), here.wrong(failed, folder), here.wrong(failed, words=("7", "me"))]
+    faults += [here.wrong((0, TOO_LONG, b"INFO:"), job=TOO_LONG), here.to_full_disk()]
+    return next(filter(None, faults), None)
 
 
 class Pair:
@@ -325,6 +368,9 @@ def test(folder, program, fonts, work):
         numbers = Numbers(text)
         met = refusals(pair, numbers)
         calls = run_fonts(pair, fonts)
+        fault = print_filter(library, program, room)
+        if fault:
+            sys.exit(fault)
     found_out(library, words, program, numbers)
     test_install.test(folder, program, work)
     other_languages(library, program)

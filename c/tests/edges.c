@@ -1,5 +1,5 @@
-/* Calls at their edges: NULL with size 0 in each place, forms that there are not, no fonts, a file that is too long, nothing
- * to mend, and answers that are freed twice. usage: edges FONT    the canonical PFA of a font */
+/* Calls at their edges: NULL with size 0 in each place, forms that there are not, no fonts, no documents, files that are too
+ * long, nothing to mend, and answers that are freed twice. usage: edges FONT    the canonical PFA of a font */
 #include "t1subset.h"
 
 #include <stdio.h>
@@ -58,6 +58,44 @@ static void no_bytes(t1subset_bytes font) {
     EXPECT(t1subset_join(NULL, 0, (const uint8_t *) "S 0 0B\n", 7, &answer), T1SUBSET_OK, -1, "S 0 0b\n");
 }
 
+/* Documents without fonts, which stay as they are. */
+static void no_documents(t1subset_bytes font) {
+    const t1subset_bytes two[] = {font, {NULL, 0}};
+    EXPECT(t1subset_pool(NULL, 0, &answer), T1SUBSET_OK, -1, "");
+    EXPECT(t1subset_pool(two + 1, 1, &answer), T1SUBSET_OK, -1, "");
+    EXPECT(t1subset_pool(two, 2, &answer), T1SUBSET_OK, -1, (const char *) font.data);
+    EXPECT(t1subset_fonts(NULL, 0, &answer), T1SUBSET_OK, -1, "0 places, 0 names, 0 kept\n");
+    EXPECT(t1subset_fonts(two, 2, &answer), T1SUBSET_OK, -1, "0 places, 0 names, 0 kept\n");
+    EXPECT(t1subset_extract(NULL, 0, NULL, 0, &answer), T1SUBSET_NO_FONT, -1, "no font ");
+    EXPECT(t1subset_extract((const uint8_t *) "Tiny", 4, two, 2, &answer), T1SUBSET_NO_FONT, -1, "no font Tiny");
+}
+
+/* A call that levels two documents has returned number; wanted are its number, and the place and the texts of both answers. */
+static void expect_both(uint32_t number, uint32_t wanted, int64_t input, t1subset_answer *both, const char *first, const char *second) {
+    if (number != wanted) {
+        printf("t1subset_level: number %u\n", number);
+        faults++;
+    }
+    answer = both[0];
+    expect("the first answer of t1subset_level", 0, 0, input, first);
+    answer = both[1];
+    expect("the second answer of t1subset_level", 0, 0, -1, second);
+    memset(both, 0xff, 2 * sizeof *both);
+}
+
+static void levels(t1subset_bytes font, uint8_t *too_long) {
+    const t1subset_bytes two[] = {font, {NULL, 0}}, long_one[] = {font, {too_long, TOO_LONG}};
+    t1subset_answer both[2];
+    memset(both, 0xff, sizeof both);
+    expect_both(t1subset_level(two, 2, both), T1SUBSET_OK, -1, both, (const char *) font.data, "");
+    EXPECT(t1subset_level(two, 1, &answer), T1SUBSET_OK, -1, (const char *) font.data);
+    if (t1subset_level(NULL, 0, NULL) || t1subset_level(two, 0, both) || both[0].detail != UINT64_MAX) {
+        puts("t1subset_level of no documents is refused, or writes an answer");
+        faults++;
+    }
+    if (too_long) expect_both(t1subset_level(long_one, 2, both), T1SUBSET_FILE_TOO_LONG, 1, both, "file too long", "");
+}
+
 static void no_forms(t1subset_bytes font) {
     const uint32_t forms[] = {2, 0x100, 0x10000, 0xffffffff};
     for (size_t at = 0; at < sizeof forms / sizeof *forms; at++) {
@@ -87,22 +125,29 @@ static void too_long(t1subset_bytes font) {
         fputs("no memory for a file that is too long: left out\n", stderr);
         return;
     }
-    const t1subset_bytes two[] = {font, {data, TOO_LONG}};
+    const t1subset_bytes two[] = {font, {data, TOO_LONG}}, together[] = {font, {data, TOO_LONG - 1}};
     EXPECT(t1subset_check(data, TOO_LONG, &answer), T1SUBSET_FILE_TOO_LONG, 0, "file too long");
     EXPECT(t1subset_mends(data, TOO_LONG, &answer), T1SUBSET_FILE_TOO_LONG, 0, "file too long");
     EXPECT(t1subset_merge(two, 2, T1SUBSET_PFA, &answer), T1SUBSET_FILE_TOO_LONG, 1, "file too long");
     EXPECT(t1subset_join(NULL, 0, data, TOO_LONG, &answer), T1SUBSET_FILE_TOO_LONG, 1, "file too long");
+    EXPECT(t1subset_pool(two, 2, &answer), T1SUBSET_FILE_TOO_LONG, 1, "file too long");
+    EXPECT(t1subset_pool(together, 2, &answer), T1SUBSET_FILE_TOO_LONG, -1, "file too long");
+    EXPECT(t1subset_fonts(two, 2, &answer), T1SUBSET_FILE_TOO_LONG, 1, "file too long");
+    EXPECT(t1subset_extract(NULL, 0, two, 2, &answer), T1SUBSET_FILE_TOO_LONG, 1, "file too long");
+    levels(font, data);
     free(data);
 }
 
 int main(int count, char **words) {
-    static uint8_t room[1 << 20];
+    static uint8_t room[(1 << 20) + 1];
     FILE *file = count == 2 ? fopen(words[1], "rb") : NULL;
     if (!file) return 2;
-    const t1subset_bytes font = {room, fread(room, 1, sizeof room, file)};
+    const t1subset_bytes font = {room, fread(room, 1, sizeof room - 1, file)};
     fclose(file);
     memset(&answer, 0xff, sizeof answer);
     no_bytes(font);
+    no_documents(font);
+    levels(font, NULL);
     no_forms(font);
     mends(font);
     too_long(font);

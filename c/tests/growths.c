@@ -1,6 +1,6 @@
 /* Refuses one growth after another in each call. A call answers MEMORY and holds nothing, also nothing of what the answer
  * had before; or it answers as with memory. No block is left.
- * usage: growths FONT FIRST SECOND NAME NAME    a PFA, two listings that join, and two glyphs of the font */
+ * usage: growths FONT FIRST SECOND NAME NAME    the PFA of Tiny, two listings that join, and two glyphs of the font */
 #include "t1subset.h"
 
 #include <stdio.h>
@@ -25,7 +25,7 @@ static void *resize(void *user, void *block, size_t size) {
     return given;
 }
 
-static t1subset_bytes font, commented, listings[2], names[3], parts[3];
+static t1subset_bytes font, commented, listings[2], names[3], parts[3], documents[2];
 
 static uint32_t check(t1subset_answer *to) { return t1subset_check(font.data, font.size, to); }
 static uint32_t list(t1subset_answer *to) { return t1subset_list(font.data, font.size, to); }
@@ -44,11 +44,28 @@ static uint32_t join(t1subset_answer *to) {
 static uint32_t subset_codes(t1subset_answer *to) {
     return t1subset_subset_codes(font.data, font.size, names, 2, (const uint8_t *) "AB", 2, T1SUBSET_PFA, to);
 }
+static uint32_t pool(t1subset_answer *to) { return t1subset_pool(documents, 2, to); }
+static uint32_t fonts(t1subset_answer *to) { return t1subset_fonts(documents, 2, to); }
+static uint32_t extract(t1subset_answer *to) { return t1subset_extract((const uint8_t *) "Tiny", 4, documents, 2, to); }
+/* Two documents with one font: if the second has another answer than the first, or holds something where the first is refused,
+ * that is no number of the library. */
+static uint32_t level(t1subset_answer *to) {
+    t1subset_answer both[2];
+    memset(both, 0xa5, sizeof both);
+    const uint32_t number = t1subset_level(documents, 2, both);
+    const size_t wanted = number ? 0 : both[0].bytes.size;
+    const int right = both[1].detail == 0 && both[1].input == -1 && both[1].bytes.size == wanted
+        && (!wanted || !memcmp(both[0].bytes.data, both[1].bytes.data, wanted));
+    t1subset_free(both + 1);
+    *to = both[0];
+    return right ? number : UINT32_MAX;
+}
 /* Refusals, whose texts grow too. */
 static uint32_t no_glyph(t1subset_answer *to) { return t1subset_subset(font.data, font.size, names, 3, T1SUBSET_PFA, to); }
 static uint32_t no_code(t1subset_answer *to) {
     return t1subset_subset_codes(font.data, font.size, names, 2, (const uint8_t *) "AB\xff", 3, T1SUBSET_PFA, to);
 }
+static uint32_t no_place(t1subset_answer *to) { return t1subset_extract((const uint8_t *) "Tony", 4, documents, 2, to); }
 static uint32_t no_font(t1subset_answer *to) { return t1subset_merge(parts, 3, T1SUBSET_PFA, to); }
 
 static const struct {
@@ -60,6 +77,8 @@ static const struct {
     {"convert", convert, T1SUBSET_OK}, {"mend", mend, T1SUBSET_OK}, {"mends", mends, T1SUBSET_OK}, {"subset", subset, T1SUBSET_OK},
     {"subset of codes", subset_codes, T1SUBSET_OK},
     {"merge", merge, T1SUBSET_OK}, {"rejoin", rejoin, T1SUBSET_OK}, {"diff", diff, T1SUBSET_OK}, {"join", join, T1SUBSET_OK},
+    {"pool", pool, T1SUBSET_OK}, {"level", level, T1SUBSET_OK}, {"fonts", fonts, T1SUBSET_OK}, {"extract", extract, T1SUBSET_OK},
+    {"extract of no font", no_place, T1SUBSET_NO_FONT},
     {"subset of no glyph", no_glyph, T1SUBSET_NO_GLYPH}, {"subset of no code", no_code, T1SUBSET_NO_CODE},
     {"merge of no font", no_font, T1SUBSET_NO_EEXEC},
 };
@@ -82,6 +101,17 @@ static t1subset_bytes with_comment(void) {
     if (!at) exit(2);
     const int size = snprintf(room, sizeof room, "%.*s/Encoding%%\n%s", (int) (at - text), text, at + 9);
     return (t1subset_bytes) {(const uint8_t *) room, (size_t) size};
+}
+
+/* A document with the subset of the font over one name. */
+static t1subset_bytes document(int name) {
+    static char room[2][1 << 20];
+    t1subset_answer cut;
+    if (t1subset_subset(font.data, font.size, names + name, 1, T1SUBSET_PFA, &cut)) exit(2);
+    const int size = snprintf(room[name], sizeof room[name], "%%!PS\n%%%%BeginFont: Tiny\n%.*s%%%%EndFont\nshowpage\n",
+        (int) cut.bytes.size, (const char *) cut.bytes.data);
+    t1subset_free(&cut);
+    return (t1subset_bytes) {(const uint8_t *) room[name], (size_t) size};
 }
 
 static int same(const t1subset_answer *one, const t1subset_answer *other) {
@@ -136,6 +166,7 @@ int main(int count, char **words) {
         parts[at] = halves[at].bytes;
     }
     parts[2] = names[2];
+    for (int at = 0; at < 2; at++) documents[at] = document(at);
     for (size_t at = 0; at < sizeof calls / sizeof *calls; at++) {
         long refusals = 0;
         const char *wrong = sweep(at, &refusals);

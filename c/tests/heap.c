@@ -1,4 +1,5 @@
-/* The functions of c/t1subset.c that the proved code calls, held to what the proofs suppose of them. No usage. */
+/* The functions of c/t1subset.c that the proved code calls, held to what the proofs suppose of them, and what t1subset_level
+ * passes on. No usage. */
 #include "../t1subset.c"
 
 #include <pthread.h>
@@ -96,6 +97,18 @@ static void hooked(void) {
     expect(noted.calls == 1, "without a heap of its own a thread uses malloc");
 }
 
+/* In place of the proved call. */
+uint32_t level_answers(const t1subset_bytes *documents, size_t count, t1subset_answer *answers, size_t answers_count) {
+    const bool right = count == 3 && answers_count == 3 && documents[2].size == 7 && answers[2].detail == 8;
+    return right ? 9 : 0;
+}
+
+static void levels(void) {
+    const t1subset_bytes documents[3] = {{NULL, 0}, {NULL, 0}, {(const uint8_t *) "seventh", 7}};
+    t1subset_answer answers[3] = {T1SUBSET_ANSWER, T1SUBSET_ANSWER, {8, -1, {NULL, 0}}};
+    expect(t1subset_level(documents, 3, answers) == 9, "documents and as many answers are passed on");
+}
+
 static void *in_another_thread(void *user) {
     (void) user;
     rattle_dealloc(rattle_alloc(1, 1).block);
@@ -118,5 +131,6 @@ int main(void) {
     refused();
     hooked();
     threads();
+    levels();
     return faults != 0;
 }

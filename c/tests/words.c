@@ -89,6 +89,8 @@ static uint32_t call(const char *word, const struct options *options, const t1su
     if (!strcmp(word, "merge")) return t1subset_merge(arguments, count, form, answer);
     if (!strcmp(word, "rejoin")) return t1subset_rejoin(arguments, count, form, answer);
     if (!strcmp(word, "diff")) return t1subset_diff(first.data, first.size, second.data, second.size, answer);
+    if (!strcmp(word, "pool")) return t1subset_pool(arguments, count, answer);
+    if (!strcmp(word, "fonts")) return t1subset_fonts(arguments, count, answer);
     if (!strcmp(word, "join")) return t1subset_join(first.data, first.size, second.data, second.size, answer);
     fail("no such word\n");
     return 0;
@@ -96,12 +98,15 @@ static uint32_t call(const char *word, const struct options *options, const t1su
 
 /* How many of the arguments behind a word are files, from the first on; and which of them is OUT, or 0. */
 static int files_of(const char *word, int count) {
-    if (!strcmp(word, "merge") || !strcmp(word, "rejoin") || !strcmp(word, "diff") || !strcmp(word, "join")) return count;
+    static const char *const several[] = {"merge", "rejoin", "diff", "join", "pool", "fonts"};
+    for (size_t at = 0; at < sizeof several / sizeof *several; at++) {
+        if (!strcmp(word, several[at])) return count;
+    }
     return 1;
 }
 
 static int out_of(const char *word) {
-    if (!strcmp(word, "merge") || !strcmp(word, "rejoin")) return 2;
+    if (!strcmp(word, "merge") || !strcmp(word, "rejoin") || !strcmp(word, "pool")) return 2;
     return !strcmp(word, "pfa") || !strcmp(word, "pfb") || !strcmp(word, "mend") || !strcmp(word, "subset") ? 3 : 0;
 }
 
@@ -123,11 +128,52 @@ static int write_to(const char *path, t1subset_bytes bytes) {
     return 0;
 }
 
+/* What the word fonts prints: the lines of t1subset_fonts, with the paths of the documents for their places. */
+static int print_places(t1subset_bytes lines, char **paths) {
+    const char *line = (const char *) lines.data, *const end = line + lines.size;
+    while (line < end) {
+        char *behind;
+        const unsigned long place = strtoul(line, &behind, 10);
+        const char *last = memchr(line, '\n', (size_t) (end - line)), *rest = *behind == ':' ? behind : line;
+        if (rest == behind) fputs(paths[place], stdout);
+        fwrite(rest, 1, (size_t) (last + 1 - rest), stdout);
+        line = last + 1;
+    }
+    return fflush(stdout) ? 3 : 0;
+}
+
 /* What the word mend says on standard error once the result is written. */
 static void say_mends(t1subset_bytes font) {
     t1subset_answer answer = T1SUBSET_ANSWER;
     if (t1subset_mends(font.data, font.size, &answer)) fail("the mends of a mended font are refused\n");
     fprintf(stderr, "%.*s", (int) answer.bytes.size, (const char *) answer.bytes.data);
+    t1subset_free(&answer);
+}
+
+/* Whether a name of this size stands in an earlier line of these. */
+static int told_before(const char *lines, const char *at, const char *name, size_t size) {
+    for (const char *line = lines; line < at; line = strchr(line, '\n') + 1) {
+        const char *other = strchr(strchr(line, ' ') + 1, ' ') + 1;
+        if (other < at && !strncmp(other, name, size) && other[size] == ' ') return 1;
+    }
+    return 0;
+}
+
+/* What the word pool says on standard error once the result is written: why the fonts of a name stay, by the lines of t1subset_fonts. */
+static void say_kept(const t1subset_bytes *documents, size_t count) {
+    t1subset_answer answer = T1SUBSET_ANSWER;
+    if (t1subset_fonts(documents, count, &answer)) fail("the fonts of pooled documents are refused\n");
+    char *lines = calloc(answer.bytes.size + 1, 1);
+    if (!lines) fail("failed: read\n");
+    memcpy(lines, answer.bytes.data, answer.bytes.size);
+    for (char *line = lines, *end; (end = strchr(line, '\n')); line = end + 1) {
+        const char *name = strchr(strchr(line, ' ') + 1, ' ') + 1, *why = strstr(line, " kept: ");
+        const size_t size = strcspn(name, " \n");
+        if (why && why < end && !told_before(lines, line, name, size)) {
+            fprintf(stderr, "kept %.*s: %.*s\n", (int) size, name, (int) (end - why - 7), why + 7);
+        }
+    }
+    free(lines);
     t1subset_free(&answer);
 }
 
@@ -148,9 +194,10 @@ int main(int count, char **words) {
     t1subset_answer answer = T1SUBSET_ANSWER;
     const uint32_t number = call(word, &options, arguments, taken, &answer);
     tell(number, &answer);
-    int status = number ? 1 : write_to(out ? words[out] : NULL, answer.bytes);
+    int status = number ? 1 : strcmp(word, "fonts") ? write_to(out ? words[out] : NULL, answer.bytes) : print_places(answer.bytes, words + 2);
     if (number) fprintf(stderr, "refused: %.*s\n", (int) answer.bytes.size, (const char *) answer.bytes.data);
     else if (!status && !strcmp(word, "mend")) say_mends(arguments[0]);
+    else if (!status && !strcmp(word, "pool")) say_kept(arguments, taken);
     t1subset_free(&answer);
     for (size_t at = 0; at < taken && at < (size_t) files; at++) free((void *) arguments[at].data);
     free(arguments);

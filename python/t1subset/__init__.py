@@ -1,4 +1,5 @@
-"""Adobe Type 1 fonts (PFA, PFB or with a raw binary cipher), cut, merged, checked, listed and drawn by libt1subset.
+"""Adobe Type 1 fonts (PFA, PFB or with a raw binary cipher), cut, merged, checked, listed and drawn by libt1subset,
+also those that stand in PostScript documents.
 
 >>> from pathlib import Path
 >>> font = Path("font.pfb").read_bytes()
@@ -29,18 +30,22 @@ from ._calls import (
     check,
     convert,
     diff,
+    extract,
+    fonts,
     join,
+    level,
     list,
     mend,
     mends,
     merge,
+    pool,
     rejoin,
     show,
     subset,
     version,
 )
 from ._refusals import Number, Part, Refused
-from ._texts import Checked, Drawn, DrawnPart, Listed, Mark, Mend, Point, Undrawn
+from ._texts import Checked, Drawn, DrawnPart, Listed, Mark, Mend, Placed, Point, Undrawn
 
 __version__ = "0.1.0"
 
@@ -57,17 +62,22 @@ __all__ = [
     "Name",
     "Number",
     "Part",
+    "Placed",
     "Point",
     "Refused",
     "Undrawn",
     "check",
     "convert",
     "diff",
+    "extract",
+    "fonts",
     "join",
+    "level",
     "list",
     "mend",
     "mends",
     "merge",
+    "pool",
     "rejoin",
     "show",
     "subset",

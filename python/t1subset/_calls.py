@@ -10,7 +10,7 @@ from typing import Any, Iterable, List, Literal, Tuple, Union
 from . import _texts
 from ._library import Answer, Given, library
 from ._refusals import Number, Refused
-from ._texts import Checked, Drawn, Listed, Mend, Undrawn
+from ._texts import Checked, Drawn, Listed, Mend, Placed, Undrawn
 
 
 class Form(enum.Enum):
@@ -138,6 +138,49 @@ def join(first: BytesLike, second: BytesLike) -> bytes:
     return _call(library.t1subset_join, *_file(first), *_file(second))
 
 
+def pool(documents: Iterable[BytesLike]) -> bytes:
+    """PostScript documents, one behind the other, with each font once. Where a font may stand says the man page
+    t1subset(1), under `pool`. What a first place defines has to be in force at the later ones: a `restore` between them
+    would take it away. The fonts of a name that don't rejoin stay: `fonts` says why.
+
+    >>> document = b"%!PS\\n%%BeginFont: Tiny\\n" + font + b"%%EndFont\\nshowpage\\n"
+    >>> pool([document, document]) == document + b"%!PS\\n%%BeginFont: Tiny\\n%%EndFont\\nshowpage\\n"
+    True
+    """
+    return _call(library.t1subset_pool, *_files(_several(documents, "documents")))
+
+
+def level(documents: Iterable[BytesLike]) -> List[bytes]:
+    """The documents, in each of which each place of a name has the joined font, so that any of them may be printed
+    without the others.
+
+    >>> some, other = (b"%%BeginFont: Tiny\\n" + subset(font, [name]) + b"%%EndFont\\n" for name in ("X", "Y"))
+    >>> both = b"%%BeginFont: Tiny\\n" + subset(font, ["X", "Y"]) + b"%%EndFont\\n"
+    >>> level([some, other]) == [both, both]
+    True
+    """
+    given, count = _files(_several(documents, "documents"))
+    return _answered(library.t1subset_level, (Answer * count)(), given, count)
+
+
+def fonts(documents: Iterable[BytesLike]) -> List[Placed]:
+    """The places of fonts in documents, in their order, and whether the fonts of each name rejoin.
+
+    >>> fonts([b"%!PS\\n", b"%!PS\\n%%BeginFont: Tiny\\n" + font + b"%%EndFont\\n"])
+    [Placed(document=1, offset=23, name='Tiny', glyphs=11, depth=0, reason=None)]
+    """
+    return _texts.placed(_text(library.t1subset_fonts, *_files(_several(documents, "documents"))))
+
+
+def extract(name: Name, documents: Iterable[BytesLike]) -> bytes:
+    """The canonical PFA of the first font of this name in documents, mended as by `mend`.
+
+    >>> extract("Tiny", [b"%!PS\\n%%BeginFont: Tiny\\n" + font + b"%%EndFont\\n"]) == font
+    True
+    """
+    return _call(library.t1subset_extract, *_file(_name(name)), *_files(_several(documents, "documents")))
+
+
 def version() -> Tuple[int, int, int]:
     """The version of the library that is loaded, such as (0, 1, 0)."""
     number: int = library.t1subset_version()
@@ -146,19 +189,24 @@ def version() -> Tuple[int, int, int]:
 
 def _call(function: Any, *arguments: Any) -> bytes:
     """What a call of the library answers."""
-    answer = Answer(0, -1, None, 0)
+    return _answered(function, (Answer * 1)(), *arguments)[0]
+
+
+def _answered(function: Any, answers: "ctypes.Array[Answer]", *arguments: Any) -> List[bytes]:
+    """What a call of the library answers in these answers. If it refuses, the first has the refusal."""
     try:
-        number: int = function(*arguments, ctypes.byref(answer))
-        answered = ctypes.string_at(answer.data, answer.size) if answer.size else b""
-        detail: int = answer.detail
-        place: int = answer.input
+        number: int = function(*arguments, answers)
+        texts = [ctypes.string_at(it.data, it.size) if it.size else b"" for it in answers]
+        told = [(it.detail, it.input) for it in answers]
     finally:
-        library.t1subset_free(ctypes.byref(answer))
+        for answer in answers:
+            library.t1subset_free(ctypes.byref(answer))
     if number == Number.MEMORY:
         raise MemoryError("libt1subset was refused memory")
     if number != Number.OK:
-        raise Refused(number, answered.decode("ascii"), detail, None if place < 0 else place)
-    return answered
+        detail, place = told[0]
+        raise Refused(number, texts[0].decode("ascii"), detail, None if place < 0 else place)
+    return texts
 
 
 def _text(function: Any, *arguments: Any) -> str:

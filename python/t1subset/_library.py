@@ -30,7 +30,7 @@ _FILE: List[Any] = [ctypes.c_char_p, ctypes.c_size_t]
 _LIST: List[Any] = [ctypes.POINTER(Given), ctypes.c_size_t]
 _FORM: List[Any] = [ctypes.c_uint32]
 
-# What stands before the answer in each call.
+# What stands before the answer in each call, or before the answers of t1subset_level.
 _CALLS: Dict[str, List[Any]] = {
     "t1subset_check": _FILE,
     "t1subset_list": _FILE,
@@ -44,6 +44,10 @@ _CALLS: Dict[str, List[Any]] = {
     "t1subset_rejoin": _LIST + _FORM,
     "t1subset_diff": _FILE + _FILE,
     "t1subset_join": _FILE + _FILE,
+    "t1subset_pool": _LIST,
+    "t1subset_level": _LIST,
+    "t1subset_fonts": _LIST,
+    "t1subset_extract": _FILE + _LIST,
 }
 
 

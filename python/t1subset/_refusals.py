@@ -20,6 +20,8 @@ class Number(enum.IntEnum):
     """no glyph NAME"""
     NO_CODE = 5
     """no code N, the first of the codes that has no name"""
+    NO_FONT = 6
+    """no font NAME, in documents"""
 
     BAD_SEGMENT = 10
     """bad segment at N"""
@@ -106,7 +108,7 @@ class Refused(ValueError):
         33 to 126, and the backslash, stands as a backslash, `x` and two digits.
     detail: what the number names: an offset, a code, an index, a line or a Part; else 0.
     input: the place, from 0, of the file that is refused for itself; None if none is, as for a glyph that the font
-        lacks or a conflict of two fonts.
+        lacks, a conflict of two fonts, or documents that are too long all together.
     """
 
     number: int

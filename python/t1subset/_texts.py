@@ -1,11 +1,11 @@
-"""What the library's texts say: `check`, `list`, `show` and `mends`."""
+"""What the library's texts say: `check`, `list`, `show`, `mends` and `fonts`."""
 
 from __future__ import annotations
 
 import re
 from dataclasses import dataclass
 from fractions import Fraction
-from typing import Dict, List, Mapping, NamedTuple, Tuple, Union
+from typing import Dict, List, Mapping, NamedTuple, Optional, Tuple, Union
 
 
 @dataclass(frozen=True)
@@ -94,8 +94,30 @@ class Mend(NamedTuple):
         return f"{self.what} at {self.at}"
 
 
+@dataclass(frozen=True)
+class Placed:
+    """A place of a font in documents.
+
+    document: the place of the document among those that were given, from 0.
+    offset: where the font begins in it, from 0.
+    name: the name of the font; as in `Listed`, a byte that is no UTF-8 stands as a lone surrogate.
+    glyphs: how many glyphs it has.
+    depth: how many embedded documents are open there.
+    reason: why the fonts of this name don't rejoin, so that they stay as they are; None if they are joined.
+    """
+
+    document: int
+    offset: int
+    name: str
+    glyphs: int
+    depth: int
+    reason: Optional[str]
+
+
 _CHECKED = re.compile(r"ok (\d+) glyphs, (\d+) subrs, weight (\d+)\n")
 _MEND = re.compile(r"(.+) at (\d+)")
+_PLACED = re.compile(r"(\d+): (\d+) (\S*) (\d+) (\d+) (?:joined|kept: (.+))")
+_COUNTED = re.compile(r"(\d+) places, \d+ names, \d+ kept")
 _ESCAPE = re.compile(rb"\\x([0-9a-f]{2})")
 
 
@@ -187,3 +209,20 @@ def _mend(line: str) -> Mend:
 def mended(text: str) -> List[Mend]:
     """What the text of `mends` says."""
     return [_mend(line) for line in text.splitlines()]
+
+
+def _place(line: str) -> Placed:
+    found = _PLACED.fullmatch(line)
+    if not found:
+        raise unknown(line)
+    document, offset, name, glyphs, depth, reason = found.groups()
+    return Placed(int(document), int(offset), name_of(name), int(glyphs), int(depth), reason)
+
+
+def placed(text: str) -> List[Placed]:
+    """What the text of `fonts` says."""
+    *lines, last = text.splitlines() or [""]
+    counted = _COUNTED.fullmatch(last)
+    if not counted or int(counted[1]) != len(lines):
+        raise unknown(last)
+    return [_place(line) for line in lines]

@@ -109,6 +109,11 @@ def made(subrs: List[bytes], glyphs: Dict[bytes, bytes], name: bytes = b"Made") 
     return head + cipher + TRAILER
 
 
+def document(font: bytes, name: bytes = b"Made") -> bytes:
+    """A document with a font, which begins at 19 bytes and those of the name."""
+    return b"%%!PS\n%%%%BeginFont: %s\n%s%%%%EndFont\n" % (name, font)
+
+
 @lru_cache(maxsize=None)
 def installed() -> List[Tuple[str, bytes]]:
     """The paths of some fonts of this machine, from all of its folders of fonts, and their bytes."""

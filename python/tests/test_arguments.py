@@ -20,6 +20,9 @@ from . import fonts
 from .fonts import PFA, PFB
 
 
+MADE = {b".notdef": b"\x0e"}
+
+
 class View(bytes):
     """Bytes that tell a wrong length."""
 
@@ -45,7 +48,7 @@ class Arguments(unittest.TestCase):
 
     def test_bytes_like_codes(self) -> None:
         both = t1subset.subset(PFA, ["X", "Y"])
-        for codes in (b"AB", bytearray(b"BA"), memoryview(b"-A-B")[1::2], array.array("B", b"ABA"), bytes(range(65, 67))):
+        for codes in (b"AB", bytearray(b"BA"), memoryview(b"-A-B")[1::2], array.array("B", b"ABA")):
             self.assertEqual(t1subset.subset(PFA, (), codes=codes), both)  # type: ignore[arg-type]
         self.assertRaises(TypeError, t1subset.subset, PFA, [], "pfa", b"AB")
 
@@ -107,6 +110,10 @@ class Arguments(unittest.TestCase):
             lambda it: t1subset.rejoin([it]),
             lambda it: t1subset.join(it, b""),
             lambda it: t1subset.join(b"", it),
+            lambda it: t1subset.pool([it]),
+            lambda it: t1subset.level([b"", it]),
+            lambda it: t1subset.fonts([it]),
+            lambda it: t1subset.extract("Tiny", [it]),
         ]
         for call in calls:
             for wrong in ("font.pfb", None, 5, [1, 2], object()):
@@ -115,6 +122,7 @@ class Arguments(unittest.TestCase):
         for name in (None, 5, ["X"]):
             self.assertRaises(TypeError, t1subset.show, PFA, name)
             self.assertRaises(TypeError, t1subset.subset, PFA, [name])
+            self.assertRaises(TypeError, t1subset.extract, name, [])
 
     def test_one_is_not_a_list(self) -> None:
         for names in ("XY", b"XY", None, 5):
@@ -122,6 +130,9 @@ class Arguments(unittest.TestCase):
         for given in (PFA, bytearray(PFA), memoryview(PFA), "XY", None):
             self.assertRaises(TypeError, t1subset.merge, given)
             self.assertRaises(TypeError, t1subset.rejoin, given)
+            for call in (t1subset.pool, t1subset.level, t1subset.fonts):
+                self.assertRaises(TypeError, call, given)
+            self.assertRaises(TypeError, t1subset.extract, "Tiny", given)
 
     def test_version(self) -> None:
         self.assertEqual(".".join(map(str, t1subset.version())), t1subset.__version__)
@@ -240,6 +251,14 @@ class Memory(unittest.TestCase):
         self.assertEqual(self.sweep(lambda: t1subset.merge([one, two])), two)
         self.assertEqual(self.sweep(lambda: t1subset.rejoin([two, one])), two)
         self.assertEqual(self.sweep(lambda: t1subset.join(b"S 5 0B\n", b"")), b"S 5 0b\n")
+
+    def test_each_call_over_documents(self) -> None:
+        bare = fonts.document(b"")
+        one, two = (fonts.document(fonts.made([], glyphs)) for glyphs in (MADE, {**MADE, b"A": b"\x0e"}))
+        self.assertEqual(self.sweep(lambda: t1subset.pool([one, two])), two + bare)
+        self.assertEqual(self.sweep(lambda: t1subset.level([one, two])), [two, two])
+        self.assertEqual([it.glyphs for it in self.sweep(lambda: t1subset.fonts([one, two]))], [1, 2])
+        self.assertEqual(self.sweep(lambda: t1subset.extract("Made", [one])), fonts.made([], MADE))
 
     def test_a_refusal(self) -> None:
         def refusal() -> str:

@@ -54,7 +54,8 @@ class Header(unittest.TestCase):
         self.assertEqual({it.name: _calls._FORMS[it] for it in t1subset.Form}, enumerated("t1subset_form"))
 
     def test_calls(self) -> None:
-        declared = set(re.findall(r"^uint32_t (t1subset_\w+)\([^;]*t1subset_answer \*answer\);", HEADER, re.MULTILINE))
+        pattern = r"^uint32_t (t1subset_\w+)\([^;]*t1subset_answer \*answers?\);"
+        declared = set(re.findall(pattern, HEADER, re.MULTILINE))
         self.assertEqual(set(_library._CALLS), declared)
         for name in declared:
             call = getattr(_library.library, name)

@@ -10,7 +10,7 @@ from typing import Any, Callable, List, Optional, Tuple
 
 import t1subset
 
-from . import fonts, left_out
+from . import fonts, left_out, test_documents
 from .test_laws import some_names
 
 
@@ -138,6 +138,15 @@ class Program(unittest.TestCase):
         self.same(["rejoin", "OUT", "IN0", "IN1"], cuts[:2], lambda: t1subset.rejoin(cuts[:2]))
         broken = [cuts[0], b"no font"]
         self.same(["rejoin", "OUT", "IN0", "IN1"], broken, lambda: t1subset.rejoin(broken))
+
+    def test_documents(self) -> None:
+        documents = [test_documents.SOME, test_documents.OTHER, *test_documents.UNLIKE, b"showpage"]
+        for one in documents:
+            for two in documents:
+                said, text = self.run_words(["pool", "OUT", "IN0", "IN1"], [one, two], True)
+                self.assertEqual(text, t1subset.pool([one, two]))
+                kept = {place.name: place.reason for place in t1subset.fonts([one, two]) if place.reason}
+                self.assertEqual(said, "".join(f"kept {shown(name)}: {reason}\n" for name, reason in kept.items()))
 
     def test_prefixes_of_tiny(self) -> None:
         for font in (fonts.PFA, fonts.PFB):

@@ -124,6 +124,19 @@ def rows_of_mergers() -> List[Row]:
     ]
 
 
+def rows_of_documents() -> List[Row]:
+    document, long, part = b"%!PS\nshowpage\n", bytes(LONG), bytes(LONG - 1)
+    return [
+        (Number.NO_FONT, "no font Tiny", 0, None, lambda: t1subset.extract("Tiny", [document, PFA])),
+        (Number.NO_FONT, r"no font \xc3\x89\x5c", 0, None, lambda: t1subset.extract("É\\", [])),
+        (Number.FILE_TOO_LONG, "file too long", 0, 1, lambda: t1subset.extract("Tiny", [document, long])),
+        (Number.FILE_TOO_LONG, "file too long", 0, 0, lambda: t1subset.fonts([long, document])),
+        (Number.FILE_TOO_LONG, "file too long", 0, 2, lambda: t1subset.level([document, document, long])),
+        (Number.FILE_TOO_LONG, "file too long", 0, 1, lambda: t1subset.pool([document, long])),
+        (Number.FILE_TOO_LONG, "file too long", 0, None, lambda: t1subset.pool([document, part])),
+    ]
+
+
 def rows_of_listings() -> List[Row]:
     line = b"S 5 0b\n"
     return [
@@ -134,6 +147,11 @@ def rows_of_listings() -> List[Row]:
         (Number.LISTED_GLYPH_DIFFERS, "glyph X differs", 0, None, lambda: t1subset.join(b"G X 0b\n", b"G X 0e\n")),
         (Number.FILE_TOO_LONG, "file too long", 0, 1, lambda: t1subset.join(line, bytes(LONG))),
     ]
+
+
+def all_rows() -> List[Row]:
+    fonts_alone = [*rows_of_files(), *rows_of_names(), *rows_of_parts(), *rows_of_mergers()]
+    return [*fonts_alone, *rows_of_listings(), *rows_of_documents()]
 
 
 class Refusals(unittest.TestCase):
@@ -162,8 +180,11 @@ class Refusals(unittest.TestCase):
     def test_listings(self) -> None:
         self.refused(rows_of_listings())
 
+    def test_documents(self) -> None:
+        self.refused(rows_of_documents())
+
     def test_each_number_and_part_is_met(self) -> None:
-        rows = [*rows_of_files(), *rows_of_names(), *rows_of_parts(), *rows_of_mergers(), *rows_of_listings()]
+        rows = all_rows()
         others = {Number.OK, Number.MEMORY, Number.BAD_CALL}
         self.assertEqual({row[0] for row in rows}, set(Number) - others)
         self.assertEqual({row[2] for row in rows if row[0] == Number.SHELLS_DIFFER}, set(Part))
@@ -172,7 +193,7 @@ class Refusals(unittest.TestCase):
         with open(fonts.TOP + "/include/t1subset.h", encoding="ascii") as file:
             header = file.read()
         texts = dict(re.findall(r'T1SUBSET_(\w+) = \d+,? +/\* "([^"]*)"', header))
-        rows = [*rows_of_files(), *rows_of_names(), *rows_of_parts(), *rows_of_mergers(), *rows_of_listings()]
+        rows = all_rows()
         for number, text, detail, _, _ in rows:
             with self.subTest(number=number):
                 form = re.sub(r"\b(NAME|PART)\b", ".+", re.escape(texts[number.name]))

@@ -74,6 +74,16 @@ extern "C" {
         second_size: usize,
         answer: *mut Answer,
     ) -> u32;
+    fn t1subset_pool(documents: *const Given<'_>, count: usize, answer: *mut Answer) -> u32;
+    fn t1subset_level(documents: *const Given<'_>, count: usize, answers: *mut Answer) -> u32;
+    fn t1subset_fonts(documents: *const Given<'_>, count: usize, answer: *mut Answer) -> u32;
+    fn t1subset_extract(
+        name: *const u8,
+        name_size: usize,
+        documents: *const Given<'_>,
+        count: usize,
+        answer: *mut Answer,
+    ) -> u32;
     fn t1subset_free(answer: *mut Answer);
     fn t1subset_version() -> u32;
 }
@@ -93,17 +103,22 @@ impl Answer {
         unsafe { slice::from_raw_parts(self.bytes.data, self.bytes.size) }
     }
 
-    /// The result or the refusal that a call with this answer returned.
-    fn result(&self, number: u32) -> Result<Vec<u8>, Refused> {
-        if number == 0 {
-            return Ok(self.bytes().to_vec());
-        }
-        Err(Refused {
+    /// The refusal of a call that returned this number.
+    fn refused(&self, number: u32) -> Refused {
+        Refused {
             number: Number::from(number),
             text: String::from_utf8_lossy(self.bytes()).into_owned(),
             detail: self.detail,
             input: usize::try_from(self.input).ok(),
-        })
+        }
+    }
+
+    /// The result or the refusal that a call with this answer returned.
+    fn result(&self, number: u32) -> Result<Vec<u8>, Refused> {
+        match number {
+            0 => Ok(self.bytes().to_vec()),
+            number => Err(self.refused(number)),
+        }
     }
 }
 
@@ -198,6 +213,35 @@ pub(crate) fn diff(first: &[u8], second: &[u8]) -> Result<Vec<u8>, Refused> {
 pub(crate) fn join(first: &[u8], second: &[u8]) -> Result<Vec<u8>, Refused> {
     // SAFETY: as in `check`, of two slices.
     call(|answer| unsafe { t1subset_join(first.as_ptr(), first.len(), second.as_ptr(), second.len(), answer) })
+}
+
+pub(crate) fn pool(documents: &[&[u8]]) -> Result<Vec<u8>, Refused> {
+    let documents = given(documents);
+    // SAFETY: as in `merge`.
+    call(|answer| unsafe { t1subset_pool(documents.as_ptr(), documents.len(), answer) })
+}
+
+pub(crate) fn level(documents: &[&[u8]]) -> Result<Vec<Vec<u8>>, Refused> {
+    let mut answers: Vec<Answer> = documents.iter().map(|_| Answer::new()).collect();
+    let documents = given(documents);
+    // SAFETY: as in `merge`; there are as many answers as documents.
+    let number = unsafe { t1subset_level(documents.as_ptr(), documents.len(), answers.as_mut_ptr()) };
+    if number != 0 {
+        return Err(answers.first().unwrap_or(&Answer::new()).refused(number));
+    }
+    Ok(answers.iter().map(|answer| answer.bytes().to_vec()).collect())
+}
+
+pub(crate) fn fonts(documents: &[&[u8]]) -> Result<Vec<u8>, Refused> {
+    let documents = given(documents);
+    // SAFETY: as in `merge`.
+    call(|answer| unsafe { t1subset_fonts(documents.as_ptr(), documents.len(), answer) })
+}
+
+pub(crate) fn extract(name: &[u8], documents: &[&[u8]]) -> Result<Vec<u8>, Refused> {
+    let documents = given(documents);
+    // SAFETY: as in `merge`, and the name is borrowed, too.
+    call(|answer| unsafe { t1subset_extract(name.as_ptr(), name.len(), documents.as_ptr(), documents.len(), answer) })
 }
 
 pub(crate) fn version() -> u32 {

@@ -1,4 +1,5 @@
-//! Adobe Type 1 fonts (PFA, PFB or with a raw binary cipher), cut, merged, checked, listed and drawn by libt1subset.
+//! Adobe Type 1 fonts (PFA, PFB or with a raw binary cipher), cut, merged, checked, listed and drawn by libt1subset, also
+//! those that stand in PostScript documents.
 //!
 //! ```
 //! use t1subset::{merge, subset, Form};
@@ -23,8 +24,8 @@
 //!
 //! # Panics
 //!
-//! [`check`], [`list`], [`show`] and [`mends`] read the library's texts, and panic at a text that libt1subset.so.0 doesn't
-//! write.
+//! [`check`], [`list`], [`show`], [`mends`] and [`fonts`] read the library's texts, and panic at a text that
+//! libt1subset.so.0 doesn't write.
 
 #![warn(missing_docs)]
 #![deny(unsafe_code)]
@@ -35,12 +36,14 @@ mod ffi;
 mod listed;
 mod mended;
 mod name;
+mod placed;
 mod refusal;
 
 pub use drawing::{Amount, Drawing, DrawnPart, Mark, Picture, Point};
 pub use listed::{Checked, Encoding, Listed};
 pub use mended::Mend;
 pub use name::Name;
+pub use placed::Placed;
 pub use refusal::{Number, Part, Refused};
 
 /// The form of the file that is written.
@@ -230,6 +233,50 @@ pub fn diff(first: &[u8], second: &[u8]) -> Result<Vec<u8>, Refused> {
 /// ```
 pub fn join(first: &[u8], second: &[u8]) -> Result<Vec<u8>, Refused> {
     ffi::join(first, second)
+}
+
+/// PostScript documents, one behind the other, with each font once. Where a font may stand says the man page t1subset(1),
+/// under `pool`. What a first place defines has to be in force at the later ones: a `restore` between them would take it
+/// away. The fonts of a name that don't rejoin stay: [`fonts`] says why.
+///
+/// ```
+/// # fn main() -> Result<(), Box<dyn std::error::Error>> {
+/// let font = std::fs::read_to_string("../examples/tiny.pfa")?;
+/// let document = |font: &str| format!("%!PS\n%%BeginFont: Tiny\n{font}%%EndFont\nshowpage\n");
+/// let twice = t1subset::pool(&[document(&font), document(&font)])?;
+/// assert_eq!(twice, [document(&font), document("")].concat().as_bytes());
+/// # Ok(())
+/// # }
+/// ```
+pub fn pool<D: AsRef<[u8]>>(documents: &[D]) -> Result<Vec<u8>, Refused> {
+    ffi::pool(&slices(documents))
+}
+
+/// The documents, in each of which each place of a name has the joined font, so that any of them may be printed without
+/// the others.
+pub fn level<D: AsRef<[u8]>>(documents: &[D]) -> Result<Vec<Vec<u8>>, Refused> {
+    ffi::level(&slices(documents))
+}
+
+/// The places of fonts in documents, in their order, and whether the fonts of each name rejoin.
+///
+/// ```
+/// # fn main() -> Result<(), Box<dyn std::error::Error>> {
+/// let font = std::fs::read_to_string("../examples/tiny.pfa")?;
+/// for place in t1subset::fonts(&["%!PS\n", &format!("%!PS\n%%BeginFont: Tiny\n{font}%%EndFont\n")])? {
+///     assert_eq!((place.document, place.offset, place.glyphs, place.reason), (1, 23, 11, None));
+///     assert_eq!(place.name, "Tiny");
+/// }
+/// # Ok(())
+/// # }
+/// ```
+pub fn fonts<D: AsRef<[u8]>>(documents: &[D]) -> Result<Vec<Placed>, Refused> {
+    ffi::fonts(&slices(documents)).map(|text| read(&text, Placed::read))
+}
+
+/// The canonical PFA of the first font of this name in documents, mended as by [`mend`].
+pub fn extract<N: AsRef<[u8]> + ?Sized, D: AsRef<[u8]>>(name: &N, documents: &[D]) -> Result<Vec<u8>, Refused> {
+    ffi::extract(name.as_ref(), &slices(documents))
 }
 
 /// The version of the library that is linked, as `T1SUBSET_VERSION`: 0x00MMmmpp.

@@ -45,6 +45,8 @@ numbers! {
     NoGlyph = 4,
     /// `no code N`: the first of the codes for which the Encoding has no name.
     NoCode = 5,
+    /// `no font NAME`: no document has a font of this name.
+    NoFont = 6,
     /// `bad segment at N`, an offset in the file.
     BadSegment = 10,
     /// `no eexec`: no Type 1 font program, perhaps TrueType or CFF.
@@ -151,8 +153,8 @@ pub struct Refused {
     pub text: String,
     /// What the number names: an offset, a code, an index, a line or a part; else 0.
     pub detail: u64,
-    /// The place, from 0, of the file that is refused for itself. `None` if none is, as for a glyph that the font lacks
-    /// or a conflict of two fonts.
+    /// The place, from 0, of the file that is refused for itself. `None` if none is, as for a glyph that the font lacks,
+    /// a conflict of two fonts, or documents that are too long all together.
     pub input: Option<usize>,
 }
 

@@ -2,9 +2,12 @@
 
 mod common;
 
-use common::{each_font, example, made, some_names, EMPTY, STUB};
+use common::{document, each_font, example, made, some_names, EMPTY, STUB};
 use std::thread;
-use t1subset::{check, convert, diff, join, list, mend, mends, merge, rejoin, show, subset, subset_codes, Form};
+use t1subset::{
+    check, convert, diff, extract, fonts, join, level, list, mend, mends, merge, pool, rejoin, show, subset,
+};
+use t1subset::{subset_codes, Form};
 
 #[test]
 fn subsets_merge_in_any_order_to_the_subset_of_all() {
@@ -109,6 +112,36 @@ fn fonts_that_merge_differ_in_nothing() {
     let head = made("Other", &stubs, &[(b".notdef", EMPTY)]);
     assert_eq!(diff(&head, &made("Small", &stubs, &[(b".notdef", EMPTY)])).unwrap(), b"shells differ in head\n");
     assert!(diff(&font, b"no font").is_err());
+}
+
+#[test]
+fn fonts_of_documents_join() {
+    let font = example("tiny.pfa");
+    let cut = |names: &[&str]| document("Tiny", &subset(&font, names, Form::Pfa).unwrap());
+    let (one, other, both, bare) = (cut(&["X"]), cut(&["Y"]), cut(&["X", "Y"]), document("Tiny", b""));
+    assert!(pool(&[&one, &other, &one]).unwrap() == [&both[..], &bare, &bare].concat());
+    assert!(pool(&[&one[..], b"showpage"]).unwrap() == [&one[..], b"showpage"].concat());
+    assert!(level(&[&one[..], b"", &other]).unwrap() == [&both[..], b"", &both]);
+    let none: [&[u8]; 0] = [];
+    assert_eq!((pool(&none), level(&none)), (Ok(Vec::new()), Ok(Vec::new())));
+    assert!(extract("Tiny", &[&b"%!PS\n"[..], &document("Tiny", &font), &one]).unwrap() == font);
+    let places = fonts(&[&one[..], b"", &other]).unwrap();
+    let places: Vec<_> = places.iter().map(|it| (it.document, it.offset, it.glyphs, it.depth, &it.reason)).collect();
+    assert_eq!(places, [(0, 23, 2, 0, &None), (2, 23, 2, 0, &None)]);
+}
+
+#[test]
+fn fonts_of_documents_that_stay() {
+    let calls_4 = &b"\x8b\xf7\x8e\x0d\x8f\x0a\x0e"[..];
+    let unlike = [&b"\xef\x16\x0b"[..], b"\xef\x04\x0b"].map(|subr| {
+        let subrs = [&[STUB; 4][..], &[subr]].concat();
+        document("Made", &made("Made", &subrs, &[(b".notdef", EMPTY), (b"A", calls_4)]))
+    });
+    assert!(pool(&unlike).unwrap() == unlike.concat());
+    assert!(level(&unlike).unwrap() == unlike);
+    for (at, place) in fonts(&unlike).unwrap().into_iter().enumerate() {
+        assert_eq!((place.document, place.reason.as_deref()), (at, Some("subr 4 differs, used by A")));
+    }
 }
 
 #[test]

@@ -2,13 +2,15 @@
 
 mod common;
 
-use common::{example, made, Tiny};
+use common::{document, example, made, Tiny};
 use std::cell::Cell;
 use std::ffi::c_void;
 use std::fmt::Debug;
 use std::ptr;
-use t1subset::{check, convert, diff, join, list, mend, mends, merge, rejoin, show, subset, subset_codes};
-use t1subset::{Form, Number, Picture, Refused};
+use t1subset::{
+    check, convert, diff, extract, fonts, join, level, list, mend, mends, merge, pool, rejoin, show, subset,
+};
+use t1subset::{subset_codes, Form, Number, Picture, Refused};
 
 /// `t1subset_heap`.
 #[repr(C)]
@@ -100,6 +102,19 @@ fn calls_that_make_fonts() {
     assert!(sweep(|| subset_codes(&pfa, &["X"], b"B", Form::Pfa)).unwrap() == both);
     assert!(sweep(|| merge(&[&one, &two], Form::Pfa)).unwrap() == both);
     assert!(sweep(|| rejoin(&[&two, &one], Form::Pfa)).unwrap() == both);
+}
+
+#[test]
+fn calls_over_documents() {
+    let pfa = example("tiny.pfa");
+    let cut = |names: &[&str]| document("Tiny", &subset(&pfa, names, Form::Pfa).unwrap());
+    let (documents, both) = ([cut(&["X"]), cut(&["Y"])], cut(&["X", "Y"]));
+    let pooled = [both.clone(), document("Tiny", b"")].concat();
+    assert!(sweep(|| pool(&documents)).unwrap() == pooled);
+    assert!(sweep(|| level(&documents)).unwrap() == [both.clone(), both.clone()]);
+    assert_eq!(sweep(|| fonts(&documents)).unwrap().len(), 2);
+    assert!(sweep(|| extract("Tiny", &documents)).unwrap() == subset(&pfa, &["X"], Form::Pfa).unwrap());
+    assert_eq!(sweep(|| extract("Tony", &documents)).unwrap_err().text, "no font Tony");
 }
 
 #[test]

@@ -2,7 +2,7 @@
 
 mod common;
 
-use common::{every_font, example, left_out, some_names, top, Tiny};
+use common::{document, every_font, example, left_out, some_names, top, Tiny};
 use std::env;
 use std::fmt::Write;
 use std::fs;
@@ -161,6 +161,14 @@ fn words_about_several_fonts() {
         let inputs = [pair[0].as_slice(), pair[1].as_slice()];
         run.same(&["merge", "OUT", "IN0", "IN1"], &inputs, t1subset::merge(&inputs, Form::Pfa));
         run.same(&["rejoin", "OUT", "IN0", "IN1"], &inputs, t1subset::rejoin(&inputs, Form::Pfa));
+    }
+    for names in [["X", "Y"], ["Y", "Aacute"], ["H", "H"]] {
+        let [one, other] = names.map(|name| {
+            let font = t1subset::subset(&example("tiny.pfa"), &[name], Form::Pfa).unwrap();
+            document("Tiny", &font)
+        });
+        let documents = [one.as_slice(), other.as_slice()];
+        run.same(&["pool", "OUT", "IN0", "IN1"], &documents, t1subset::pool(&documents));
     }
     for (left, right) in [("left", "right"), ("left", "other"), ("right", "other")] {
         let (left, right) = (example(&format!("{left}.listing")), example(&format!("{right}.listing")));

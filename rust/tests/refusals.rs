@@ -5,8 +5,8 @@ mod common;
 
 use common::{example, made, Tiny, EMPTY};
 use std::fmt::Debug;
-use t1subset::{check, convert, join, list, mend, mends, merge, rejoin, show, subset, subset_codes};
-use t1subset::{Form, Number, Part, Refused};
+use t1subset::{check, convert, extract, fonts, join, level, list, mend, mends, merge, pool, rejoin, show, subset};
+use t1subset::{subset_codes, Form, Number, Part, Refused};
 
 /// One byte more than a file may have.
 const LONG: usize = 268_435_457;
@@ -54,7 +54,7 @@ fn files() {
 type Row = (&'static [u8], &'static [u8], Number, &'static str, u64);
 
 #[test]
-fn fonts() {
+fn files_that_spell_no_font() {
     let rows: [Row; 10] = [
         (b"/Encoding", b"/Encoded", Number::NoEncoding, "no Encoding", 0),
         (b"dup 65 /X", b"dup 256 /X", Number::BadEncoding, "bad Encoding at 195", 195),
@@ -159,6 +159,18 @@ fn listings() {
     refused(join(line, b"S 5 ef060b\n"), Number::ListedSubrDiffers, "subr 5 differs", 5, None);
     refused(join(b"G X 0b\n", b"G X 0e\n"), Number::ListedGlyphDiffers, "glyph X differs", 0, None);
     refused(join(line, &vec![0; LONG]), Number::FileTooLong, "file too long", 0, Some(1));
+}
+
+#[test]
+fn documents() {
+    let (document, long) = (&b"%!PS\nshowpage\n"[..], &vec![0; LONG][..]);
+    refused(extract("Tiny", &[document]), Number::NoFont, "no font Tiny", 0, None);
+    refused(extract("É\\", &[document]), Number::NoFont, r"no font \xc3\x89\x5c", 0, None);
+    refused(extract("Tiny", &[document, long]), Number::FileTooLong, "file too long", 0, Some(1));
+    refused(fonts(&[long, document]), Number::FileTooLong, "file too long", 0, Some(0));
+    refused(level(&[document, document, long]), Number::FileTooLong, "file too long", 0, Some(2));
+    refused(pool(&[document, long]), Number::FileTooLong, "file too long", 0, Some(1));
+    refused(pool(&[document, &long[1..]]), Number::FileTooLong, "file too long", 0, None);
 }
 
 #[test]

@@ -1,5 +1,6 @@
 -- What a call gives, from what the call over files answered.
-use Rattle.std.proofs.Common.{◌≡◌, ℕ, inl, inr, subst, List, None, Result, Ok, Err}
+use Rattle.std.proofs.Common.{◌≡◌, ◌<◌, ℕ, inl, inr, subst, List, [], ◌∷◌, length, All, slice_set, Option, None, Result, Ok, Err, arith}
+use Rattle.std.proofs.lemmas.List.Elements.{All-cons, All-tail}
 use Rattle.std.specs.Prelude.{IfOk, IfErr, MatchResult}
 use Rattle.t1_bytes.specs.declared.form.Form.{Form}
 use Rattle.t1_cmd.specs.declared.faults.FilesRefusal.{FilesRefusal}
@@ -9,7 +10,7 @@ use Rattle.t1_cmd.specs.Files.{OfFiles, RefusesFiles}
 use Rattle.t1_cmd.specs.WrittenSubsets.{OfUnion}
 use Rattle.t1_cmd.specs.Cuts.{OfRejoined}
 use Rattle.t1_c.specs.declared.answers.Answer.{Answer}
-use Rattle.t1_c.specs.Gives.{HasWhole, IsSaid, GivesReason, GivesFiles, GivesText}
+use Rattle.t1_c.specs.Gives.{HasWhole, IsSaid, GivesReason, HoldsNothing, FirstGives, GivesFiles, GivesText}
 
 -- a call over several files gives what that call answered
 pub gives_files : {A : Type 0} (understand : List ℕ → Result A Reason) (Answers : List A → Result (List ℕ) Reason → Type 0) (files : List (List ℕ))
@@ -39,3 +40,11 @@ pub gives_rejoined : (form : Form) (files : List (List ℕ)) {V : Type 0} (view 
     → OfRejoined form files (λ whole. MatchResult r (λ v. view v ≡ whole) (λ e. (e.place ≡ None) × (e.reason ≡ Memory)))
     → IfOk r (λ v. HasWhole (view v) code a) → IfErr r (λ e. GivesReason e.place e.reason code a) → OfRejoined form files (GivesText code a)
 gives_rejoined form files view r code a cuts whole told = λ f h t ts s o get. text_given view r code a _ (cuts f h t ts s o get) whole told
+
+-- where no answer holds anything, a reason that is told in the first is told in it alone
+pub first_gives : (place : Option ℕ) (r : Reason) (code : ℕ) (a : Answer) (answers : List Answer)
+    → 0 < length answers → All HoldsNothing answers → GivesReason place r code a → FirstGives place r code (slice_set answers 0 a)
+first_gives place r code a [] some hold given = absurd (omega arith)
+first_gives place r code a (first ∷ others) some hold (inl nothing) =
+    inl (nothing.0, All-cons HoldsNothing a others nothing.1 (All-tail HoldsNothing first others hold))
+first_gives place r code a (first ∷ others) some hold (inr said) = inr (said, All-tail HoldsNothing first others hold)

@@ -1,12 +1,16 @@
 -- What a call gives to C.
-use Rattle.std.specs.Prelude.{◌≡◌, ◌⊎◌, ℕ, ◌-◌, ◌^◌, min, ℤ, pos, negsuc, List, [], Option, None, Some, Result, Ok, Err}
+use Rattle.std.specs.Prelude.{◌≡◌, ◌⊎◌, ℕ, ◌-◌, ◌^◌, min, ℤ, pos, negsuc, List, [], ◌∷◌, map, All, Option, None, Some, Result, Ok, Err}
+use Rattle.std.specs.List.{range_with_len}
+use Rattle.std.specs.Fmt.{decimal}
 use Rattle.t1_bytes.specs.declared.form.Form.{Form}
 use Rattle.t1_font.specs.FontValue.{FontValue}
 use Rattle.t1_cmd.specs.declared.faults.Reason.{Reason}
 use Rattle.t1_cmd.specs.declared.faults.Reason.TheVariants.{TooLong, Memory, Font}
 use Rattle.t1_cmd.specs.Texts.{reason_text}
 use Rattle.t1_cmd.specs.Fonts.{of_file, of_mended}
-use Rattle.t1_cmd.specs.Files.{OfFiles, RefusedAt}
+use Rattle.t1_cmd.specs.Files.{OfFiles, RefusedAt, IsUnread}
+use Rattle.t1_cmd.specs.Documents.{text_input}
+use Rattle.t1_document.specs.Joins.{LevelsTo}
 use Rattle.t1_c.specs.declared.answers.Answer.{Answer}
 use Rattle.t1_c.specs.Numbers.{ok, memory, bad_call, number_of, detail_of}
 
@@ -21,9 +25,17 @@ abbrev pub input_at : Option ℕ → ℤ
 input_at None = negsuc 0
 input_at (Some place) = pos (min place last_place)
 
+-- an answer names nothing
+abbrev pub NamesNothing : Answer → Type 0
+NamesNothing a = (a.detail ≡ 0) × (a.input ≡ input_at None)
+
+-- an answer holds nothing
+abbrev pub HoldsNothing : Answer → Type 0
+HoldsNothing a = (a.detail ≡ 0) × (a.input ≡ input_at None) × (a.bytes.now ≡ [])
+
 -- the call returns this number, and gives nothing
 abbrev pub HasNothing : ℕ → ℕ → Answer → Type 0
-HasNothing number code a = (code ≡ number) × (a.detail ≡ 0) × (a.input ≡ input_at None) × (a.bytes.now ≡ [])
+HasNothing number code a = (code ≡ number) × HoldsNothing a
 
 -- the call returns 0, and gives this text
 abbrev pub HasWhole : List ℕ → ℕ → Answer → Type 0
@@ -38,6 +50,25 @@ IsSaid place r code a = (code ≡ number_of r) × (a.detail ≡ detail_of r) × 
 -- a reason is told, unless a growth was refused
 abbrev pub GivesReason : Option ℕ → Reason → ℕ → Answer → Type 0
 GivesReason place r code a = HasNothing memory code a ⊎ IsSaid place r code a
+
+-- ---- what is given in several answers
+
+-- the call returns this number, and no answer holds anything
+abbrev pub HaveNothing : ℕ → ℕ → List Answer → Type 0
+HaveNothing number code answers = (code ≡ number) × All HoldsNothing answers
+
+-- the call returns 0, and the answers give these texts, one each, in their order
+abbrev pub HaveTexts : List (List ℕ) → ℕ → List Answer → Type 0
+HaveTexts texts code answers = (code ≡ ok) × (map (λ a. a.bytes.now) answers ≡ texts) × All NamesNothing answers
+
+-- a reason is told in the first answer, and the others hold nothing
+abbrev pub FirstSays : Option ℕ → Reason → ℕ → List Answer → Type 0
+FirstSays place r code [] = ⊥
+FirstSays place r code (a ∷ others) = IsSaid place r code a × All HoldsNothing others
+
+-- a reason is told in the first answer, unless a growth was refused
+abbrev pub FirstGives : Option ℕ → Reason → ℕ → List Answer → Type 0
+FirstGives place r code answers = HaveNothing memory code answers ⊎ FirstSays place r code answers
 
 -- ---- what a call does
 
@@ -83,3 +114,17 @@ IfForm (Some form) P = P form
 -- this text is given, unless a growth was refused
 abbrev pub GivesText : ℕ → Answer → List ℕ → Type 0
 GivesText code a text = HasNothing memory code a ⊎ HasWhole text code a
+
+-- ---- documents
+
+-- the labels of so many documents: their places from 0, in decimal
+abbrev pub place_labels : ℕ → List (List ℕ)
+place_labels count = map decimal (range_with_len 0 count)
+
+-- A call that levels documents gives each in an answer of its own; or it tells in the first answer why they can't be read; or a
+-- growth was refused, and no answer holds anything.
+abbrev pub GivesLevels : List (List ℕ) → ℕ → List Answer → Type 0
+GivesLevels documents code answers =
+    HaveNothing memory code answers
+    ⊎ (((texts : List (List ℕ)) × LevelsTo documents texts × HaveTexts texts code answers)
+    ⊎ ((place : Option ℕ) × (r : Reason) × IsUnread text_input documents place r × FirstSays place r code answers))

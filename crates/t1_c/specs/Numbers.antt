@@ -14,7 +14,7 @@ use Rattle.t1_join.specs.declared.listing.ListFault.TheVariants as list
 use Rattle.t1_join.specs.declared.listing.JoinFault.{JoinFault}
 use Rattle.t1_join.specs.declared.listing.JoinFault.TheVariants as join
 use Rattle.t1_cmd.specs.declared.faults.Reason.{Reason}
-use Rattle.t1_cmd.specs.declared.faults.Reason.TheVariants.{TooLong, Memory, List, Join, Font, NoGlyph, NoCode, Lacks, Merge}
+use Rattle.t1_cmd.specs.declared.faults.Reason.TheVariants.{TooLong, Memory, List, Join, Font, NoGlyph, NoCode, NoFont, Lacks, Merge}
 
 -- ---- forms
 
@@ -50,6 +50,9 @@ no_glyph = 4
 
 abbrev pub no_code : ℕ
 no_code = 5
+
+abbrev pub no_font : ℕ
+no_font = 6
 
 abbrev pub bad_segment : ℕ
 bad_segment = 10
@@ -176,6 +179,7 @@ number_of (Join f) = join_number f
 number_of (Font f) = font_number f
 number_of (NoGlyph name) = no_glyph
 number_of (NoCode code) = no_code
+number_of (NoFont name) = no_font
 number_of (Lacks glyph index) = glyph_lacks_subr
 number_of (Merge c) = merge_number c
 

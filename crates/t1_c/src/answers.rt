@@ -1,10 +1,10 @@
 //! What a call gives to C.
-ghost use Rattle.std.specs.Prelude.{◌≡◌, IfOk, IfErr};
-ghost use Rattle.t1_c.specs.Gives.{HasNothing, HasWhole, GivesReason, place_in_one, input_at};
+ghost use Rattle.std.specs.Prelude.{◌≡◌, length, map, All, IfOk, IfErr};
+ghost use Rattle.t1_c.specs.Gives.{HasNothing, HasWhole, GivesReason, HoldsNothing, HaveNothing, HaveTexts, FirstGives, place_in_one, input_at};
 
 use crate::numbers::{MEMORY, OK, detail_of, number_of};
 use std::alloc::Global;
-use t1_cmd::{FilesRefusal, Reason};
+use t1_cmd::{FilesRefusal, Levelled, Reason};
 
 /// What a call answers. The bytes are the caller's, who frees them if there are any.
 #[repr(C)]
@@ -99,5 +99,66 @@ pub(crate) fn give_files(
     match text {
         Ok(text) => give_text(text, answer),
         Err(refusal) => tell(alloc, refusal.place, &refusal.reason, answer),
+    }
+}
+
+// ---- several answers
+
+// No answer holds anything.
+fn clear(answers: &mut [Answer])
+    ensures { All HoldsNothing answers.new }
+{
+    'answers: for i in 0..answers.len() {
+        give_nothing(OK, &mut answers[i]);
+    }
+}
+
+/// Gives nothing but a number.
+pub(crate) fn give_none(code: u32, answers: &mut [Answer]) -> u32
+    ensures { HaveNothing code result answers.new }
+{
+    clear(answers);
+    code
+}
+
+// Gives each text in the answer at its place.
+fn give_texts(mut texts: Vec<Vec<u8>>, answers: &mut [Answer]) -> u32
+    requires { length texts.items ≡ length answers.old }
+    ensures { HaveTexts (map (λ t. t.items) texts.items) result answers.new }
+{
+    'texts: while let Some(text) = texts.pop() {
+        let at = texts.len();
+        give_text(text, &mut answers[at]);
+    }
+    OK
+}
+
+// Tells why files are refused in the first answer. Where there are no files, none is refused but for want of memory.
+fn tell_first(alloc: Global, refusal: &FilesRefusal, answers: &mut [Answer]) -> u32
+    ensures { FirstGives refusal.now.place refusal.now.reason result answers.new }
+{
+    clear(answers);
+    if answers.is_empty() {
+        return MEMORY;
+    }
+    tell(alloc, refusal.place, &refusal.reason, &mut answers[0])
+}
+
+/// Gives the texts that a call over documents answered, one in each answer, or tells in the first why there are none.
+pub(crate) fn give_each(
+    alloc: Global,
+    levelled: Result<Levelled, FilesRefusal>,
+    answers: &mut [Answer],
+) -> u32
+    requires { IfOk levelled (λ l. length l.texts.items ≡ length answers.old) }
+    ensures whole { IfOk levelled (λ l. HaveTexts (map (λ t. t.items) l.texts.items) result answers.new) }
+    ensures told { IfErr levelled (λ e. FirstGives e.place e.reason result answers.new) }
+{
+    match levelled {
+        Ok(levelled) => {
+            let Levelled { texts, .. } = levelled;
+            give_texts(texts, answers)
+        }
+        Err(refusal) => tell_first(alloc, &refusal, answers),
     }
 }

@@ -7,11 +7,13 @@
 #![tactic(auto)]
 
 mod answers;
+mod documents;
+mod labels;
 mod numbers;
 #[cfg(test)]
 mod tests;
 
-ghost use Rattle.std.specs.Prelude.{◌∷◌, []};
+ghost use Rattle.std.specs.Prelude.{◌≡◌, ◌∷◌, [], length};
 ghost use Rattle.t1_subset.specs.NameSets.{lent};
 ghost use Rattle.t1_cmd.specs.CheckText.{check_answer};
 ghost use Rattle.t1_cmd.specs.ListText.{list_answer};
@@ -25,16 +27,21 @@ ghost use Rattle.t1_cmd.specs.Diffs.{DiffersBy};
 ghost use Rattle.t1_cmd.specs.Listings.{listing_input, JoinsTo};
 ghost use Rattle.t1_cmd.specs.WrittenSubsets.{OfUnion};
 ghost use Rattle.t1_cmd.specs.Cuts.{OfRejoined};
-ghost use Rattle.t1_c.specs.Numbers.{form_at};
-ghost use Rattle.t1_c.specs.Gives.{GivesOne, GivesOf, GivesMended, GivesFiles, In, IfForm, GivesText};
+ghost use Rattle.t1_cmd.specs.Documents.{text_input, PoolsTo};
+ghost use Rattle.t1_cmd.specs.FontPlaces.{ListsTo};
+ghost use Rattle.t1_cmd.specs.Extracts.{ExtractsTo};
+ghost use Rattle.t1_c.specs.Numbers.{form_at, bad_call};
+ghost use Rattle.t1_c.specs.Gives.{GivesOne, GivesOf, GivesMended, GivesFiles, GivesLevels, HaveNothing, In, IfForm, GivesText, place_labels};
 
 pub use answers::Answer;
-use answers::{give_files, give_nothing, give_of};
+use answers::{give_each, give_files, give_none, give_nothing, give_of};
+use documents::{places, pooled};
 use numbers::{BAD_CALL, form_of};
 use std::alloc::Global;
 use t1_cmd::{
-    check_file, convert_file, diff_files, join_listings, list_file, list_mends, mend_file,
-    merge_files, rejoin_files, show_file, subset_file, subset_file_with_codes,
+    check_file, convert_file, diff_files, extract_file, join_listings, level_files, list_file,
+    list_mends, mend_file, merge_files, rejoin_files, show_file, subset_file,
+    subset_file_with_codes,
 };
 
 /// Says what a font has: the line of `t1subset check`.
@@ -202,4 +209,49 @@ pub extern "C" fn t1subset_join(
     ensures { GivesFiles listing_input JoinsTo (first.now ∷ second.now ∷ []) result answer.new }
 {
     give_files(alloc, join_listings(alloc, first, second), answer)
+}
+
+/// Makes of documents one text, in which each font stands once.
+#[unsafe(no_mangle)]
+pub extern "C" fn t1subset_pool(alloc: Global, documents: &[&[u8]], answer: &mut Answer) -> u32
+    ensures { GivesFiles text_input PoolsTo (lent documents.now) result answer.new }
+{
+    give_files(alloc, pooled(alloc, documents), answer)
+}
+
+/// Makes documents in which each place of a name has the joined font, each in an answer of its own. C calls it as
+/// `t1subset_level`, which passes as many answers as documents; any other number is a bad call.
+#[unsafe(no_mangle)]
+pub extern "C" fn level_answers(alloc: Global, documents: &[&[u8]], answers: &mut [Answer]) -> u32
+    ensures levels { length answers.old ≡ length documents.now
+        → GivesLevels (lent documents.now) result answers.new }
+    ensures unlike { (length answers.old ≡ length documents.now → ⊥)
+        → HaveNothing bad_call result answers.new }
+{
+    if answers.len() != documents.len() {
+        return give_none(BAD_CALL, answers);
+    }
+    give_each(alloc, level_files(alloc, documents), answers)
+}
+
+/// Lists the places of fonts in documents: the lines of `t1subset fonts`, where the place of a document stands for its path.
+#[unsafe(no_mangle)]
+pub extern "C" fn t1subset_fonts(alloc: Global, documents: &[&[u8]], answer: &mut Answer) -> u32
+    ensures { GivesFiles text_input (ListsTo (place_labels (length documents.now))) (lent documents.now)
+        result answer.new }
+{
+    give_files(alloc, places(alloc, documents), answer)
+}
+
+/// Makes the canonical PFA of the first font of a name in documents.
+#[unsafe(no_mangle)]
+pub extern "C" fn t1subset_extract(
+    alloc: Global,
+    name: &[u8],
+    documents: &[&[u8]],
+    answer: &mut Answer,
+) -> u32
+    ensures { GivesFiles text_input (ExtractsTo name.now) (lent documents.now) result answer.new }
+{
+    give_files(alloc, extract_file(alloc, name, documents), answer)
 }

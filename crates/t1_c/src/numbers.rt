@@ -98,6 +98,7 @@ pub(crate) fn number_of(reason: &Reason) -> u32
         Reason::Font(fault) => font_number(fault),
         Reason::NoGlyph { .. } => 4,
         Reason::NoCode { .. } => 5,
+        Reason::NoFont { .. } => 6,
         Reason::Lacks { .. } => 37,
         Reason::Merge(conflict) => merge_number(conflict),
     }

@@ -1,5 +1,7 @@
 //! A call of each function, small and large, with what it gives, and a refusal of each kind. What the program writes for
 //! many more inputs is compared with the library's bytes in C.
+mod documents;
+
 use crate::{
     Answer, t1subset_check, t1subset_convert, t1subset_diff, t1subset_join, t1subset_list,
     t1subset_mend, t1subset_mends, t1subset_merge, t1subset_rejoin, t1subset_show, t1subset_subset,

@@ -16,7 +16,7 @@ use Rattle.t1_document.proofs.Spelled.{places_spell}
 use Rattle.t1_cmd.specs.declared.faults.Reason.{Reason}
 use Rattle.t1_cmd.specs.Answers.{with_reason, if_there, MayRefuse}
 use Rattle.t1_cmd.specs.Fonts.{font_reason, file_answer}
-use Rattle.t1_cmd.specs.Documents.{places_of_all}
+use Rattle.t1_document.specs.Joins.{places_of_all}
 use Rattle.t1_cmd.specs.Extracts.{first_named, ExtractsTo, TakesOutMended}
 use Rattle.t1_cmd.proofs.Refusals.{by_answer}
 

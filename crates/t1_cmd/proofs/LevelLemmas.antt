@@ -10,7 +10,7 @@ use Rattle.t1_cmd.specs.declared.faults.RunFault.{RunFault}
 use Rattle.t1_cmd.specs.declared.faults.RunFault.TheVariants.{Refused, Read, Write}
 use Rattle.t1_cmd.specs.Inputs.{Input, AllQuiet, values_of}
 use Rattle.t1_cmd.specs.Mergers.{InputsStop}
-use Rattle.t1_cmd.specs.Documents.{places_of_all}
+use Rattle.t1_document.specs.Joins.{places_of_all}
 use Rattle.t1_cmd.proofs.RunLemmas.{first_refused, first_failed}
 
 -- what is made of what was made

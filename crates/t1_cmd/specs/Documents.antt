@@ -6,9 +6,8 @@ use Rattle.t1_join.specs.Shown.{shown}
 use Rattle.t1_document.specs.declared.joins.Outcome.{Outcome}
 use Rattle.t1_document.specs.declared.joins.Outcome.TheVariants.{Stays}
 use Rattle.t1_document.specs.Lines.{one_text}
-use Rattle.t1_document.specs.Documents.{Place, document_of}
-use Rattle.t1_document.specs.Rewriting.{pooled, levelled}
-use Rattle.t1_document.specs.Joins.{Outcomes, AreOutcomes, new_texts, kept_text, names_from}
+use Rattle.t1_document.specs.Documents.{Place}
+use Rattle.t1_document.specs.Joins.{Outcomes, AreOutcomes, PooledBy, kept_text, names_from}
 use Rattle.t1_cmd.specs.declared.faults.Reason.{Reason}
 use Rattle.t1_cmd.specs.declared.faults.Reason.TheVariants.{TooLong}
 use Rattle.t1_cmd.specs.Answers.{within_limit}
@@ -19,25 +18,11 @@ text_input = within_limit (λ bytes. Ok bytes)
 
 -- ---- pooled
 
--- the outcomes are those of the fonts of a text, and the text with each font once is this
-abbrev pub PooledBy : List ℕ → List ℕ → Type 0
-PooledBy text out = (outcomes : Outcomes) × AreOutcomes (document_of text).places outcomes × (out ≡ pooled (new_texts outcomes) text)
-
 -- documents one behind the other with each font once, if they are together within the file limit
 abbrev pub PoolsTo : List (List ℕ) → Result (List ℕ) Reason → Type 0
 PoolsTo documents (Ok out) = (length (one_text documents) ≤ file_limit) × PooledBy (one_text documents) out
 PoolsTo documents (Err TooLong) = file_limit < length (one_text documents)
 PoolsTo documents (Err r) = ⊥
-
--- ---- levelled
-
--- the places of documents, each by itself
-abbrev pub places_of_all : List (List ℕ) → List Place
-places_of_all documents = flat_map (λ d. (document_of d).places) documents
-
--- the outcomes are those of the fonts of all documents, and each document with them is one of these
-abbrev pub LevelsTo : List (List ℕ) → List (List ℕ) → Type 0
-LevelsTo documents out = (outcomes : Outcomes) × AreOutcomes (places_of_all documents) outcomes × (out ≡ map (levelled (new_texts outcomes)) documents)
 
 -- ---- what is told of names that keep their fonts
 

@@ -12,7 +12,7 @@ use Rattle.t1_document.specs.Documents.{Place}
 use Rattle.t1_cmd.specs.declared.faults.Reason.{Reason}
 use Rattle.t1_cmd.specs.declared.faults.Reason.TheVariants.{NoFont}
 use Rattle.t1_cmd.specs.Fonts.{of_mended, file_answer}
-use Rattle.t1_cmd.specs.Documents.{places_of_all}
+use Rattle.t1_document.specs.Joins.{places_of_all}
 
 -- the first place of a name
 abbrev pub first_named : List ℕ → List Place → Option Place

@@ -11,7 +11,7 @@ use Rattle.t1_document.specs.declared.joins.Outcome.TheVariants.{Stays}
 use Rattle.t1_document.specs.Documents.{Place, place_bytes, document_of}
 use Rattle.t1_document.specs.Joins.{Outcomes, AreOutcomes, kept_text, names_from}
 use Rattle.t1_cmd.specs.declared.faults.Reason.{Reason}
-use Rattle.t1_cmd.specs.Documents.{places_of_all}
+use Rattle.t1_document.specs.Joins.{places_of_all}
 
 -- ---- the line of a place
 

@@ -15,7 +15,8 @@ ghost use Rattle.t1_cmd.specs.Files.{values_from, IsUnread, OfFiles, RefusesFile
 ghost use Rattle.t1_cmd.specs.Runs.{ended, InputEnds, RunEnds, Succeeds};
 ghost use Rattle.t1_cmd.specs.Answers.{MayRefuse};
 ghost use Rattle.t1_cmd.specs.Mergers.{inputs_of, InTurns, InputsStop};
-ghost use Rattle.t1_cmd.specs.Documents.{text_input, PooledBy, PoolsTo, kept_line, kept_lines, TellsKept};
+ghost use Rattle.t1_cmd.specs.Documents.{text_input, PoolsTo, kept_line, kept_lines, TellsKept};
+ghost use Rattle.t1_document.specs.Joins.{PooledBy};
 
 use crate::counting::Counted;
 use crate::faults::{FilesRefusal, Reason, RunFault};

@@ -12,7 +12,8 @@ ghost use Rattle.t1_cmd.specs.Files.{OfFiles, RefusesFiles};
 ghost use Rattle.t1_cmd.specs.Fonts.{font_reason};
 ghost use Rattle.t1_cmd.specs.Mergers.{inputs_of, InTurns};
 ghost use Rattle.t1_cmd.specs.Runs.{RunEnds, Succeeds};
-ghost use Rattle.t1_cmd.specs.Documents.{text_input, places_of_all};
+ghost use Rattle.t1_cmd.specs.Documents.{text_input};
+ghost use Rattle.t1_document.specs.Joins.{places_of_all};
 ghost use Rattle.t1_cmd.specs.Extracts.{first_named, IsTakenOut, ExtractsTo};
 
 use crate::counting::Counted;

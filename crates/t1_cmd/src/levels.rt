@@ -11,7 +11,8 @@ ghost use Rattle.t1_cmd.specs.declared.faults.RunFault.TheVariants.{Refused};
 ghost use Rattle.t1_cmd.specs.Inputs.{AllQuiet, values_of};
 ghost use Rattle.t1_cmd.specs.Files.{values_from, IsUnread};
 ghost use Rattle.t1_cmd.specs.Mergers.{inputs_of, InTurns, InputsStop};
-ghost use Rattle.t1_cmd.specs.Documents.{text_input, places_of_all, LevelsTo, TellsKept};
+ghost use Rattle.t1_cmd.specs.Documents.{text_input, TellsKept};
+ghost use Rattle.t1_document.specs.Joins.{places_of_all, LevelsTo};
 
 use crate::counting::Counted;
 use crate::documents::{each_fits, keep, kept_lines, lent, read_texts};

@@ -162,6 +162,11 @@ pub fn made(name: &str, subrs: &[&[u8]], glyphs: &[(&[u8], &[u8])]) -> Vec<u8> {
     file
 }
 
+/// A document with a font of a name of four bytes, which begins at 23.
+pub fn document(name: &str, font: &[u8]) -> Vec<u8> {
+    [b"%!PS\n%%BeginFont: ", name.as_bytes(), b"\n", font, b"%%EndFont\n"].concat()
+}
+
 /// Tiny in both forms, and those of some installed fonts that the library reads.
 pub fn each_font() -> Vec<(String, Vec<u8>)> {
     let mut fonts = every_font();

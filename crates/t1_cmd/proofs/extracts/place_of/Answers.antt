@@ -3,7 +3,7 @@ use Rattle.std.proofs.lemmas.List.{drop_more}
 use Rattle.t1_document.specs.declared.documents.Place.{Place as CodePlace}
 use Rattle.t1_document.specs.Documents.{Place, Document, document_of}
 use Rattle.t1_document.specs.Views.{place_view}
-use Rattle.t1_cmd.specs.Documents.{places_of_all}
+use Rattle.t1_document.specs.Joins.{places_of_all}
 use Rattle.t1_cmd.specs.Extracts.{first_named}
 use Rattle.t1_cmd.proofs.ExtractLemmas.{first_before, first_behind}
 use Rattle.t1_cmd.proofs.extracts.place_of.Goals as goal

@@ -1,5 +1,5 @@
 use Rattle.std.proofs.Common.{◌≡◌, map, drop}
-use Rattle.t1_cmd.specs.Documents.{places_of_all}
+use Rattle.t1_document.specs.Joins.{places_of_all}
 use Rattle.t1_cmd.specs.Extracts.{first_named}
 use Rattle.t1_cmd.proofs.extracts.place_of.Given as goal
 

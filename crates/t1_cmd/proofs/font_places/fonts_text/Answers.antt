@@ -7,7 +7,7 @@ use Rattle.t1_document.specs.Documents.{Place, Document, document_of}
 use Rattle.t1_document.specs.Groups.{outcome_in}
 use Rattle.t1_document.specs.Joins.{Outcomes, AreOutcomes}
 use Rattle.t1_document.specs.Views.{place_view, document_view}
-use Rattle.t1_cmd.specs.Documents.{places_of_all}
+use Rattle.t1_document.specs.Joins.{places_of_all}
 use Rattle.t1_cmd.specs.FontPlaces.{document_lines, count_line}
 use Rattle.t1_cmd.proofs.LevelLemmas.{places_all}
 use Rattle.t1_cmd.proofs.font_places.fonts_text.Goals as goal

@@ -10,7 +10,8 @@ use Rattle.t1_document.specs.Joins.{Outcomes, AreOutcomes, new_texts}
 use Rattle.t1_document.specs.Texts.{text_in}
 use Rattle.t1_document.specs.Views.{place_view, document_view}
 use Rattle.t1_document.proofs.NewTexts.{texts_are}
-use Rattle.t1_cmd.specs.Documents.{places_of_all, kept_lines}
+use Rattle.t1_cmd.specs.Documents.{kept_lines}
+use Rattle.t1_document.specs.Joins.{places_of_all}
 use Rattle.t1_cmd.proofs.LevelLemmas.{places_all, levels_all}
 use Rattle.t1_cmd.proofs.levels.level.Goals as goal
 

@@ -1,0 +1,77 @@
+"""What the calls over PostScript documents make of Tiny, and of fonts that don't rejoin."""
+
+from __future__ import annotations
+
+import pickle
+import unittest
+
+import t1subset
+from t1subset import Placed, _texts
+
+from .fonts import PFA, PFB, TEST, changed, document, made
+from .test_laws import ACROSS, EMPTY, STUB, UP, calling
+
+WHOLE, SOME, OTHER, BOTH = (
+    document(font, b"Tiny")
+    for font in (PFA, t1subset.subset(PFA, ["X"]), t1subset.subset(PFA, ["Y"]), t1subset.subset(PFA, ["Y", "X"]))
+)
+# The document without its font.
+BARE = document(b"", b"Tiny")
+# Two fonts of one name that don't rejoin.
+UNLIKE = [document(made([STUB] * 4 + [subr], {b".notdef": EMPTY, b"A": calling(4)})) for subr in (ACROSS, UP)]
+
+
+class Documents(unittest.TestCase):
+    def test_pooled(self) -> None:
+        self.assertEqual(t1subset.pool([SOME]), SOME)
+        self.assertEqual(t1subset.pool([SOME, OTHER, SOME]), BOTH + BARE + BARE)
+        self.assertEqual(t1subset.pool([SOME + OTHER]), BOTH + BARE)
+        self.assertEqual(t1subset.pool(it for it in (SOME, WHOLE)), WHOLE + BARE)
+        self.assertEqual(t1subset.pool([b"%!PS", b"showpage"]), b"%!PS\nshowpage")
+        self.assertEqual(t1subset.pool([]), b"")
+
+    def test_levelled(self) -> None:
+        self.assertEqual(t1subset.level([SOME, b"", OTHER]), [BOTH, b"", BOTH])
+        self.assertEqual(t1subset.level([SOME] * 100 + [WHOLE]), [WHOLE] * 101)
+        self.assertEqual(t1subset.level([SOME]), [SOME])
+        self.assertEqual(t1subset.level([]), [])
+
+    def test_fonts_that_do_not_rejoin_stay(self) -> None:
+        self.assertEqual(t1subset.pool(UNLIKE), b"".join(UNLIKE))
+        self.assertEqual(t1subset.level(UNLIKE), UNLIKE)
+        reason = "subr 4 differs, used by A"
+        self.assertEqual(t1subset.fonts(UNLIKE), [Placed(at, 23, "Made", 2, 0, reason) for at in (0, 1)])
+        self.assertEqual(t1subset.extract("Made", UNLIKE[1:]), UNLIKE[1][23:-10])
+
+    def test_places(self) -> None:
+        embedded = b"%%BeginDocument: a\n" + OTHER + b"%%EndDocument\n"
+        places = [Placed(0, 23, "Tiny", 11, 0, None), Placed(2, 42, "Tiny", 2, 1, None)]
+        places += [Placed(2, len(embedded) + 23, "Tiny", 2, 0, None)]
+        self.assertEqual(t1subset.fonts([WHOLE, b"%!PS\n", embedded + SOME]), places)
+        self.assertEqual(t1subset.fonts([]), [])
+        self.assertEqual(t1subset.fonts([PFB, PFA]), [])
+
+    def test_names_that_are_no_ascii(self) -> None:
+        for name, given in ((b"a\\b", "a\\b"), ("é".encode(), "é"), (b"\xff", "\udcff")):
+            font = made([], {b".notdef": EMPTY}, name)
+            with self.subTest(name=name):
+                self.assertEqual([it.name for it in t1subset.fonts([document(font)])], [given])
+                for wanted in (name, given):
+                    self.assertEqual(t1subset.extract(wanted, [document(font)]), font)
+
+    def test_what_is_extracted_is_mended(self) -> None:
+        tested = t1subset.convert(changed(b"/FontName /Tiny", TEST[:-1] + b"/FontName /Tiny"))
+        self.assertNotEqual(tested, PFA)
+        self.assertEqual(t1subset.extract(b"Tiny", [b"%!PS\n", document(tested), SOME]), PFA)
+
+    def test_answers_can_be_compared_and_pickled(self) -> None:
+        places = t1subset.fonts(UNLIKE)
+        self.assertEqual(pickle.loads(pickle.dumps(places)), places)
+
+    def test_texts_of_another_library(self) -> None:
+        place, last = "0: 1 A 2 0 joined\n", "1 places, 1 names, 0 kept\n"
+        texts = ["", last, place, place + place + last, last + place]
+        texts += [f"{line}\n{last}" for line in ("0: 1 A 2 joined", "0: 1 A 2 0 kept", "a: 1 A 2 0 joined")]
+        for text in texts:
+            with self.subTest(text=text):
+                self.assertRaises(RuntimeError, _texts.placed, text)
