@@ -318,8 +318,8 @@ module _ (name : List ℕ) (p q : Place) (ps qs : List Place) (moved : IsPermuta
       let stand : list_all (can_stand x.items) (q ∷ qs) ≡ true = sym (list_all_in_order (can_stand x.items) (p ∷ ps) (q ∷ qs) moved) ∙ h.1 in (
         Joined x,
         subst (λ (b : Bool). OfPlaces name (q ∷ qs) q.text b (Joined x)) (sym (others_there t))
-        (subst (λ (r : Result (List FontValue) ReadFault). OfFonts name (q ∷ qs) r (Joined x)) (sym (spelled_fonts name (q ∷ qs) v))
-        ((h.0.0, there, h.0.2), stand)),
+            (subst (λ (r : Result (List FontValue) ReadFault). OfFonts name (q ∷ qs) r (Joined x)) (sym (spelled_fonts name (q ∷ qs) v))
+            ((h.0.0, there, h.0.2), stand)),
         e,
       )
 
