@@ -1,37 +1,32 @@
 -- Truncated subsets of one font rejoin to the subset over all the names, and each glyph that is drawn stays drawn.
-use Rattle.std.proofs.Common.{◌≡◌, ℕ, ◌+◌, ◌≤◌, arith, true, refl, sym, ◌∙◌, ap, subst, List, [], ◌∷◌, map, inl, inr, Option, Some, None, Result, Ok, Err, option_and_then, IsPermutation}
+use Rattle.std.proofs.Common.{◌≡◌, ℕ, ◌+◌, refl, sym, ◌∙◌, ap, subst, List, [], ◌∷◌, map, inl, inr, Option, Some, None, Result, Ok, Err, option_and_then, IsPermutation}
 use Rattle.std.specs.Prelude.{IfOk, IfErr, MatchResult, is_some}
 use Rattle.std.specs.List.{AllByRecursion}
 use Rattle.std.specs.Result.{result_ok}
 use Rattle.std.specs.FinMap as maps
 use Rattle.std.proofs.lemmas.List.Sorted.{IsPermutation-refl}
 use Rattle.t1_bytes.specs.declared.form.Form.{Form}
-use Rattle.t1_run.specs.Run.{Subrs, direct, direct3, exec}
-use Rattle.t1_run.specs.Drawings.{draw, draw3}
-use Rattle.t1_font.specs.FontValue.{FontValue, Shell, SubrsShell, Numbered, Named, declared_count, count_limit}
-use Rattle.t1_font.specs.FontModel.{subr_at}
-use Rattle.t1_font.specs.IsFont.{IsFont, SubrsFit}
-use Rattle.t1_font.proofs.even_fonts.Evened.{even_is_font, filled_is_font}
-use Rattle.t1_font.proofs.even_fonts.Boxes.{boxed_are_fonts}
+use Rattle.t1_font.specs.FontValue.{FontValue, Named}
+use Rattle.t1_font.specs.IsFont.{IsFont}
 use Rattle.t1_font.specs.Canon.{canon}
-use Rattle.t1_font.specs.Evening.{even, filled, largest_count, indices_of_all, each_even, evened_shells, evened}
+use Rattle.t1_font.specs.Evening.{indices_of_all, evened_shells, evened}
 use Rattle.t1_font.specs.Filling.{AreLight}
 use Rattle.t1_join.specs.Groupings.{one, from_left}
-use Rattle.t1_join.proofs.OrderLemmas.{leaves_from_left, each_leaf}
+use Rattle.t1_join.proofs.OrderLemmas.{leaves_from_left}
 use Rattle.t1_algebra.specs.Interpreter.{Names}
 use Rattle.t1_algebra.specs.Profile.{profile}
 use Rattle.t1_algebra.specs.Keep.{subset}
-use Rattle.t1_algebra.specs.Laws.{IsOf, DrawsAlike}
-use Rattle.t1_algebra.specs.Evened.{StaysDrawn, map_subrs, AllStayDrawn, EachBeside}
-use Rattle.t1_algebra.proofs.Drawings.{answers_alike}
-use Rattle.t1_algebra.specs.Merges.{ComesTo, DrawsAll}
+use Rattle.t1_algebra.specs.Laws.{IsOf}
+use Rattle.t1_algebra.specs.Merges.{ComesTo}
 use Rattle.t1_algebra.specs.Rejoins.{cut_to, with_even_texts, Truncated, IsTruncated, truncated_fonts, sets_of, largest}
 use Rattle.t1_algebra.specs.Rejoins.{GetBox, boxed_as, shared_font, rejoined, Rejoins}
 use Rattle.t1_font.specs.FontBoxes.{Box}
-use Rattle.t1_algebra.proofs.Fonts.{subset_is_font, merges_are_fonts}
+use Rattle.t1_algebra.proofs.Fonts.{subset_is_font}
 use Rattle.t1_algebra.proofs.rejoining.Evened.{evened_draw}
 use Rattle.t1_subset.proofs.Answered.{draws_all}
 use Rattle.t1_algebra.proofs.rejoining.Boxed.{truncated_subsets_rejoin}
+use Rattle.t1_document.proofs.OneOutcome.{light_or_heavy}
+use Rattle.t1_document.proofs.Drawn.{each_through, shells_are_fonts, each_filled, comes_to_font}
 use Rattle.t1_cmd.specs.declared.counting.Counted.{Counted}
 use Rattle.t1_cmd.specs.declared.faults.Reason.{Reason}
 use Rattle.t1_cmd.specs.declared.faults.Reason.TheVariants.{Memory}
@@ -44,7 +39,7 @@ use Rattle.t1_cmd.specs.Fonts.{mended_input}
 use Rattle.t1_cmd.specs.Rejoins.{RejoinsUnless, RejoinsTo}
 use Rattle.t1_cmd.specs.Cuts.{AreCutFiles, OfRejoined, InputsAreCuts, WritesRejoined, AllStayDrawnIn, RejoinedDraw}
 use Rattle.t1_cmd.proofs.OneAnswer.{OneAnswer, files_answered, inputs_answered}
-use Rattle.t1_cmd.proofs.RejoinLemmas.{all_light, light_or_heavy, rejoins_unlacking, with_no_lack, has_no_lack, rejoins_apart}
+use Rattle.t1_cmd.proofs.RejoinLemmas.{all_light, rejoins_unlacking, with_no_lack, has_no_lack, rejoins_apart}
 
 -- ---- what truncated subsets rejoin to
 
@@ -168,73 +163,9 @@ writes_rejoined contents form is w v result ends f h t ts s o get =
 
 -- ---- what stays drawn
 
--- a glyph that stays drawn in e, and draws in j as in e, stays drawn in j
-through : (subrs : FontValue → Subrs) (f e j : FontValue) (n : List ℕ) → StaysDrawn subrs f e n → maps.get j.glyphs n ≡ maps.get e.glyphs n →
-    ((c : List ℕ) → maps.get e.glyphs n ≡ Some c →
-    (direct (subrs j) c ≡ direct (subrs e) c) × (direct3 (subrs j) c ≡ direct3 (subrs e) c) × (exec (subrs j) c ≡ exec (subrs e) c)) →
-    draw (subrs j) (maps.get j.glyphs) n ≡ draw (subrs e) (maps.get e.glyphs) n →
-    draw3 (subrs j) (maps.get j.glyphs) n ≡ draw3 (subrs e) (maps.get e.glyphs) n → StaysDrawn subrs f j n
-through subrs f e j n s same runs drawn drawn3 = record {
-  charstring = same ∙ s.charstring;
-  answer = λ c is none. (runs c (s.charstring ∙ is)).0 ∙ s.answer c is none;
-  answer3 = λ c is none. (runs c (s.charstring ∙ is)).1 ∙ s.answer3 c is none;
-  executes = λ c is none none3. (runs c (s.charstring ∙ is)).2 ∙ s.executes c is none none3;
-  draws = λ is. drawn ∙ s.draws is;
-  draws3 = λ is. drawn3 ∙ s.draws3 is;
-}
-
--- the same over the maps, and as calls see them
-through_both : (f e j : FontValue) (n : List ℕ) → IsFont e → IsFont j → StaysDrawn map_subrs f e n × StaysDrawn subr_at f e n → DrawsAlike e j n →
-    StaysDrawn map_subrs f j n × StaysDrawn subr_at f j n
-through_both f e j n font joined s d =
-    let a = answers_alike e j font joined n d in (
-      through map_subrs f e j n s.0 d.charstring (λ c is. (d.answer c is, d.answer3 c is, d.executes c is)) d.draws d.draws3,
-      through subr_at f e j n s.1 a.charstring (λ c is. (a.answer c is, a.answer3 c is, a.executes c is)) a.draws a.draws3,
-    )
-
--- so is it with each glyph of fonts that were made even
-each_through : (fs es : List FontValue) (j : FontValue) → EachBeside AllStayDrawn fs es → AllByRecursion IsFont es → IsFont j → DrawsAll es j →
-    AllStayDrawnIn fs j
-each_through [] [] j s fonts joined d = tt
-each_through [] (e ∷ es) j s fonts joined d = absurd s
-each_through (f ∷ fs) [] j s fonts joined d = absurd s
-each_through (f ∷ fs) (e ∷ es) j s fonts joined d = (
-  λ n there. through_both f e j n fonts.0 joined (s.0 n)
-      (d.0 n (subst (λ (o : Option (List ℕ)). is_some o ≡ true) (sym (s.0 n).0.charstring) there)),
-  each_through fs es j s.1 fonts.1 joined d.1,
-)
-
--- ---- fonts that are made even
-
-few_declared : (s : Shell) (o : Option SubrsShell) (m : Numbered) → SubrsFit s o m → declared_count o ≤ count_limit
-few_declared s None m h = omega arith
-few_declared s (Some k) m h = h.declared
-
-largest_few : (fs : List FontValue) → AllByRecursion IsFont fs → largest_count fs ≤ count_limit
-largest_few [] h = omega arith
-largest_few (f ∷ fs) h = omega (arith, few_declared f.shell f.shell.subrs f.subrs h.0.subrs, largest_few fs h.1)
-
-each_font : (n : ℕ) (fs : List FontValue) → n ≤ count_limit → AllByRecursion IsFont fs → AllByRecursion IsFont (map (even n) fs)
-each_font n [] le h = tt
-each_font n (f ∷ fs) le h = (even_is_font n f le h.0, each_font n fs le h.1)
-
-each_filled : (indices : List ℕ) (fs : List FontValue) → AllByRecursion IsFont fs → AreLight (map (filled indices) fs) →
-    AllByRecursion IsFont (map (filled indices) fs)
-each_filled indices [] h fit = tt
-each_filled indices (f ∷ fs) h fit = (filled_is_font indices f h.0 fit.0, each_filled indices fs h.1 fit.1)
-
 -- fonts made even are fonts where they are within the weight limit
 evened_are_fonts : (fs : List FontValue) → AllByRecursion IsFont fs → AreLight (evened fs) → AllByRecursion IsFont (evened fs)
-evened_are_fonts fs h fit =
-    each_filled (indices_of_all (evened_shells fs)) (evened_shells fs)
-    (boxed_are_fonts (each_even fs) (each_font (largest_count fs) fs (largest_few fs h) h)) fit
-
--- what fonts come to is a font
-comes_to_font : (fs : List FontValue) (j : FontValue) → AllByRecursion IsFont fs → ComesTo fs j → IsFont j
-comes_to_font [] j h c = absurd c
-comes_to_font (f ∷ fs) j h c =
-    let g = from_left (one f) fs in
-    merges_are_fonts profile g j c (each_leaf IsFont g (subst (AllByRecursion IsFont) (sym (leaves_from_left (one f) fs)) h))
+evened_are_fonts fs h fit = each_filled (indices_of_all (evened_shells fs)) (evened_shells fs) (shells_are_fonts fs h) fit
 
 -- so is it where no glyph lacks a Subr
 rejoined_draw_so : (form : Form) (fs : List FontValue) (text : List ℕ) → AllByRecursion IsFont fs → RejoinsUnless None form fs (Ok text) →

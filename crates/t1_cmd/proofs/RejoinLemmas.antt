@@ -22,12 +22,7 @@ use Rattle.t1_cmd.specs.Mergers.{MergesToFile}
 use Rattle.t1_cmd.specs.Rejoins.{RejoinsUnless, RejoinsTo, RejoinsWhatMerges}
 use Rattle.t1_cmd.proofs.MergeLemmas.{merges_apart}
 use Rattle.t1_algebra.proofs.rejoining.Evened.{merging_fonts_are_even}
-
--- fonts of which each is light are not heavy
-pub light_or_heavy : (fs : List FontValue) → AreLight fs → AnyHeavy fs → ⊥
-light_or_heavy [] l h = h
-light_or_heavy (f ∷ fs) l (inl h) = omega (arith, l.0, h)
-light_or_heavy (f ∷ fs) l (inr h) = light_or_heavy fs l.1 h
+use Rattle.t1_document.proofs.OneOutcome.{light_or_heavy}
 
 -- ---- fonts of which none lacks a Subr
 

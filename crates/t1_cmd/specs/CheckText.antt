@@ -9,6 +9,7 @@ use Rattle.t1_cmd.specs.declared.faults.Reason.{Reason}
 abbrev pub check_text : FontValue → List ℕ
 check_text f = codes "ok " ++ decimal (len f.glyphs) ++ codes " glyphs, " ++ decimal (len f.subrs) ++ codes " subrs, weight " ++ decimal (weight f) ++ 10 ∷ []
 
+-- what `check` prints of a font
 abbrev pub check_answer : FontValue → Result (List ℕ) Reason
 check_answer f = Ok (check_text f)
 

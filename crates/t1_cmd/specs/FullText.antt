@@ -10,7 +10,7 @@ use Rattle.t1_font.specs.FontModel.{subr_at, names_in}
 use Rattle.t1_join.specs.Shown.{shown}
 use Rattle.t1_join.specs.ListingMeaning.{ends_name}
 use Rattle.t1_cmd.specs.declared.faults.Reason.{Reason}
-use Rattle.t1_cmd.specs.DrawingText.{line, numbers, fault_line}
+use Rattle.t1_cmd.specs.DrawingText.{line, fault_line}
 use Rattle.t1_cmd.specs.ListText.{list_lines}
 
 -- ---- what the dictionary says
@@ -99,5 +99,6 @@ width_line f name = codes "width " ++ shown name ++ width_told (draw (subr_at f)
 abbrev pub full_lines : FontValue → List ℕ
 full_lines f = list_lines f ++ dictionary_lines f ++ flat_map (width_line f) (names_in f.glyphs)
 
+-- what `list --full` prints of a font
 abbrev pub full_answer : FontValue → Result (List ℕ) Reason
 full_answer f = Ok (full_lines f)

@@ -34,5 +34,6 @@ abbrev pub list_lines : FontValue → List ℕ
 list_lines f =
     encoding_lines f.encoding ++ flat_map (λ e. subr_length_line e.0 e.1) (entries f.subrs) ++ flat_map (λ e. glyph_length_line e.0 e.1) (entries f.glyphs)
 
+-- what `list` prints of a font
 abbrev pub list_answer : FontValue → Result (List ℕ) Reason
 list_answer f = Ok (list_lines f)

@@ -1,5 +1,5 @@
 -- What was joined is joined to itself.
-use Rattle.std.proofs.Common.{◌≡◌, ℕ, Bool, true, false, cond, refl, sym, ◌∙◌, ap, subst, List, [], ◌∷◌, ◌++◌, map, inl, inr, ◌⊎◌, Option, Some, None, Result, Ok, Err}
+use Rattle.std.proofs.Common.{◌≡◌, ℕ, Bool, true, false, cond, refl, sym, ◌∙◌, ap, subst, List, [], ◌∷◌, ◌++◌, map, inl, inr, Option, Some, None, Result, Ok, Err}
 use Rattle.std.specs.Prelude.{◌&&◌, ◌||◌, not}
 use Rattle.std.specs.List.{AllByRecursion, list_all}
 use Rattle.std.specs.Option.{option_and_then}
@@ -11,15 +11,12 @@ use Rattle.std.proofs.lemmas.Option.{none-some, same_Some}
 use Rattle.std.proofs.lemmas.Slice.Eq.{bytes_eq-Decides}
 use Rattle.t1_font.specs.declared.fault.ReadFault.{ReadFault}
 use Rattle.t1_font.specs.FontValue.{FontValue}
-use Rattle.t1_font.specs.ReadFont.{read_font_widely}
-use Rattle.t1_font.specs.FontNames.{evened_named}
 use Rattle.t1_document.specs.declared.rewriting.Way.TheVariants.{Level, Pool}
-use Rattle.t1_document.specs.declared.joins.Kept.TheVariants.{Unread, Unlike, Barred}
 use Rattle.t1_document.specs.declared.joins.Outcome.{Outcome}
 use Rattle.t1_document.specs.declared.joins.Outcome.TheVariants.{Same, Joined, Stays}
 use Rattle.t1_document.specs.Documents.{Place, Document, document_bytes, document_of}
-use Rattle.t1_document.specs.Rewriting.{NewTexts, can_stand, is_barred, is_refused, standing, rewritten, levelled, pooled, with_new, renewed, ArePooled}
-use Rattle.t1_document.specs.Joins.{Outcomes, AreOutcomes, places_of_all, places_under, fonts_of, with_font, new_texts, text_of, ComeTo, OfPlaces, OfFonts, OfEvened, IsSame, LevelsTo}
+use Rattle.t1_document.specs.Rewriting.{NewTexts, can_stand, is_barred, is_refused, standing, rewritten, levelled, with_new, renewed, ArePooled}
+use Rattle.t1_document.specs.Joins.{Outcomes, AreOutcomes, places_of_all, places_under, fonts_of, new_texts, text_of, ComeTo, OfPlaces, OfFonts, IsSame, LevelsTo}
 use Rattle.t1_document.specs.Laws.{HasNew, NoneRefused}
 use Rattle.t1_document.specs.JoinLaws.{NewTextsStand, PooledAgain, LevelledAgain}
 use Rattle.t1_document.proofs.OwnTexts.{Own, own_texts_stand, own_texts_stay}

@@ -1,29 +1,28 @@
 -- In another order documents get the same texts.
-use Rattle.std.proofs.Common.{◌≡◌, ℕ, arith, Bool, true, false, cond, max, refl, sym, ◌∙◌, ap, subst, List, [], ◌∷◌, ◌++◌, length, map, filter, IsPermutation, Option, Some, None, Result, Ok, Err}
-use Rattle.std.specs.Prelude.{◌&&◌, ◌||◌, not, nat_lt}
-use Rattle.std.specs.List.{AllByRecursion, list_all, list_any, flat_map}
+use Rattle.std.proofs.Common.{◌≡◌, ℕ, arith, Bool, true, false, cond, max, refl, sym, ◌∙◌, ap, subst, List, [], ◌∷◌, ◌++◌, map, IsPermutation, Option, Some, None, Result, Ok, Err}
+use Rattle.std.specs.Prelude.{◌&&◌, not, nat_lt}
+use Rattle.std.specs.List.{AllByRecursion, list_all, flat_map}
 use Rattle.std.specs.Option.{option_and_then, option_map}
 use Rattle.std.specs.Str.{bytes_eq}
 use Rattle.std.specs.Ordering.{nat_cmp, eq_by_cmp}
 use Rattle.std.specs.Cmp.{nat_cmp_total}
 use Rattle.std.specs.FinMap as maps
-use Rattle.std.specs.FinMap.{find, get-from_entries, same_map, nat_cmp-IsAntisymmetric}
+use Rattle.std.specs.FinMap.{get-from_entries, same_map, nat_cmp-IsAntisymmetric}
 use Rattle.std.proofs.lemmas.Bool.{and_parts, true≢false}
-use Rattle.std.proofs.lemmas.Option.{none-some, same_Some}
+use Rattle.std.proofs.lemmas.Option.{none-some}
 use Rattle.std.proofs.lemmas.Slice.Eq.{bytes_eq-Decides}
 use Rattle.std.proofs.lemmas.List.Sorted.{IsPermutation-refl, IsPermutation-sym, IsPermutation-trans, IsPermutation-map, IsPermutation-cons, length_permutation, list_any-IsPermutation}
 use Rattle.t1_bytes.specs.Laws.{AreBytes}
 use Rattle.t1_join.specs.Groupings.{one, from_left, leaves}
 use Rattle.t1_join.proofs.OrderLemmas.{leaves_from_left}
 use Rattle.t1_font.specs.declared.fault.ReadFault.{ReadFault}
-use Rattle.t1_font.specs.FontValue.{FontValue, Numbered, declared_count}
+use Rattle.t1_font.specs.FontValue.{FontValue, declared_count}
 use Rattle.t1_font.specs.IsFont.{IsFont}
 use Rattle.t1_font.specs.Cut.{stub}
 use Rattle.t1_font.specs.Maps.{merged}
 use Rattle.t1_font.specs.ReadFont.{read_font_widely}
 use Rattle.t1_font.specs.FontBoxes.{Box, box_of, joined_box, can_have, font_with, boxes_of, boxed_by, boxed}
 use Rattle.t1_font.specs.Evening.{even, stubs_at, below, with_stubs, filled, largest_count, indices_of_all, each_even, evened_shells, filled_all}
-use Rattle.t1_font.specs.Filling.{AreLight}
 use Rattle.t1_font.specs.FontNames.{named, evened_named}
 use Rattle.t1_font.proofs.even_fonts.BoxOrder.{in_any_order}
 use Rattle.t1_font.proofs.even_fonts.Filled.{find_stub}
@@ -36,15 +35,13 @@ use Rattle.t1_algebra.proofs.ManyMerges.{each_font}
 use Rattle.t1_subset.specs.Rejoins.{Rejoin}
 use Rattle.t1_document.specs.declared.joins.Outcome.{Outcome}
 use Rattle.t1_document.specs.declared.joins.Outcome.TheVariants.{Same, Joined, Stays}
-use Rattle.t1_document.specs.Fonts.{canon_text}
 use Rattle.t1_document.specs.Documents.{Place, document_of}
 use Rattle.t1_document.specs.Rewriting.{can_stand}
-use Rattle.t1_document.specs.Joins.{Outcomes, AreOutcomes, places_of_all, places_under, fonts_of, with_font, new_texts, text_of, ComeTo, OfPlaces, OfFonts, OfEvened, IsSame, RejoinToText}
-use Rattle.t1_document.specs.Laws.{Spells}
+use Rattle.t1_document.specs.Joins.{places_of_all, places_under, fonts_of, with_font, new_texts, text_of, ComeTo, OfPlaces, OfFonts, IsSame}
 use Rattle.t1_document.specs.JoinLaws.{InAnyOrder}
 use Rattle.t1_document.proofs.Exchanges.{Exchanged, exchanged_first, in_each_order, flat_in_order, filter_in_order, all_in_order}
 use Rattle.t1_document.proofs.Drawn.{shells_are_fonts, each_filled, each_named}
-use Rattle.t1_document.proofs.OneOutcome.{same_text, one_text_for}
+use Rattle.t1_document.proofs.OneOutcome.{one_text_for}
 use Rattle.t1_document.proofs.Again.{HaveText, have_same}
 use Rattle.t1_document.proofs.NewTextsDraw.{IsUnder, AreFonts, all_sound, sound_under, fonts_read, fonts_sound, name_of_bytes}
 

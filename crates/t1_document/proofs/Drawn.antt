@@ -1,7 +1,7 @@
 -- What stays drawn where fonts are made even, get a name and rejoin.
-use Rattle.std.proofs.Common.{◌≡◌, ℕ, ◌+◌, ◌≤◌, arith, Bool, true, false, cond, refl, sym, ◌∙◌, ap, subst, List, [], ◌∷◌, ◌++◌, ◌-◌, length, take, drop, map, Option, Some, None, Ok}
+use Rattle.std.proofs.Common.{◌≡◌, ℕ, ◌≤◌, arith, Bool, true, false, cond, refl, sym, ◌∙◌, ap, subst, List, [], ◌∷◌, ◌++◌, ◌-◌, length, take, drop, map, Option, Some, None, Ok}
 use Rattle.std.specs.Prelude.{is_some, nat_le}
-use Rattle.std.specs.List.{AllByRecursion, flat_map}
+use Rattle.std.specs.List.{AllByRecursion}
 use Rattle.std.specs.Option.{option_map}
 use Rattle.std.specs.FinMap as maps
 use Rattle.std.proofs.lemmas.Bool.{and_parts}
@@ -20,7 +20,7 @@ use Rattle.t1_font.specs.Words.{is_regular}
 use Rattle.t1_font.specs.Rewriting.{parted}
 use Rattle.t1_font.specs.Tags.{name_marker, name_in}
 use Rattle.t1_font.specs.EvenTexts.{both_fit}
-use Rattle.t1_font.specs.FontBoxes.{Box, joined_box, font_with, with_texts}
+use Rattle.t1_font.specs.FontBoxes.{Box, joined_box, font_with}
 use Rattle.t1_font.specs.Filling.{AreLight}
 use Rattle.t1_font.specs.Evening.{even, filled, largest_count, indices_of_all, each_even, evened_shells, filled_all}
 use Rattle.t1_font.specs.FontNames.{name_between, text_named, clear_named, font_named, can_be_named, named, evened_named}

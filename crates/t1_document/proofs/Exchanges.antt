@@ -1,7 +1,7 @@
 -- Lists in which two neighbours are exchanged.
-use Rattle.std.proofs.Common.{◌≡◌, zero, suc, set, ltb, ◌<◌, ◌≤◌, ◌+◌, ◌-◌, ℕ, Bool, true, false, cond, refl, sym, ◌∙◌}
-use Rattle.std.proofs.Common.{ap, subst, arith, append_assoc, List, [], ◌∷◌, ◌++◌, length, take, drop, get_or, map, filter, IsPermutation, Option, Some, None}
-use Rattle.std.specs.List.{AllByRecursion, list_all, list_any, flat_map, swap}
+use Rattle.std.proofs.Common.{◌≡◌, zero, suc, set, ltb, ◌<◌, ◌+◌, ◌-◌, ℕ, Bool, true, false, cond, refl, sym, ◌∙◌}
+use Rattle.std.proofs.Common.{ap, subst, arith, append_assoc, List, [], ◌∷◌, ◌++◌, length, get_or, filter, IsPermutation}
+use Rattle.std.specs.List.{AllByRecursion, flat_map, swap}
 use Rattle.std.proofs.lemmas.Bool.{ltb-true, ltb-false}
 use Rattle.std.proofs.lemmas.List.{length-append, get_or_at, set_at, set_comm, set-get_or}
 use Rattle.std.proofs.lemmas.List.Elements.{filter-append}

@@ -1,10 +1,10 @@
 -- What the places of a name get spells a font in which theirs stay.
-use Rattle.std.proofs.Common.{◌≡◌, ℕ, ◌≤◌, arith, Bool, true, false, cond, refl, sym, ◌∙◌, ap, subst, List, [], ◌∷◌, ◌++◌, length, filter, Option, Some, None, Result, Ok, Err}
+use Rattle.std.proofs.Common.{◌≡◌, ℕ, Bool, true, false, cond, refl, sym, ◌∙◌, ap, subst, List, [], ◌∷◌, ◌++◌, Option, Some, None, Result, Ok, Err}
 use Rattle.std.specs.Prelude.{◌&&◌, not}
 use Rattle.std.specs.List.{AllByRecursion, flat_map, list_all}
 use Rattle.std.specs.Option.{option_and_then}
 use Rattle.std.specs.Str.{bytes_eq}
-use Rattle.std.proofs.lemmas.Bool.{and_parts, true≢false, cases_Bool}
+use Rattle.std.proofs.lemmas.Bool.{and_parts, true≢false}
 use Rattle.std.proofs.lemmas.Option.{none-some, same_Some}
 use Rattle.std.proofs.lemmas.Slice.Eq.{bytes_eq-Decides}
 use Rattle.std.proofs.lemmas.List.{append-nil}
@@ -15,21 +15,17 @@ use Rattle.t1_font.specs.FontValue.{FontValue}
 use Rattle.t1_font.specs.IsFont.{IsFont}
 use Rattle.t1_font.specs.Dialect.{wide}
 use Rattle.t1_font.specs.ReadFont.{read_font_widely}
-use Rattle.t1_font.specs.Tags.{name_in}
 use Rattle.t1_font.specs.FontNames.{evened_named}
 use Rattle.t1_font.proofs.ByteLemmas.{has_bytes}
 use Rattle.t1_font.proofs.read_fonts.ReadBytes.{bytes_left, bytes_right}
 use Rattle.t1_font.proofs.read_fonts.ReadFontLaws.{read_is_font}
-use Rattle.t1_subset.specs.Rejoins.{Rejoin}
-use Rattle.t1_document.specs.declared.joins.Kept.{Kept}
-use Rattle.t1_document.specs.declared.joins.Kept.TheVariants.{Unread, Unlike, Barred}
 use Rattle.t1_document.specs.declared.joins.Outcome.{Outcome}
 use Rattle.t1_document.specs.declared.joins.Outcome.TheVariants.{Same, Joined, Stays}
 use Rattle.t1_document.specs.Fonts.{FontText, font_in, canon_text}
 use Rattle.t1_document.specs.Marks.{has_mark}
 use Rattle.t1_document.specs.Documents.{Place, place_bytes, document_of}
 use Rattle.t1_document.specs.Rewriting.{is_font, can_stand}
-use Rattle.t1_document.specs.Joins.{Outcomes, AreOutcomes, places_of_all, places_under, fonts_of, with_font, new_texts, text_of, ComeTo, OfPlaces, OfFonts, OfEvened, IsSame}
+use Rattle.t1_document.specs.Joins.{places_of_all, places_under, fonts_of, with_font, text_of, ComeTo, OfPlaces, OfFonts, OfEvened, IsSame}
 use Rattle.t1_document.specs.Laws.{Spells}
 use Rattle.t1_document.specs.JoinLaws.{StaysIn, FontStaysIn, NewTextsDraw}
 use Rattle.t1_document.proofs.PlaceLemmas.{document_text}

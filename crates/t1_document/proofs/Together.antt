@@ -4,7 +4,7 @@ use Rattle.std.specs.Str.{bytes_eq}
 use Rattle.std.proofs.lemmas.List.{append-nil}
 use Rattle.t1_document.specs.Documents.{Place, Document, behind_bytes, document_of, prepended, followed}
 use Rattle.t1_document.specs.Rewriting.{levelled}
-use Rattle.t1_document.specs.Joins.{Outcomes, AreOutcomes, places_of_all, places_under, new_texts}
+use Rattle.t1_document.specs.Joins.{places_of_all, places_under, new_texts}
 use Rattle.t1_document.specs.JoinLaws.{LevelledTogether}
 use Rattle.t1_document.proofs.Pooled.{bare}
 use Rattle.t1_document.proofs.Bare.{come_alike}

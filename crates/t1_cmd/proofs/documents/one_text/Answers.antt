@@ -1,4 +1,4 @@
-use Rattle.std.proofs.Common.{◌≡◌, ◌+◌, ℕ, List, length, map, drop, Bor, arith, sym, ap, ◌∙◌}
+use Rattle.std.proofs.Common.{◌+◌, ℕ, List, length, map, drop, Bor, arith, sym, ap, ◌∙◌}
 use Rattle.std.proofs.lemmas.List.{drop_more}
 use Rattle.t1_document.specs.Lines.{behind_documents}
 use Rattle.t1_cmd.proofs.DocumentLemmas.{documents_longer}

@@ -1,4 +1,4 @@
-use Rattle.std.proofs.Common.{◌≡◌, ℕ, List, map, sym, ap, subst, ◌∙◌}
+use Rattle.std.proofs.Common.{List, map, ap, subst, ◌∙◌}
 use Rattle.t1_document.specs.declared.documents.Place.{Place as CodePlace}
 use Rattle.t1_document.specs.Documents.{Document}
 use Rattle.t1_document.specs.Groups.{outcome_in}

@@ -1,4 +1,4 @@
-use Rattle.std.proofs.Common.{◌≡◌, ℕ, List, map, take, sym, ap, ◌∙◌}
+use Rattle.std.proofs.Common.{map, sym, ap, ◌∙◌}
 use Rattle.std.proofs.lemmas.List.{take_all}
 use Rattle.t1_document.specs.declared.documents.Document.{Document as CodeDocument}
 use Rattle.t1_document.specs.Rewriting.{document_levelled}

@@ -1,4 +1,4 @@
-use Rattle.std.proofs.Common.{◌≡◌, ℕ, List, map, sym, ap, subst, ◌∙◌}
+use Rattle.std.proofs.Common.{◌≡◌, ℕ, List, map, ap, subst, ◌∙◌}
 use Rattle.std.specs.List.{flat_map}
 use Rattle.t1_subset.specs.NameSets.{lent}
 use Rattle.t1_document.specs.declared.documents.Place.{Place as CodePlace}
