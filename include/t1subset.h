@@ -64,7 +64,7 @@ enum t1subset_number {
     T1SUBSET_BAD_CALL = 2,              /* the form is neither T1SUBSET_PFA nor T1SUBSET_PFB (no text) */
     T1SUBSET_FILE_TOO_LONG = 3,         /* "file too long": it has more than 268,435,456 bytes */
     T1SUBSET_NO_GLYPH = 4,              /* "no glyph NAME": the first name that the font lacks */
-    T1SUBSET_NO_CODE = 5,               /* "no code N": the Encoding has no name for it; the program's alone so far */
+    T1SUBSET_NO_CODE = 5,               /* "no code N": the first code for which the Encoding has no name; told before names */
 
     /* A file spells no font. answer->input is its place. Offsets count from 0: in the file for a segment, in the clear
      * text for the Encoding, else in the decrypted private text. */
@@ -140,6 +140,12 @@ uint32_t t1subset_mends(const uint8_t *font, size_t size, t1subset_answer *answe
 /* The canonical file of the subset that keeps these glyphs, .notdef, the components of accented glyphs, and the Subrs
  * that all of these execute. A name may stand in the list more than once. */
 uint32_t t1subset_subset(const uint8_t *font, size_t size, const t1subset_bytes *names, size_t count, uint32_t form, t1subset_answer *answer);
+
+/* The same, and the glyphs are kept, too, whose names these codes have in the font's Encoding; each byte is a code, and a code
+ * may be there more than once. If the Encoding is the word StandardEncoding, the names are those of StandardEncoding; by any
+ * other word no code has a name. */
+uint32_t t1subset_subset_codes(const uint8_t *font, size_t size, const t1subset_bytes *names, size_t count,
+                               const uint8_t *codes, size_t codes_size, uint32_t form, t1subset_answer *answer);
 
 /* The canonical file of the font that fonts merge to. Subsets of one font that t1subset cut merge, in every order, to the
  * subset of all their names, byte for byte. */

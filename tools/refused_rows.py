@@ -108,3 +108,4 @@ def rows():
         yield name, ["join", "one", "other"], {"one": one, "other": other}
     yield "no_glyph", ["subset", "good", "out", "A", "B", "C"], {"good": good}
     yield "no_glyph", ["show", "good", "B"], {"good": good}
+    yield "no_code", ["subset", "good", "out", "B", "--codes", "65,200,66"], {"good": good}

@@ -32,10 +32,10 @@ FONTS = 30
 WARNINGS = ["-O1", "-g", "-Wall", "-Wextra", "-Wconversion", "-Wpedantic", "-Wshadow", "-Werror"]
 IN_C = ["-std=c11", "-Wstrict-prototypes"]
 SANITIZERS = ["-fsanitize=address,undefined", "-fno-sanitize-recover=all"]
-# Numbers that no word over the library answers: growths.c and edges.c meet them, but for that of codes, which no call takes.
-ELSEWHERE = {"ok", "memory", "bad_call", "file_too_long", "nothing_to_merge", "no_code"}
+# Numbers that no word over the library answers: growths.c and edges.c meet them.
+ELSEWHERE = {"ok", "memory", "bad_call", "file_too_long", "nothing_to_merge"}
 # Options that no call has.
-OWN_OPTIONS = {"--names", "--codes", "--text", "--explain", "--full"}
+OWN_OPTIONS = {"--names", "--explain", "--full"}
 
 
 class Library:
@@ -66,7 +66,7 @@ class Library:
 
 def library_rows(given):
     """The rows that a library can be held to. Status 2 is a fault of the command line, and 3 of opening files, which are the
-    program's own; so are its help and its version, files of names, codes, and `check` of several files."""
+    program's own; so are its help and its version, files of names, and `check` of several files."""
     rows = [row for row in program_rows.all_rows(given) if row.status < 2 and row.out is not program_rows.SOME]
     rows = [row for row in rows if not OWN_OPTIONS.intersection(word.split("=")[0] for word in row.words if isinstance(word, str))]
     rows = [row for row in rows if row.words[0] != "check" or len(row.words) == 2]
@@ -205,6 +205,8 @@ def run_font(pair, font, last):
         pair.both(["show", font, "--", name])
     pair.both(["subset", font, "out", "--", *names, *names[:2]])
     pair.both(["subset", font, "out", "--", *names, "no-such-glyph"])
+    for codes in (["--codes", "65-70"], ["--codes", "97,65,97", "--text", "by codes"]):
+        pair.both(["subset", font, "out", *codes, "--", *names[:2]])
     halves = {name: pair.both(["subset", font, "out", "--", *names[at::2]])[3] for at, name in enumerate(("half", "other"))}
     pair.write(halves)
     pair.both(["merge", "out", "other", "half"])

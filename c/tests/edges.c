@@ -33,6 +33,7 @@ static void expect(const char *call, uint32_t number, uint32_t wanted, int64_t i
 
 static void no_bytes(t1subset_bytes font) {
     const t1subset_bytes nothing = {NULL, 0}, two[] = {font, nothing}, no_name[] = {nothing};
+    const uint8_t no_code[] = {0};
     EXPECT(t1subset_check(NULL, 0, &answer), T1SUBSET_NO_EEXEC, 0, "no eexec");
     EXPECT(t1subset_list(NULL, 0, &answer), T1SUBSET_NO_EEXEC, 0, "no eexec");
     EXPECT(t1subset_show(NULL, 0, NULL, 0, &answer), T1SUBSET_NO_EEXEC, 0, "no eexec");
@@ -43,6 +44,10 @@ static void no_bytes(t1subset_bytes font) {
     EXPECT(t1subset_subset(NULL, 0, NULL, 0, T1SUBSET_PFA, &answer), T1SUBSET_NO_EEXEC, 0, "no eexec");
     EXPECT(t1subset_subset(font.data, font.size, NULL, 0, T1SUBSET_PFB, &answer), T1SUBSET_OK, -1, NULL);
     EXPECT(t1subset_subset(font.data, font.size, no_name, 1, T1SUBSET_PFB, &answer), T1SUBSET_NO_GLYPH, -1, "no glyph ");
+    EXPECT(t1subset_subset_codes(NULL, 0, NULL, 0, NULL, 0, T1SUBSET_PFA, &answer), T1SUBSET_NO_EEXEC, 0, "no eexec");
+    EXPECT(t1subset_subset_codes(font.data, font.size, NULL, 0, NULL, 0, T1SUBSET_PFB, &answer), T1SUBSET_OK, -1, NULL);
+    EXPECT(t1subset_subset_codes(font.data, font.size, no_name, 1, NULL, 0, T1SUBSET_PFB, &answer), T1SUBSET_NO_GLYPH, -1, "no glyph ");
+    EXPECT(t1subset_subset_codes(font.data, font.size, NULL, 0, no_code, 1, T1SUBSET_PFB, &answer), T1SUBSET_NO_CODE, -1, "no code 0");
     EXPECT(t1subset_merge(NULL, 0, T1SUBSET_PFA, &answer), T1SUBSET_NOTHING_TO_MERGE, -1, "nothing to merge");
     EXPECT(t1subset_merge(two, 2, T1SUBSET_PFA, &answer), T1SUBSET_NO_EEXEC, 1, "no eexec");
     EXPECT(t1subset_rejoin(NULL, 0, T1SUBSET_PFA, &answer), T1SUBSET_NOTHING_TO_MERGE, -1, "nothing to merge");
@@ -59,6 +64,7 @@ static void no_forms(t1subset_bytes font) {
         EXPECT(t1subset_convert(font.data, font.size, forms[at], &answer), T1SUBSET_BAD_CALL, -1, "");
         EXPECT(t1subset_mend(font.data, font.size, forms[at], &answer), T1SUBSET_BAD_CALL, -1, "");
         EXPECT(t1subset_subset(font.data, font.size, NULL, 0, forms[at], &answer), T1SUBSET_BAD_CALL, -1, "");
+        EXPECT(t1subset_subset_codes(font.data, font.size, NULL, 0, NULL, 0, forms[at], &answer), T1SUBSET_BAD_CALL, -1, "");
         EXPECT(t1subset_merge(&font, 1, forms[at], &answer), T1SUBSET_BAD_CALL, -1, "");
         EXPECT(t1subset_rejoin(&font, 1, forms[at], &answer), T1SUBSET_BAD_CALL, -1, "");
     }

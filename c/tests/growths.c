@@ -40,8 +40,15 @@ static uint32_t diff(t1subset_answer *to) { return t1subset_diff(parts[0].data, 
 static uint32_t join(t1subset_answer *to) {
     return t1subset_join(listings[0].data, listings[0].size, listings[1].data, listings[1].size, to);
 }
+/* Codes that Tiny's Encoding has. */
+static uint32_t subset_codes(t1subset_answer *to) {
+    return t1subset_subset_codes(font.data, font.size, names, 2, (const uint8_t *) "AB", 2, T1SUBSET_PFA, to);
+}
 /* Refusals, whose texts grow too. */
 static uint32_t no_glyph(t1subset_answer *to) { return t1subset_subset(font.data, font.size, names, 3, T1SUBSET_PFA, to); }
+static uint32_t no_code(t1subset_answer *to) {
+    return t1subset_subset_codes(font.data, font.size, names, 2, (const uint8_t *) "AB\xff", 3, T1SUBSET_PFA, to);
+}
 static uint32_t no_font(t1subset_answer *to) { return t1subset_merge(parts, 3, T1SUBSET_PFA, to); }
 
 static const struct {
@@ -51,8 +58,10 @@ static const struct {
 } calls[] = {
     {"check", check, T1SUBSET_OK}, {"list", list, T1SUBSET_OK}, {"show", show, T1SUBSET_OK},
     {"convert", convert, T1SUBSET_OK}, {"mend", mend, T1SUBSET_OK}, {"mends", mends, T1SUBSET_OK}, {"subset", subset, T1SUBSET_OK},
+    {"subset of codes", subset_codes, T1SUBSET_OK},
     {"merge", merge, T1SUBSET_OK}, {"rejoin", rejoin, T1SUBSET_OK}, {"diff", diff, T1SUBSET_OK}, {"join", join, T1SUBSET_OK},
-    {"subset of no glyph", no_glyph, T1SUBSET_NO_GLYPH}, {"merge of no font", no_font, T1SUBSET_NO_EEXEC},
+    {"subset of no glyph", no_glyph, T1SUBSET_NO_GLYPH}, {"subset of no code", no_code, T1SUBSET_NO_CODE},
+    {"merge of no font", no_font, T1SUBSET_NO_EEXEC},
 };
 
 static t1subset_bytes whole(const char *path) {

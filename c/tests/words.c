@@ -27,8 +27,57 @@ static t1subset_bytes whole(const char *path) {
     return (t1subset_bytes) {data, size};
 }
 
+/* What the options of the words say. */
+struct options {
+    uint32_t form;
+    uint8_t codes[1 << 12];
+    size_t count;
+};
+
+static void add_codes(struct options *options, const char *bytes, size_t size) {
+    if (size > sizeof options->codes - options->count) fail("too many codes\n");
+    memcpy(options->codes + options->count, bytes, size);
+    options->count += size;
+}
+
+/* The codes of a list that is one, such as 65-90,97. */
+static void add_list(struct options *options, const char *list) {
+    for (char *end; *list; list = *end ? end + 1 : end) {
+        const unsigned long first = strtoul(list, &end, 10), last = *end == '-' ? strtoul(end + 1, &end, 10) : first;
+        for (unsigned long code = first; code <= last; code++) add_codes(options, &(char) {(char) code}, 1);
+    }
+}
+
+/* What stands behind an option: in its own word behind `=`, or as the next word. NULL if this word is not the option. */
+static const char *value_of(const char *option, char **words, int *at) {
+    const size_t size = strlen(option);
+    if (strncmp(words[*at], option, size)) return NULL;
+    return words[*at][size] == '=' ? words[*at] + size + 1 : words[*at][size] ? NULL : words[++*at];
+}
+
+/* Takes the options out of the words, and answers how many are left. */
+static int take_options(struct options *options, int count, char **words) {
+    int left = 0, plain = 0;
+    const char *text = "", *value;
+    for (int at = 0; at < count; at++) {
+        if (!plain && !strcmp(words[at], "--")) plain = 1;
+        else if (!plain && !strcmp(words[at], "--pfb")) options->form = T1SUBSET_PFB;
+        else if (!plain && (value = value_of("--codes", words, &at))) add_list(options, value);
+        else if (!plain && (value = value_of("--text", words, &at))) text = value;
+        else words[left++] = words[at];
+    }
+    add_codes(options, text, strlen(text));
+    return left;
+}
+
+static uint32_t subset(const struct options *options, t1subset_bytes font, const t1subset_bytes *names, size_t count, t1subset_answer *answer) {
+    if (!options->count) return t1subset_subset(font.data, font.size, names, count, options->form, answer);
+    return t1subset_subset_codes(font.data, font.size, names, count, options->codes, options->count, options->form, answer);
+}
+
 /* The call of a word; arguments are the files and names behind it, without OUT. */
-static uint32_t call(const char *word, uint32_t form, const t1subset_bytes *arguments, size_t count, t1subset_answer *answer) {
+static uint32_t call(const char *word, const struct options *options, const t1subset_bytes *arguments, size_t count, t1subset_answer *answer) {
+    const uint32_t form = options->form;
     const t1subset_bytes first = count > 0 ? arguments[0] : named(""), second = count > 1 ? arguments[1] : named("");
     if (!strcmp(word, "check")) return t1subset_check(first.data, first.size, answer);
     if (!strcmp(word, "list")) return t1subset_list(first.data, first.size, answer);
@@ -36,7 +85,7 @@ static uint32_t call(const char *word, uint32_t form, const t1subset_bytes *argu
     if (!strcmp(word, "pfa")) return t1subset_convert(first.data, first.size, T1SUBSET_PFA, answer);
     if (!strcmp(word, "pfb")) return t1subset_convert(first.data, first.size, T1SUBSET_PFB, answer);
     if (!strcmp(word, "mend")) return t1subset_mend(first.data, first.size, form, answer);
-    if (!strcmp(word, "subset")) return t1subset_subset(first.data, first.size, arguments + 1, count - 1, form, answer);
+    if (!strcmp(word, "subset")) return subset(options, first, arguments + 1, count - 1, answer);
     if (!strcmp(word, "merge")) return t1subset_merge(arguments, count, form, answer);
     if (!strcmp(word, "rejoin")) return t1subset_rejoin(arguments, count, form, answer);
     if (!strcmp(word, "diff")) return t1subset_diff(first.data, first.size, second.data, second.size, answer);
@@ -84,24 +133,20 @@ static void say_mends(t1subset_bytes font) {
 
 int main(int count, char **words) {
     if (count < 3) return 2;
+    static struct options options;
+    count = take_options(&options, count, words);
     const char *word = words[1];
-    uint32_t form = T1SUBSET_PFA;
-    if (!strcmp(words[2], "--pfb")) {
-        form = T1SUBSET_PFB;
-        words++;
-        count--;
-    }
     const int out = out_of(word), files = files_of(word, count);
     t1subset_bytes *arguments = calloc((size_t) count, sizeof *arguments);
     if (!arguments) return 2;
     size_t taken = 0;
     for (int at = 2; at < count; at++) {
-        if (at == out || !strcmp(words[at], "--")) continue;
+        if (at == out) continue;
         arguments[taken] = taken < (size_t) files ? whole(words[at]) : named(words[at]);
         taken++;
     }
     t1subset_answer answer = T1SUBSET_ANSWER;
-    const uint32_t number = call(word, form, arguments, taken, &answer);
+    const uint32_t number = call(word, &options, arguments, taken, &answer);
     tell(number, &answer);
     int status = number ? 1 : write_to(out ? words[out] : NULL, answer.bytes);
     if (number) fprintf(stderr, "refused: %.*s\n", (int) answer.bytes.size, (const char *) answer.bytes.data);

@@ -85,14 +85,21 @@ def mends(font: BytesLike) -> List[Mend]:
     return _texts.mended(_text(library.t1subset_mends, *_file(font)))
 
 
-def subset(font: BytesLike, names: Iterable[Name], form: AnyForm = "pfa") -> bytes:
+def subset(font: BytesLike, names: Iterable[Name], form: AnyForm = "pfa", *, codes: BytesLike = b"") -> bytes:
     """The canonical file of the subset that keeps these glyphs, .notdef, the components of accented glyphs, and the
     Subrs that all of these execute. A name may be given more than once.
 
+    The names that these codes have in the font's Encoding are kept, too; each byte is a code. If the Encoding is the
+    word StandardEncoding, the names are those of StandardEncoding; by any other word no code has a name. The first code
+    without a name is refused, before a name that the font lacks.
+
     >>> check(subset(font, ["X", "Y"]))
     Checked(glyphs=3, subrs=10, weight=2718)
+    >>> subset(font, ["X"], codes=b"B") == subset(font, [], codes=b"AB") == subset(font, ["X", "Y"])
+    True
     """
-    return _call(library.t1subset_subset, *_file(font), *_files(map(_name, _several(names, "names"))), _form(form))
+    given = *_file(font), *_files(map(_name, _several(names, "names"))), *_file(codes)
+    return _call(library.t1subset_subset_codes, *given, _form(form))
 
 
 def merge(fonts: Iterable[BytesLike], form: AnyForm = "pfa") -> bytes:

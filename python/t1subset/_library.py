@@ -39,6 +39,7 @@ _CALLS: Dict[str, List[Any]] = {
     "t1subset_mend": _FILE + _FORM,
     "t1subset_mends": _FILE,
     "t1subset_subset": _FILE + _LIST + _FORM,
+    "t1subset_subset_codes": _FILE + _LIST + _FILE + _FORM,
     "t1subset_merge": _LIST + _FORM,
     "t1subset_rejoin": _LIST + _FORM,
     "t1subset_diff": _FILE + _FILE,

@@ -19,7 +19,7 @@ class Number(enum.IntEnum):
     NO_GLYPH = 4
     """no glyph NAME"""
     NO_CODE = 5
-    """no code N, which no call answers so far"""
+    """no code N, the first of the codes that has no name"""
 
     BAD_SEGMENT = 10
     """bad segment at N"""

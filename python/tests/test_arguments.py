@@ -43,6 +43,12 @@ class Arguments(unittest.TestCase):
                         self.assertEqual(t1subset.merge([font, font], "pfb"), PFB)
                         self.assertEqual(t1subset.join(b"", memoryview(b"")), b"")
 
+    def test_bytes_like_codes(self) -> None:
+        both = t1subset.subset(PFA, ["X", "Y"])
+        for codes in (b"AB", bytearray(b"BA"), memoryview(b"-A-B")[1::2], array.array("B", b"ABA"), bytes(range(65, 67))):
+            self.assertEqual(t1subset.subset(PFA, (), codes=codes), both)  # type: ignore[arg-type]
+        self.assertRaises(TypeError, t1subset.subset, PFA, [], "pfa", b"AB")
+
     def test_bytes_are_not_copied(self) -> None:
         for given in (PFA, memoryview(PFA)):
             self.assertIs(_calls._kept(given), PFA)
@@ -96,6 +102,7 @@ class Arguments(unittest.TestCase):
             t1subset.mends,
             lambda it: t1subset.show(it, "X"),
             lambda it: t1subset.subset(it, []),
+            lambda it: t1subset.subset(PFA, [], codes=it),
             lambda it: t1subset.merge([PFA, it]),
             lambda it: t1subset.rejoin([it]),
             lambda it: t1subset.join(it, b""),
@@ -229,6 +236,7 @@ class Memory(unittest.TestCase):
         self.assertEqual(self.sweep(lambda: t1subset.mend(PFA, "pfb")), PFB)
         self.assertEqual(len(self.sweep(lambda: t1subset.mends(fonts.spelled()))), 2)
         self.assertEqual(self.sweep(lambda: t1subset.subset(two, ["A"])), two)
+        self.assertEqual(self.sweep(lambda: t1subset.subset(two, [], codes=b"A")), two)
         self.assertEqual(self.sweep(lambda: t1subset.merge([one, two])), two)
         self.assertEqual(self.sweep(lambda: t1subset.rejoin([two, one])), two)
         self.assertEqual(self.sweep(lambda: t1subset.join(b"S 5 0B\n", b"")), b"S 5 0b\n")

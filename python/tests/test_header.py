@@ -54,11 +54,11 @@ class Header(unittest.TestCase):
         self.assertEqual({it.name: _calls._FORMS[it] for it in t1subset.Form}, enumerated("t1subset_form"))
 
     def test_calls(self) -> None:
-        declared = set(re.findall(r"^uint32_t (t1subset_\w+)\(.*t1subset_answer \*answer\);", HEADER, re.MULTILINE))
+        declared = set(re.findall(r"^uint32_t (t1subset_\w+)\([^;]*t1subset_answer \*answer\);", HEADER, re.MULTILINE))
         self.assertEqual(set(_library._CALLS), declared)
         for name in declared:
             call = getattr(_library.library, name)
-            found = re.search(rf"^uint32_t {name}\((.*)\);", HEADER, re.MULTILINE)
+            found = re.search(rf"^uint32_t {name}\(([^;]*)\);", HEADER, re.MULTILINE)
             assert found
             self.assertEqual(len(call.argtypes), found[1].count(",") + 1, name)
             self.assertIs(call.restype, ctypes.c_uint32)

@@ -107,6 +107,21 @@ class Laws(unittest.TestCase):
         self.assertEqual(t1subset.diff(t1subset.subset(PFA, ["X"]), t1subset.subset(PFB, ["Y"])), b"")
         self.assertRaises(t1subset.Refused, t1subset.diff, PFA, b"no font")
 
+    def test_codes_are_their_names(self) -> None:
+        codes = {65: "X", 66: "Y", 194: "H"}
+        for wanted in itertools.chain.from_iterable(itertools.combinations(codes, size) for size in range(4)):
+            with self.subTest(codes=wanted):
+                named = t1subset.subset(PFA, [codes[code] for code in wanted], "pfb")
+                self.assertEqual(t1subset.subset(PFB, [], "pfb", codes=bytes(wanted)), named)
+                more = t1subset.merge([named, t1subset.subset(PFA, ["A"])])
+                self.assertEqual(t1subset.subset(PFB, ["A"], codes=bytes(wanted)), more)
+
+    def test_codes_of_the_standard_encoding(self) -> None:
+        names = [b".notdef", b"A", b"circumflex", b"eacute", b"quotesingle"]
+        font = made([], dict.fromkeys(names, EMPTY))
+        kept = t1subset.list(t1subset.subset(font, [], codes="Aé".encode())).glyphs
+        self.assertEqual(list(kept), [".notdef", "A", "circumflex", "quotesingle"])
+
     def test_listings_join(self) -> None:
         left, right = fonts.example("left.listing"), fonts.example("right.listing")
         self.assertEqual(t1subset.join(left, right), fonts.example("both.listing"))

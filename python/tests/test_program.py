@@ -121,6 +121,10 @@ class Program(unittest.TestCase):
                 self.same(["mend", "--pfb", "IN0", "OUT"], [font], lambda: t1subset.mend(font, "pfb"))
                 self.same(["subset", "IN0", "OUT", *names], [font], lambda: t1subset.subset(font, names))
                 self.same(["subset", "IN0", "OUT", "Zed"], [font], lambda: t1subset.subset(font, ["Zed"]))
+                words = ["subset", "IN0", "OUT", "--codes", "65-66"]
+                self.same(words, [font], lambda: t1subset.subset(font, [], codes=b"AB"))
+                words = ["subset", "IN0", "OUT", "--text", "Zed", *names]
+                self.same(words, [font], lambda: t1subset.subset(font, names, codes=b"Zed"))
                 for name in [*names, "Zed"]:
                     self.same(["show", "IN0", name], [font], lambda: t1subset.show(font, name))
 

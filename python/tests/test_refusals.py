@@ -50,6 +50,7 @@ def rows_of_files() -> List[Row]:
             (number, text, detail, 0, partial(t1subset.mend, font)),
             (number, text, detail, 0, partial(t1subset.mends, font)),
             (number, text, detail, 0, partial(t1subset.subset, font, ["nosuch"])),
+            (number, text, detail, 0, partial(t1subset.subset, font, ["nosuch"], codes=b"C")),
             (number, text, detail, 1, partial(t1subset.merge, [PFA, font, b""])),
             (number, text, detail, 2, partial(t1subset.rejoin, [PFB, PFA, font])),
         ]
@@ -62,6 +63,9 @@ def rows_of_names() -> List[Row]:
         (Number.NO_GLYPH, "no glyph Zed", 0, None, lambda: t1subset.show(PFA, b"Zed")),
         (Number.NO_GLYPH, r"no glyph \xc3\x89\x5c", 0, None, lambda: t1subset.show(PFA, "É\\")),
         (Number.NO_GLYPH, r"no glyph \xff\x00", 0, None, lambda: t1subset.subset(PFA, [b"\xff\0"])),
+        (Number.NO_GLYPH, "no glyph Zed", 0, None, lambda: t1subset.subset(PFA, ["Zed"], codes=b"AB")),
+        (Number.NO_CODE, "no code 67", 67, None, lambda: t1subset.subset(PFA, ["Zed"], codes=b"ACD")),
+        (Number.NO_CODE, "no code 0", 0, None, lambda: t1subset.subset(PFA, [], codes=bytes(256))),
     ]
 
 
@@ -160,7 +164,7 @@ class Refusals(unittest.TestCase):
 
     def test_each_number_and_part_is_met(self) -> None:
         rows = [*rows_of_files(), *rows_of_names(), *rows_of_parts(), *rows_of_mergers(), *rows_of_listings()]
-        others = {Number.OK, Number.MEMORY, Number.BAD_CALL, Number.NO_CODE}
+        others = {Number.OK, Number.MEMORY, Number.BAD_CALL}
         self.assertEqual({row[0] for row in rows}, set(Number) - others)
         self.assertEqual({row[2] for row in rows if row[0] == Number.SHELLS_DIFFER}, set(Part))
 

@@ -48,6 +48,16 @@ extern "C" {
         form: u32,
         answer: *mut Answer,
     ) -> u32;
+    fn t1subset_subset_codes(
+        font: *const u8,
+        size: usize,
+        names: *const Given<'_>,
+        count: usize,
+        codes: *const u8,
+        codes_size: usize,
+        form: u32,
+        answer: *mut Answer,
+    ) -> u32;
     fn t1subset_merge(fonts: *const Given<'_>, count: usize, form: u32, answer: *mut Answer) -> u32;
     fn t1subset_rejoin(fonts: *const Given<'_>, count: usize, form: u32, answer: *mut Answer) -> u32;
     fn t1subset_diff(
@@ -157,6 +167,15 @@ pub(crate) fn subset(font: &[u8], names: &[&[u8]], form: Form) -> Result<Vec<u8>
     let form = number_of(form);
     // SAFETY: the slice, the names and their bytes are borrowed for the call, and the answer is apart from them.
     call(|answer| unsafe { t1subset_subset(font.as_ptr(), font.len(), names.as_ptr(), names.len(), form, answer) })
+}
+
+pub(crate) fn subset_codes(font: &[u8], names: &[&[u8]], codes: &[u8], form: Form) -> Result<Vec<u8>, Refused> {
+    let names = given(names);
+    let (data, size, form) = (codes.as_ptr(), codes.len(), number_of(form));
+    // SAFETY: as in `subset`, and the codes are borrowed, too.
+    call(|answer| unsafe {
+        t1subset_subset_codes(font.as_ptr(), font.len(), names.as_ptr(), names.len(), data, size, form, answer)
+    })
 }
 
 pub(crate) fn merge(fonts: &[&[u8]], form: Form) -> Result<Vec<u8>, Refused> {

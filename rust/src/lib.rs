@@ -172,6 +172,25 @@ pub fn subset<N: AsRef<[u8]>>(font: &[u8], names: &[N], form: Form) -> Result<Ve
     ffi::subset(font, &slices(names), form)
 }
 
+/// The same, and the glyphs are kept, too, whose names these codes have in the font's Encoding; each byte is a code.
+///
+/// If the Encoding is the word StandardEncoding, the names are those of StandardEncoding; by any other word no code has a
+/// name. The first code without a name is refused, before a name that the font lacks.
+///
+/// ```
+/// # fn main() -> Result<(), Box<dyn std::error::Error>> {
+/// use t1subset::{subset, subset_codes, Form};
+/// let font = std::fs::read("../examples/tiny.pfa")?;
+/// let both = subset(&font, &["X", "Y"], Form::Pfa)?;
+/// assert_eq!(subset_codes(&font, &["X"], b"B", Form::Pfa)?, both);
+/// assert_eq!(subset_codes::<&str>(&font, &[], b"AB", Form::Pfa)?, both);
+/// # Ok(())
+/// # }
+/// ```
+pub fn subset_codes<N: AsRef<[u8]>>(font: &[u8], names: &[N], codes: &[u8], form: Form) -> Result<Vec<u8>, Refused> {
+    ffi::subset_codes(font, &slices(names), codes, form)
+}
+
 /// The canonical file of the font that fonts merge to. Subsets of one font that t1subset cut merge, in every order, to
 /// the subset of all their names, byte for byte.
 ///

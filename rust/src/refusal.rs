@@ -43,7 +43,7 @@ numbers! {
     FileTooLong = 3,
     /// `no glyph NAME`: the first name that the font lacks.
     NoGlyph = 4,
-    /// `no code N`, which no call answers so far.
+    /// `no code N`: the first of the codes for which the Encoding has no name.
     NoCode = 5,
     /// `bad segment at N`, an offset in the file.
     BadSegment = 10,

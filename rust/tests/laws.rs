@@ -4,7 +4,7 @@ mod common;
 
 use common::{each_font, example, made, some_names, EMPTY, STUB};
 use std::thread;
-use t1subset::{check, convert, diff, join, list, mend, mends, merge, rejoin, show, subset, Form};
+use t1subset::{check, convert, diff, join, list, mend, mends, merge, rejoin, show, subset, subset_codes, Form};
 
 #[test]
 fn subsets_merge_in_any_order_to_the_subset_of_all() {
@@ -58,6 +58,25 @@ fn a_mended_font_is_mended() {
 }
 
 #[test]
+fn codes_are_their_names() {
+    let font = example("tiny.pfa");
+    let rows: [(&[u8], &[&str]); 4] =
+        [(b"", &[]), (b"A", &["X"]), (b"B\xc2B", &["Y", "H"]), (b"BA\xc2", &["X", "Y", "H"])];
+    for (codes, names) in rows {
+        let named = subset(&font, names, Form::Pfb).unwrap();
+        assert!(subset_codes::<&str>(&font, &[], codes, Form::Pfb).unwrap() == named, "{codes:?}");
+        let more = merge(&[named, subset(&font, &["A"], Form::Pfa).unwrap()], Form::Pfb).unwrap();
+        assert!(subset_codes(&font, &["A"], codes, Form::Pfb).unwrap() == more, "{codes:?}");
+    }
+    let glyphs: Vec<(&[u8], &[u8])> =
+        [".notdef", "A", "circumflex", "eacute", "quotesingle"].map(|it| (it.as_bytes(), EMPTY)).into();
+    let standard = made("Standard", &[], &glyphs);
+    let kept = list(&subset_codes::<&str>(&standard, &[], "Aé".as_bytes(), Form::Pfa).unwrap()).unwrap().glyphs;
+    let kept: Vec<_> = kept.into_keys().map(|name| name.to_string()).collect();
+    assert_eq!(kept, [".notdef", "A", "circumflex", "quotesingle"]);
+}
+
+#[test]
 fn tiny_in_both_forms() {
     let (pfa, pfb) = (example("tiny.pfa"), example("tiny.pfb"));
     for font in [&pfa, &pfb] {
@@ -84,7 +103,7 @@ fn subsets_that_another_program_cut_rejoin() {
 #[test]
 fn fonts_that_merge_differ_in_nothing() {
     let font = example("tiny.pfa");
-    let (one, other) = (subset(&font, ["X"], Form::Pfa).unwrap(), subset(&font, ["Y"], Form::Pfb).unwrap());
+    let (one, other) = (subset(&font, &["X"], Form::Pfa).unwrap(), subset(&font, &["Y"], Form::Pfb).unwrap());
     assert_eq!(diff(&one, &other).unwrap(), b"");
     let stubs = [STUB; 4];
     let head = made("Other", &stubs, &[(b".notdef", EMPTY)]);

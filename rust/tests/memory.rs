@@ -7,7 +7,8 @@ use std::cell::Cell;
 use std::ffi::c_void;
 use std::fmt::Debug;
 use std::ptr;
-use t1subset::{check, convert, diff, join, list, mend, mends, merge, rejoin, show, subset, Form, Number, Picture, Refused};
+use t1subset::{check, convert, diff, join, list, mend, mends, merge, rejoin, show, subset, subset_codes};
+use t1subset::{Form, Number, Picture, Refused};
 
 /// `t1subset_heap`.
 #[repr(C)]
@@ -96,6 +97,7 @@ fn calls_that_make_fonts() {
     let (one, two) = (subset(&pfa, &["X"], Form::Pfa).unwrap(), subset(&pfa, &["Y"], Form::Pfa).unwrap());
     let both = subset(&pfa, &["X", "Y"], Form::Pfa).unwrap();
     assert!(sweep(|| subset(&pfa, &["X"], Form::Pfa)).unwrap() == one);
+    assert!(sweep(|| subset_codes(&pfa, &["X"], b"B", Form::Pfa)).unwrap() == both);
     assert!(sweep(|| merge(&[&one, &two], Form::Pfa)).unwrap() == both);
     assert!(sweep(|| rejoin(&[&two, &one], Form::Pfa)).unwrap() == both);
 }

@@ -139,6 +139,10 @@ fn words_about_one_font() {
         run.same(&["pfb", "IN0", "OUT"], &[font], t1subset::convert(font, Form::Pfb));
         run.same(&["mend", "IN0", "OUT"], &[font], t1subset::mend(font, Form::Pfa));
         run.same(&["mend", "--pfb", "IN0", "OUT"], &[font], t1subset::mend(font, Form::Pfb));
+        let by_codes = t1subset::subset_codes::<&str>(font, &[], b"AB", Form::Pfa);
+        run.same(&["subset", "IN0", "OUT", "--codes", "65-66"], &[font], by_codes);
+        let by_text = t1subset::subset_codes(font, &["A"], b"Zed", Form::Pfa);
+        run.same(&["subset", "IN0", "OUT", "--text", "Zed", "A"], &[font], by_text);
         for name in names.iter().map(String::as_str).chain(["Zed"]) {
             run.same(&["show", "IN0", name], &[font], t1subset::show(font, name).map(|it| show_text(&it).into()));
             run.same(&["subset", "IN0", "OUT", name], &[font], t1subset::subset(font, &[name], Form::Pfa));

@@ -5,7 +5,8 @@ mod common;
 
 use common::{example, made, Tiny, EMPTY};
 use std::fmt::Debug;
-use t1subset::{check, convert, join, list, mend, mends, merge, rejoin, show, subset, Form, Number, Part, Refused};
+use t1subset::{check, convert, join, list, mend, mends, merge, rejoin, show, subset, subset_codes};
+use t1subset::{Form, Number, Part, Refused};
 
 /// One byte more than a file may have.
 const LONG: usize = 268_435_457;
@@ -35,6 +36,7 @@ fn refused_file(font: &[u8], number: Number, text: &str, detail: u64) {
     refused(mend(font, Form::Pfa), number, text, detail, Some(0));
     refused(mends(font), number, text, detail, Some(0));
     refused(subset(font, &["nosuch"], Form::Pfa), number, text, detail, Some(0));
+    refused(subset_codes(font, &["nosuch"], b"C", Form::Pfa), number, text, detail, Some(0));
     refused(merge(&[&pfa[..], font, b""], Form::Pfa), number, text, detail, Some(1));
     refused(rejoin(&[&pfa[..], &pfa, font], Form::Pfa), number, text, detail, Some(2));
 }
@@ -77,6 +79,9 @@ fn names() {
     refused(show(&font, b"Zed"), Number::NoGlyph, "no glyph Zed", 0, None);
     refused(show(&font, "É\\"), Number::NoGlyph, r"no glyph \xc3\x89\x5c", 0, None);
     refused(subset(&font, &[b"\xff\0"], Form::Pfa), Number::NoGlyph, r"no glyph \xff\x00", 0, None);
+    refused(subset_codes(&font, &["Zed"], b"AB", Form::Pfa), Number::NoGlyph, "no glyph Zed", 0, None);
+    refused(subset_codes(&font, &["Zed"], b"ACD", Form::Pfa), Number::NoCode, "no code 67", 67, None);
+    refused(subset_codes::<&str>(&font, &[], b"\0", Form::Pfa), Number::NoCode, "no code 0", 0, None);
 }
 
 #[test]

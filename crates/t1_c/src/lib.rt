@@ -18,7 +18,7 @@ ghost use Rattle.t1_cmd.specs.ListText.{list_answer};
 ghost use Rattle.t1_cmd.specs.DrawingText.{show_answer};
 ghost use Rattle.t1_cmd.specs.Fonts.{font_input, mended_input, file_answer};
 ghost use Rattle.t1_cmd.specs.Mends.{mends_answer};
-ghost use Rattle.t1_cmd.specs.Subsets.{subset_answer};
+ghost use Rattle.t1_cmd.specs.Subsets.{subset_answer, subset_with_codes};
 ghost use Rattle.t1_cmd.specs.Mergers.{MergesToFile};
 ghost use Rattle.t1_cmd.specs.Rejoins.{RejoinsTo};
 ghost use Rattle.t1_cmd.specs.Diffs.{DiffersBy};
@@ -34,7 +34,7 @@ use numbers::{BAD_CALL, form_of};
 use std::alloc::Global;
 use t1_cmd::{
     check_file, convert_file, diff_files, join_listings, list_file, list_mends, mend_file,
-    merge_files, rejoin_files, show_file, subset_file,
+    merge_files, rejoin_files, show_file, subset_file, subset_file_with_codes,
 };
 
 /// Says what a font has: the line of `t1subset check`.
@@ -111,6 +111,29 @@ pub extern "C" fn t1subset_subset(
 {
     match form_of(form) {
         Some(form) => give_of(alloc, subset_file(alloc, font, names, form), answer),
+        None => give_nothing(BAD_CALL, answer),
+    }
+}
+
+/// Makes the canonical file of the subset that keeps these names and the names that these codes have in the font's Encoding.
+#[unsafe(no_mangle)]
+pub extern "C" fn t1subset_subset_codes(
+    alloc: Global,
+    font: &[u8],
+    names: &[&[u8]],
+    codes: &[u8],
+    form: u32,
+    answer: &mut Answer,
+) -> u32
+    ensures { In (form_at form) (λ f. GivesOf (subset_with_codes f (lent names.now) codes.now) font.now)
+        result answer.new }
+{
+    match form_of(form) {
+        Some(form) => give_of(
+            alloc,
+            subset_file_with_codes(alloc, font, names, codes, form),
+            answer,
+        ),
         None => give_nothing(BAD_CALL, answer),
     }
 }

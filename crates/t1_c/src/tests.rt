@@ -3,6 +3,7 @@
 use crate::{
     Answer, t1subset_check, t1subset_convert, t1subset_diff, t1subset_join, t1subset_list,
     t1subset_mend, t1subset_mends, t1subset_merge, t1subset_rejoin, t1subset_show, t1subset_subset,
+    t1subset_subset_codes,
 };
 use std::alloc::Global;
 use std::test::Fail;
@@ -108,6 +109,53 @@ fn files(rt: HostRuntime) -> Result<(), Fail> {
     Ok(())
 }
 
+/// Tiny's Encoding has X at code 65, Y at 66 and H at 194.
+#[test]
+fn codes(rt: HostRuntime) -> Result<(), Fail> {
+    let mut named = used();
+    let code = t1subset_subset(rt.alloc(), PFB, &[b"X"], 0, &mut named);
+    assert!(rt; begins(code, &named, b"%!FontType1-1.0: Tiny"));
+    let rows: [(&[&[u8]], &[u8]); 4] = [
+        (&[], b"A"),
+        (&[b"X"], b""),
+        (&[b"X"], b"A"),
+        (&[b"X", b"X"], b"AAA"),
+    ];
+    for (names, codes) in rows {
+        let mut a = used();
+        let code = t1subset_subset_codes(rt.alloc(), PFB, names, codes, 0, &mut a);
+        assert!(rt; gave(code, &a, (0, 0, -1, named.bytes)));
+    }
+    let mut named = used();
+    let code = t1subset_subset(rt.alloc(), PFA, &[b"H", b"X", b"Y"], 1, &mut named);
+    assert!(rt; begins(code, &named, b"\x80\x01"));
+    let mut many = Vec::new(rt.alloc());
+    for _ in 0..1000 {
+        many.extend_from_slice(b"B\xc2")?;
+    }
+    let mut a = used();
+    let code = t1subset_subset_codes(rt.alloc(), PFA, &[b"X"], many.as_slice(), 1, &mut a);
+    assert!(rt; gave(code, &a, (0, 0, -1, named.bytes)));
+    Ok(())
+}
+
+#[test]
+fn refusals_of_codes(rt: HostRuntime) -> Result<(), Fail> {
+    let rows: [(&[u8], &[&[u8]], &[u8], (u32, u64, i64, &[u8])); 5] = [
+        (PFA, &[b"Q"], b"AC", (5, 67, -1, b"no code 67")),
+        (PFA, &[], b"\x00", (5, 0, -1, b"no code 0")),
+        (PFB, &[b"X"], b"B\xffC", (5, 255, -1, b"no code 255")),
+        (PFA, &[b"Q"], b"AB", (4, 0, -1, b"no glyph Q")),
+        (b"%!", &[b"Q"], b"C", (11, 0, 0, b"no eexec")),
+    ];
+    for (font, names, codes, want) in rows {
+        let mut a = used();
+        let code = t1subset_subset_codes(rt.alloc(), font, names, codes, 0, &mut a);
+        assert!(rt; gave(code, &a, want));
+    }
+    Ok(())
+}
+
 #[test]
 fn lists_of_fonts(rt: HostRuntime) -> Result<(), Fail> {
     for count in [1, 2, 3, 5, 100] {
@@ -188,6 +236,9 @@ fn calls_without_a_form(rt: HostRuntime) -> Result<(), Fail> {
         assert!(rt; gave(code, &a, (2, 0, -1, b"")));
         let mut a = used();
         let code = t1subset_subset(rt.alloc(), b"", &[b"Q"], form, &mut a);
+        assert!(rt; gave(code, &a, (2, 0, -1, b"")));
+        let mut a = used();
+        let code = t1subset_subset_codes(rt.alloc(), b"", &[b"Q"], b"C", form, &mut a);
         assert!(rt; gave(code, &a, (2, 0, -1, b"")));
         let mut a = used();
         let code = t1subset_merge(rt.alloc(), &[], form, &mut a);
