@@ -107,9 +107,10 @@ class Page:
         self.ask("Input.dispatchKeyEvent", type="keyUp", key=name, code=name, **KEYS.get(name, {}))
 
     def write(self, selector, text):
-        """Puts a text into a field."""
-        self.value(f"document.querySelector({json.dumps(selector)}).focus()")
-        self.ask("Input.insertText", text=text)
+        """Puts a text into a field, key by key."""
+        self.value(f"(() => {{ const it = document.querySelector({json.dumps(selector)}); it.value = ''; it.focus(); }})()")
+        for letter in text:
+            self.key(letter, letter)
 
     def drop(self, selector, paths):
         """Drops files onto an element."""

@@ -77,7 +77,9 @@ function watchGlyphs() {
   };
   box.onkeydown = (event) => key(event);
   place("mark").onclick = choose;
-  place("names").onkeydown = (event) => event.key === "Enter" && choose();
+  place("names").onkeydown = (event) => {
+    if (event.key === "Enter") choose();
+  };
   place("letters").oninput = counted;
   place("none").onclick = () => {
     options.forEach((option) => option.setAttribute("aria-selected", "false"));
