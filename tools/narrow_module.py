@@ -20,6 +20,8 @@ LOAD = re.compile(rf"  ({NAME}) = load ptr, ptr (.+?), align (\d+)")
 LOAD_PAIR = re.compile(rf"  ({NAME}) = load {{ (\w+), (\w+) }}, ptr (.+?), align (\d+)")
 STORE = re.compile(r"  store ptr (.+), ptr (.+?), align (\d+)")
 ADDRESS = re.compile(rf"  ({NAME}) = ptrtoaddr ptr (.+) to (i\d+)")
+# What moves values in memory: a pointer among them has to be one of the above.
+MOVED = re.compile(rf"  (?:{NAME} = )?(?:load|store|atomicrmw|cmpxchg|va_arg) (.*), ptr |  {NAME} = (?:alloca (.*), align|(ptrtoaddr) )")
 ALLOCATED = re.compile(rf"  ({NAME}) = alloca ptr, align (\d+)")
 
 
@@ -73,7 +75,15 @@ def narrowed(line, number):
         return [f"  {found[1]} = ptrtoint ptr {found[2]} to {found[3]}"]
     if found := ALLOCATED.match(line):
         return [f"  {found[1]} = alloca i64, align {found[2]}"]
-    return [line]
+    return [known(line)]
+
+
+def known(line):
+    """A line that is left as it is moves no pointer in memory."""
+    found = MOVED.match(line)
+    if found and re.search(r"\bptr\b|ptrtoaddr", " ".join(filter(None, found.groups()))):
+        sys.exit(f"a pointer in memory is not narrowed: {line}")
+    return line
 
 
 def main():

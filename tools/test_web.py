@@ -1,7 +1,7 @@
 #!/usr/bin/env python3
 """Holds the page of web/ to the program: its module in node, and the page itself in a headless Chromium.
 
-In node the words of the program run over the module (web/tests/words.js), and the status, what is printed and the files are
+What is written in C, and the script that narrows pointers, have tests of their own. In node the words of the program run over the module (web/tests/words.js), and the status, what is printed and the files are
 compared with the rows of tools/program_rows.py, and with the program on files that are refused and on fonts that are installed
 here. In Chromium files are dropped on the page, from a folder and from a server, and what it shows, draws and lets one
 download is compared with the program's bytes. In the end a module that lies has to be found out.
@@ -16,6 +16,7 @@ import concurrent.futures
 import os
 import re
 import shutil
+import subprocess
 import sys
 import tempfile
 
@@ -23,7 +24,7 @@ import browser
 import program_rows
 import test_library
 import test_page
-from common import BUILDS, TOP, printed, put, say, text_of
+from common import BUILDS, TOP, compiler, printed, put, ran, say, text_of
 from test_program import wrong
 
 WORDS = os.path.join(TOP, "web/tests/words.js")
@@ -34,14 +35,56 @@ FONTS = 4
 TRUTH, LIE = b" glyphs, ", b" glyphs; "
 
 
+# Lines of a module, and the lines that stand for them, none where the line is refused.
+NARROWED = [
+    ("  %r = load i64, ptr %a, align 8", ["  %r = load i64, ptr %a, align 8"]),
+    ("  %r = load ptr, ptr @a, align 8, !noundef !1", ["  %r.wide = load i64, ptr @a, align 8", "  %r = inttoptr i64 %r.wide to ptr"]),
+    ("  store ptr @a, ptr %b, align 8", ["  %wide.0 = ptrtoint ptr @a to i64", "  store i64 %wide.0, ptr %b, align 8"]),
+    ("  %r = alloca ptr, align 8", ["  %r = alloca i64, align 8"]),
+    ("  %r = ptrtoaddr ptr %a to i64", ["  %r = ptrtoint ptr %a to i64"]),
+    ("@a = constant <{ ptr, [4 x i8] }> <{ ptr @b, [4 x i8] c\"ptr \" }>",
+     ["@a = constant <{ ptr, [4 x i8], [4 x i8] }> <{ ptr @b, [4 x i8] zeroinitializer, [4 x i8] c\"ptr \" }>"]),
+    ("  %r = load { i64, i64 }, ptr %a, align 8", ["  %r = load { i64, i64 }, ptr %a, align 8"]),
+    ("  %r = load { i8, ptr }, ptr %a, align 8", [
+        "  %r.first = load i8, ptr %a, align 8", "  %r.place = getelementptr i8, ptr %a, i64 8",
+        "  %r.second.wide = load i64, ptr %r.place, align 1", "  %r.second = inttoptr i64 %r.second.wide to ptr",
+        "  %r.half = insertvalue { i8, ptr } poison, i8 %r.first, 0", "  %r = insertvalue { i8, ptr } %r.half, ptr %r.second, 1"]),
+    ("  %r = load { i8, i8, ptr }, ptr %a, align 8", []),
+    ("  %r = load <2 x ptr>, ptr %a, align 8", []),
+    ("  store { i64, ptr } %a, ptr %b, align 8", []),
+    ("  %r = alloca [2 x ptr], align 8", []),
+    ("  %r = atomicrmw xchg ptr %a, ptr %b seq_cst", []),
+]
+
+
+def narrowing():
+    """What tools/narrow_module.py makes of each line."""
+    for line, want in NARROWED:
+        done = subprocess.run([os.path.join(TOP, "tools/narrow_module.py")], input=line + "\n", capture_output=True, text=True, timeout=60)
+        if done.stdout.splitlines() != want or (done.returncode == 0) != bool(want):
+            sys.exit(f"{line} is narrowed to {done.stdout!r}, {done.stderr!r}")
+
+
+def in_c(work):
+    """The tests of the heap, and of integers of 128 bits."""
+    cc = compiler()
+    if not cc:
+        return say("no C compiler: the tests of web/heap.c and web/int128.c were left out")
+    for name in ("heap", "int128"):
+        path = os.path.join(work, name)
+        source = os.path.join(TOP, "web/tests", name + ".c")
+        ran([cc, "-std=c11", "-O2", "-Wall", "-Wextra", "-Werror", "-fno-pie", "-no-pie", source, "-o", path])
+        print(printed([path]), end="", file=sys.stderr)
+
+
 def web_rows(given):
     """The rows that the module can be held to: what a command line or files that can't be opened come to is the program's own, and
     so are its help, files of names, and `check` of several files."""
     for row in program_rows.all_rows(given):
-        options = {word.split("=")[0] for word in row.words if isinstance(word, str)}
-        is_own = OWN_OPTIONS & options or row.out is program_rows.SOME or row.words[0].startswith("--")
-        if row.status < 2 and not is_own and (row.words[0] != "check" or len(row.words) == 2):
-            yield row
+        if row.status < 2 and row.out is not program_rows.SOME and not row.words[0].startswith("--"):
+            options = {word.split("=")[0] for word in row.words}
+            if not OWN_OPTIONS & options and (row.words[0] != "check" or len(row.words) == 2):
+                yield row
 
 
 def run_rows(words):
@@ -90,7 +133,9 @@ def main():
     parser.add_argument("fonts", nargs="*")
     asked = parser.parse_args()
     print(printed([os.path.join(TOP, "tools/make_web.py"), "--check"]), end="")
+    narrowing()
     with tempfile.TemporaryDirectory() as work:
+        in_c(work)
         folder = os.path.abspath(asked.module or work)
         if not asked.module:
             print(printed([os.path.join(TOP, "tools/build_web.sh"), folder]), end="")

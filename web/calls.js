@@ -2,9 +2,9 @@
 /* The calls of the library, over its module for WebAssembly. Both functions stand alone: page.js passes their text to a worker, and
  * node runs them as they are. */
 
-/* The calls by their names in t1subset.h, without `t1subset_`. A font, a document or a name is a Uint8Array, and so is what a call answers; `level`
- * answers a list of them. `form` is 0 for PFA and 1 for PFB. A refusal is thrown, as an Error with `number`, `detail`, `input`
- * and the text as `message`. */
+/* The calls by their names in t1subset.h, without `t1subset_`. A font, a document or a name is a Uint8Array, and so is what a call
+ * answers; `level` answers a list of them. `form` is 0 for PFA and 1 for PFB. A refusal is thrown, as an Error with `number`,
+ * `detail`, `input` and the text as `message`. */
 function library(bytes) {
   const module = bytes instanceof WebAssembly.Module ? bytes : new WebAssembly.Module(bytes);
   const ANSWER = 32, MEMORY = 1, RENEWED_AT = 1 << 27;
@@ -38,7 +38,8 @@ function library(bytes) {
   /* What stands in an answer; its bytes are freed. */
   function take(place) {
     const view = new DataView(wasm.memory.buffer, place, ANSWER);
-    const [detail, input, at, size] = [view.getBigUint64(0, true), view.getBigInt64(8, true), ...[16, 24].map((it) => Number(view.getBigUint64(it, true)))];
+    const detail = view.getBigUint64(0, true), input = view.getBigInt64(8, true);
+    const [at, size] = [16, 24].map((field) => Number(view.getBigUint64(field, true)));
     const data = new Uint8Array(wasm.memory.buffer).slice(at, at + size);
     if (size) wasm.page_give(at);
     return { detail, input, data };

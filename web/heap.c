@@ -8,13 +8,15 @@ typedef __UINT32_TYPE__ uint32_t;
 typedef __UINT64_TYPE__ uint64_t;
 typedef __UINTPTR_TYPE__ uintptr_t;
 
+#ifndef HEAP_BASE_IS_GIVEN
+extern uint8_t __heap_base[];
+#endif
+
 enum { HEAD = 16, LEAST = 5, SIZES = 4 * (32 - LEAST) };
 
-/* What stands before a block: where it is kept while it is free, and which size it has. */
+/* What stands before a block: the next free one of its size while it is free, and which size it has. */
 struct head {
-    struct head *next;
-    uint32_t size;
-    uint64_t unused;
+    uint64_t next, size;
 };
 
 /* Whether there is a block, and where. If there is none, the pointer owns nothing, but it is not null. */
@@ -26,30 +28,33 @@ struct tried rattle_alloc(uint64_t size, uint64_t align);
 struct tried rattle_realloc(void *block, uint64_t kept, uint64_t size, uint64_t align);
 void rattle_dealloc(void *block);
 
-extern uint8_t __heap_base;
-static struct head *spare[SIZES];
+static uint64_t spare[SIZES];
 static uint64_t top;
 static uint8_t nowhere[16];
 
 /* The bytes of a size: 32, 40, 48, 56, 64, 80 and so on. */
-static uint64_t bytes_of(uint32_t size) {
+static uint64_t bytes_of(uint64_t size) {
     return (uint64_t) (4 + size % 4) << (LEAST - 2 + size / 4);
 }
 
 /* The least size that has so many bytes, at most 2^31. */
-static uint32_t size_for(uint64_t bytes) {
+static uint64_t size_for(uint64_t bytes) {
     if (bytes <= 1 << LEAST) return 0;
-    const uint32_t log = 63 - (uint32_t) __builtin_clzll(bytes - 1);
-    return 4 * (log - LEAST) + (uint32_t) ((bytes - 1) >> (log - 2)) - 3;
+    const uint64_t log = 63 - (uint64_t) __builtin_clzll(bytes - 1);
+    return 4 * (log - LEAST) + ((bytes - 1) >> (log - 2)) - 3;
+}
+
+static struct head *at(uint64_t place) {
+    return (struct head *) (uintptr_t) place;
 }
 
 /* A block behind all others, or NULL. */
-static void *grown(uint32_t size) {
-    if (!top) top = ((uint64_t) (uintptr_t) &__heap_base + 15) & ~(uint64_t) 15;
+static void *grown(uint64_t size) {
+    if (!top) top = ((uint64_t) (uintptr_t) __heap_base + 15) & ~(uint64_t) 15;
     const uint64_t end = top + HEAD + ((bytes_of(size) + 15) & ~(uint64_t) 15), have = (uint64_t) __builtin_wasm_memory_size(0) << 16;
     if (end > 0xffff0000) return 0;
     if (end > have && __builtin_wasm_memory_grow(0, (uintptr_t) ((end - have + 65535) >> 16)) == (uintptr_t) -1) return 0;
-    struct head *head = (struct head *) (uintptr_t) top;
+    struct head *head = at(top);
     head->size = size;
     top = end;
     return head + 1;
@@ -57,11 +62,10 @@ static void *grown(uint32_t size) {
 
 static void *take(uint64_t bytes) {
     if (bytes > (uint64_t) 1 << 31) return 0;
-    const uint32_t size = size_for(bytes);
-    struct head *head = spare[size];
-    if (!head) return grown(size);
-    spare[size] = head->next;
-    return head + 1;
+    const uint64_t size = size_for(bytes), place = spare[size];
+    if (!place) return grown(size);
+    spare[size] = at(place)->next;
+    return at(place) + 1;
 }
 
 static struct tried tried(void *block) {
@@ -89,7 +93,7 @@ struct tried rattle_realloc(void *block, uint64_t kept, uint64_t size, uint64_t 
 void rattle_dealloc(void *block) {
     struct head *head = (struct head *) block - 1;
     head->next = spare[head->size];
-    spare[head->size] = head;
+    spare[head->size] = (uintptr_t) head;
 }
 
 /* Blocks for the page: its inputs, and the answers that it has read. */

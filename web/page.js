@@ -37,7 +37,7 @@ function start() {
   source ??= URL.createObjectURL(new Blob([`"use strict";\n${library}\n(${work})();`], { type: "text/javascript" }));
   worker = new Worker(source);
   worker.onmessage = ({ data }) => answered(data);
-  worker.onerror = (event) => answered({ id: asked?.id, fault: { text: event.message || "the worker stopped" } });
+  worker.onerror = (event) => answered({ id: asked ? asked.id : 0, fault: { text: event.message || "the worker stopped" } });
   worker.postMessage({ id: 0, name: "module", words: [MODULE_BYTES] });
 }
 
@@ -67,6 +67,7 @@ function next() {
 }
 
 function answered({ id, answer, fault }) {
+  if (id === 0 && fault) say(`This browser can't run the module: ${fault.text}`);
   if (!asked || asked.id !== id) return;
   const question = asked;
   finish();
@@ -229,7 +230,8 @@ const chosenFiles = (...kinds) => files.filter((file) => isMarked(file) && kinds
 
 function together(name, title) {
   const fonts = chosenFiles("font", "refused"), names = fonts.map((file) => file.name);
-  return make(`${name} of ${names.join(", ")}`, name, [fonts.map((file) => file.data), formNumber()], `${title}.${formName()}`, `${title} of ${names.join(", ")}`, names);
+  const all = names.join(", "), words = [fonts.map((file) => file.data), formNumber()];
+  return make(`${name} of ${all}`, name, words, `${title}.${formName()}`, `${title} of ${all}`, names);
 }
 
 const convert = (file) => make(`writing ${file.name}`, "convert", [file.data, formNumber()], `${stem(file.name)}.${formName()}`, `${file.name}, written again`);
@@ -271,12 +273,20 @@ async function level() {
   }
 }
 
-const extract = (file, name) => make(`taking ${name} out`, "extract", [asBytes(name), [file.data]], `${name.replace(/[^\w+-]/g, "_")}.pfa`, `${name} of ${file.name}`);
+function extract(file, name) {
+  const named = `${name.replace(/[^\w+-]/g, "_")}.pfa`;
+  return make(`taking ${name} out`, "extract", [asBytes(name), [file.data]], named, `${name} of ${file.name}`);
+}
 
 /* The start */
 
+/* A folder can be dropped, too, and has no bytes. */
 async function addAll(list) {
-  for (const file of list) await add(file.name, new Uint8Array(await file.arrayBuffer()));
+  for (const file of list) {
+    const data = await file.arrayBuffer().catch(() => null);
+    if (data) await add(file.name, new Uint8Array(data));
+    else say(`${file.name} can't be read.`);
+  }
 }
 
 function drops() {

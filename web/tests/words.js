@@ -47,9 +47,10 @@ function kept(documents) {
 function run(word, rest) {
   const { form, codes: listed, text: letters, extract } = options, codes = Uint8Array.from([...listed, ...letters]);
   const written = (out, data, said = "") => ({ files: { [out]: data }, said });
-  const [first, second, ...names] = rest;
-  const subset = () => codes.length ? t1.subset_codes(file(first), names.map(bytes), codes, form) : t1.subset(file(first), names.map(bytes), form);
-  const several = () => rest.slice(1).map(file);
+  const [first, second, ...names] = rest, wanted = names.map(bytes);
+  const subset = () => codes.length ? t1.subset_codes(file(first), wanted, codes, form) : t1.subset(file(first), wanted, form);
+  const several = () => rest.slice(1).map(file), inside = (at) => path.join(first, path.basename(rest[at + 1]));
+  const places = () => plain(t1.fonts(rest.map(file))).replace(/^(\d+):/gm, (_, at) => `${rest[at]}:`);
   const does = {
     check: () => ({ printed: t1.check(file(first)) }),
     list: () => ({ printed: t1.list(file(first)) }),
@@ -61,8 +62,8 @@ function run(word, rest) {
     merge: () => written(first, t1.merge(several(), form)),
     rejoin: () => written(first, t1.rejoin(several(), form)),
     pool: () => written(first, t1.pool(several()), kept(several())),
-    level: () => ({ files: Object.fromEntries(t1.level(several()).map((data, at) => [path.join(first, path.basename(rest[at + 1])), data])), said: kept(several()) }),
-    fonts: () => extract ? written(first, t1.extract(extract, several())) : ({ printed: plain(t1.fonts(rest.map(file))).replace(/^(\d+):/gm, (_, at) => `${rest[at]}:`) }),
+    level: () => ({ files: Object.fromEntries(t1.level(several()).map((data, at) => [inside(at), data])), said: kept(several()) }),
+    fonts: () => extract ? written(first, t1.extract(extract, several())) : { printed: places() },
     diff: () => ({ printed: t1.diff(file(first), file(second)), isDiff: true }),
     join: () => ({ printed: t1.join(file(first), file(second)) }),
   };
