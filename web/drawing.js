@@ -1,8 +1,8 @@
 "use strict";
 /* What `show` says of a glyph, as SVG. */
 
-/* The em that each picture has at least, in 1/1000: from 250 under the base line to 950 above it. */
-const EM = { left: -100, right: 1000, bottom: -250, top: 950 };
+/* What each picture has at least, in 1/1000 em: from 250 under the base line to 950 above it; and a margin. */
+const EM = { left: -100, right: 1000, bottom: -250, top: 950 }, MARGIN = 30;
 
 /* A number as `show` prints it: whole units, or a count of 1/65536 unit. */
 function numberOf(text) {
@@ -56,8 +56,8 @@ function boxOf({ width, places }, [a, b, c, d, e, f]) {
   const middle = a * width / 2 - (EM.left + EM.right) / 2;
   const least = (list, start) => list.reduce((one, other) => Math.min(one, other), start);
   const most = (list, start) => list.reduce((one, other) => Math.max(one, other), start);
-  const left = least(xs, EM.left + middle), right = most(xs, EM.right + middle);
-  const bottom = least(ys, EM.bottom), top = most(ys, EM.top);
+  const left = least(xs, EM.left + middle) - MARGIN, right = most(xs, EM.right + middle) + MARGIN;
+  const bottom = least(ys, EM.bottom) - MARGIN, top = most(ys, EM.top) + MARGIN;
   return `${left} ${-top} ${right - left} ${top - bottom}`;
 }
 
