@@ -12,6 +12,7 @@ mkdir -p "${1:-$top/web}"
 out=$(cd "${1:-$top/web}" && pwd)
 module=${T1_C_MODULE:-$top/crates/t1_c/out/t1_c.bc}
 [ -n "$T1_C_MODULE" ] || "$top/tools/prove_t1_c.sh"
+command -v rt > /dev/null || { echo "$0: no rt: install the Rattle kit" >&2; exit 1; }
 kit=$(dirname "$(dirname "$(readlink -f "$(command -v rt)")")")
 work=$(mktemp -d)
 trap 'rm -rf "$work"' EXIT

@@ -252,7 +252,7 @@ STEPS = (checked, drawn, cut, merged, pooled, stopped, scrolled, named)
 
 
 def visited(address, program, steps):
-    """Runs the steps on one page; nothing but the page's own files is asked for, and no error is told."""
+    """Runs the steps on one page; nothing but the page's own files is asked for, and no error is told. What is wrong is raised."""
     with browser.Page(browser.found(), address) as page, tempfile.TemporaryDirectory() as folder:
         visit = Visit(page, program, folder)
         visit.says("Ready.")
@@ -260,12 +260,12 @@ def visited(address, program, steps):
             try:
                 step(visit)
             except (Fault, RuntimeError, OSError, subprocess.SubprocessError) as fault:
-                sys.exit(f"{address}, {step.__name__}: {step.__doc__} Not so: {fault}")
+                raise Fault(f"{address}, {step.__name__}: {step.__doc__} Not so: {fault}") from fault
         own = address.rsplit("/", 1)[0] + "/"
         elsewhere = [it for it in page.requests() if not it.startswith((own, "blob:")) and not it.endswith("/favicon.ico")]
         told = [it for it in page.faults() if "favicon.ico" not in json.dumps(it)]
         if elsewhere or told:
-            sys.exit(f"{address}: {elsewhere} are asked for, and the page tells of {told}")
+            raise Fault(f"{address}: {elsewhere} are asked for, and the page tells of {told}")
 
 
 @contextlib.contextmanager
@@ -281,13 +281,39 @@ def served(folder):
         server.shutdown()
 
 
+def found_out(folder, program, lies):
+    """A page whose module or script lies has to fail: each lie is a file, what stands in it, and what stands there instead."""
+    for name, truth, lie, step in lies:
+        text = bytes_of(folder, name)
+        if text.count(truth) != 1:
+            sys.exit(f"{name} has {text.count(truth)} times {truth!r:.100}")
+        put(text.replace(truth, lie), folder, name)
+        with contextlib.suppress(Fault):
+            visited(f"file://{folder}/index.html", program, STEPS[:step])
+            sys.exit(f"the page is found right, though in {name} {truth!r:.100} is {lie!r:.100}")
+        put(text, folder, name)
+
+
+# Each with how many steps see it.
+LIES = [
+    ("page.js", b"file.advice = advice(fault.text);", b"file.advice = fault.text;", 1),
+    ("drawing.js", b"value + offset[at % 2]", b"value + 2 * offset[at % 2] + 1", 2),
+    ("glyphs.js", b"formNumber()]];", b"0]];", 3),
+    ("page.js", b'say("Ready.");', b'say("Ready."); fetch("other.js").catch(() => {});', 1),
+]
+
+
 def test(module, program):
-    """The page from a folder and from a server; a page whose module lies is found out."""
+    """The page from a folder and from a server; pages that lie are found out."""
     with tempfile.TemporaryDirectory() as folder:
         for name in PARTS:
             shutil.copy(os.path.join(TOP, "web", name), folder)
         shutil.copy(os.path.join(module, "module.js"), folder)
-        visited(f"file://{folder}/index.html", program, STEPS)
-        with served(folder) as address:
-            visited(f"{address}/index.html", program, STEPS[:3])
-        say(f"page: {len(STEPS)} steps from a folder, 3 from a server, as the program")
+        try:
+            visited(f"file://{folder}/index.html", program, STEPS)
+            with served(folder) as address:
+                visited(f"{address}/index.html", program, STEPS[:3])
+        except Fault as fault:
+            sys.exit(str(fault))
+        found_out(folder, program, LIES)
+        say(f"page: {len(STEPS)} steps from a folder, 3 from a server, as the program; {len(LIES)} lies are found out")

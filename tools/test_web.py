@@ -24,7 +24,7 @@ import browser
 import program_rows
 import test_library
 import test_page
-from common import BUILDS, TOP, compiler, printed, put, ran, say, text_of
+from common import BUILDS, RETURN, TOP, bytes_of, compiler, printed, put, ran, say, text_of
 from test_program import wrong
 
 WORDS = os.path.join(TOP, "web/tests/words.js")
@@ -101,12 +101,65 @@ def module_in(folder):
     return base64.b64decode(re.search(r'"([A-Za-z0-9+/=]{100,})"', text_of(folder, "module.js"))[1])
 
 
+def number_of(module, at):
+    """The number that stands at a place of a module, seven bits a byte, and the place behind it."""
+    value = shift = 0
+    while True:
+        byte = module[at]
+        value, shift, at = value | (byte & 127) << shift, shift + 7, at + 1
+        if byte < 128:
+            return value, at
+
+
+def spelled(value):
+    """The bytes of a number."""
+    return bytes([value & 127 | 128]) + spelled(value >> 7) if value > 127 else bytes([value])
+
+
+def limited(module, more):
+    """A module whose memory may grow by so many pages alone."""
+    at = 8
+    while module[at] != 5:
+        size, body = number_of(module, at + 1)
+        at = body + size
+    size, body = number_of(module, at + 1)
+    pages, end = number_of(module, body + 2)
+    if module[body:body + 2] != b"\1\0" or end != body + size:
+        sys.exit("the memory of the module is limited already")
+    memory = b"\1\1" + spelled(pages) + spelled(pages + more)
+    return module[:at] + b"\5" + spelled(len(memory)) + memory + module[end:]
+
+
+def with_little_memory(module, program, work):
+    """Where memory is refused, a call says so, and with more memory it answers as the program."""
+    names = [b"glyph%d" % at for at in range(3000)]
+    put(program_rows.small_font(b"Large", [RETURN] * 5, {name: 4 for name in names}), work, "large")
+    subprocess.run([program, "merge", "out", "large", "large"], cwd=work, check=True, timeout=60)
+    want, refused = bytes_of(work, "out"), 0
+    for more in (0, 1, 2, 4, 8, 16, 32, 64, 1024):
+        path = put(in_base64(limited(module, more)), work, "limited.js")
+        os.remove(os.path.join(work, "out"))
+        done = subprocess.run([WORDS, "merge", "out", "large", "large"], cwd=work, env={**os.environ, "MODULE": path}, capture_output=True, timeout=60)
+        found = bytes_of(work, "out") if os.path.exists(os.path.join(work, "out")) else None
+        is_right = (done.returncode, done.stderr, found) == (0, b"", want)
+        if not is_right and (done.returncode, done.stderr, found) != (1, b"refused: out of memory\n", None):
+            sys.exit(f"with {more} pages more: {done!r:.300}")
+        put(b"", work, "out")
+        refused += not is_right
+    if not is_right or refused < 3:
+        sys.exit(f"{refused} mergers are refused for memory, and that with much is {is_right}")
+
+
+def in_base64(module):
+    """The module.js of a module, as far as words.js reads it."""
+    return b'const MODULE = "%s";\n' % base64.b64encode(module)
+
+
 def found_out(module, work):
     """A module with another text in an answer has to fail the rows."""
     if module.count(TRUTH) != 1:
         sys.exit(f"the module has {module.count(TRUTH)} times the text {TRUTH!r}")
-    text = base64.b64encode(module.replace(TRUTH, LIE)).decode()
-    os.environ["MODULE"] = put(f'const MODULE = "{text}";\n'.encode(), work, "lying.js")
+    os.environ["MODULE"] = put(in_base64(module.replace(TRUTH, LIE)), work, "lying.js")
     if not isinstance(run_rows(WORDS), str):
         sys.exit("the rows don't see another byte in an answer")
 
@@ -122,6 +175,7 @@ def in_node(folder, program, fonts, work):
         pair = test_library.Pair(program, WORDS, room)
         met = test_library.refusals(pair, test_library.Numbers(text_of(TOP, "include/t1subset.h")))
         calls = test_library.run_fonts(pair, fonts)
+    with_little_memory(module, program, work)
     found_out(module, work)
     say(f"module of {len(module)} bytes: {run} rows, {met} numbers of refusals, {calls} calls over {len(fonts)} fonts as the program")
 
