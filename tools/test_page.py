@@ -178,6 +178,14 @@ def pooled(visit):
     if any(visit.download(name) != document(BOTH) for name in ("one-levelled.ps", "two-levelled.ps")):
         raise Fault("a levelled document has other fonts than the joined one")
     visit.removes("one-levelled.ps", "two-levelled.ps", "two.ps")
+    visit.put("other.ps", given["other.ps"])
+    visit.drop("other.ps")
+    visit.page.click("#pool")
+    visit.says("pooled.ps")
+    if "kept ABCDEF+Small: shells differ in encoding" not in visit.page.value("document.querySelector('#files li:last-child').textContent"):
+        raise Fault("it isn't told why the fonts of a name stay")
+    visit.same("pooled.ps", "pool", "out", "one.ps", "other.ps")
+    visit.removes("pooled.ps", "other.ps")
     visit.page.value("document.querySelector('#files details').open = true")
     visit.button("Take out ABCDEF+Small", "one.ps")
     visit.says("ABCDEF+Small.pfa")

@@ -1,10 +1,12 @@
 #!/usr/bin/env python3
 """Holds the page of web/ to the program: its module in node, and the page itself in a headless Chromium.
 
-What is written in C, and the script that narrows pointers, have tests of their own. In node the words of the program run over the module (web/tests/words.js), and the status, what is printed and the files are
-compared with the rows of tools/program_rows.py, and with the program on files that are refused and on fonts that are installed
-here. In Chromium files are dropped on the page, from a folder and from a server, and what it shows, draws and lets one
-download is compared with the program's bytes. In the end a module that lies has to be found out.
+What is written in C, and the script that narrows pointers, have tests of their own. In node the words of the program run
+over the module (web/tests/words.js), and the status, what is printed and the files are compared with the rows of
+tools/program_rows.py, and with the program on files that are refused and on fonts that are installed here; and memory is
+refused to the module, from none to enough. In Chromium files are dropped on the page, from a folder and from a server, and
+what it shows, draws and lets one download is compared with the program's bytes. In the end a module and pages that lie have
+to be found out.
 
 usage: tools/test_web.py [--module FOLDER] [--program PROGRAM] [FONT...]
 Without names the module is made by tools/build_web.sh, and the program is the one that `rt ci` leaves. What needs node or

@@ -257,9 +257,20 @@ async function compare() {
   }
 }
 
-function pool() {
-  const documents = chosenFiles("document");
-  return make("pool", "pool", [documents.map((file) => file.data)], "pooled.ps", `pooled of ${documents.map((file) => file.name).join(", ")}`);
+/* Why the fonts of a name stay, from the lines of `fonts`: a text for each name. */
+function kept(lines) {
+  const found = lines.split("\n").map((line) => /^\d+: \d+ (\S+) .* kept: (.*)$/.exec(line)).filter(Boolean);
+  return [...new Map(found.map(([, name, why]) => [name, `kept ${name}: ${why}`])).values()];
+}
+
+async function pool() {
+  const documents = chosenFiles("document"), words = [documents.map((file) => file.data)];
+  try {
+    const stays = kept(plain(await ask("the fonts of the documents", "fonts", words)));
+    await make("pool", "pool", words, "pooled.ps", [`pooled of ${documents.map((file) => file.name).join(", ")}`, ...stays].join("; "));
+  } catch (fault) {
+    say(`pool ${refusalOf(fault, documents.map((file) => file.name))}. ${advice(fault.text)}`);
+  }
 }
 
 async function level() {
