@@ -24,7 +24,7 @@ class Page:
         theirs, self.out = os.pipe()
         self.into, to_us = os.pipe()
         # The browser reads from 3 and writes to 4. Ours may have these numbers: both are moved out of the way first.
-        script = f"exec 8<&{theirs} 9>&{to_us} 3<&8 4>&9 8<&- 9>&-; exec \"$@\""
+        script = f"exec 208<&{theirs} 209>&{to_us} 3<&208 4>&209 208<&- 209>&-; exec \"$@\""
         words = [browser, "--headless", "--no-sandbox", "--disable-gpu", "--remote-debugging-pipe", "--hide-scrollbars", "--no-first-run",
                  f"--user-data-dir={self.folder}/profile", f"--window-size={size[0]},{size[1]}", "about:blank"]
         self.process = subprocess.Popen(["bash", "-c", script, "bash", *words], pass_fds=(theirs, to_us),

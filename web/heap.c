@@ -12,7 +12,10 @@ typedef __UINTPTR_TYPE__ uintptr_t;
 extern uint8_t __heap_base[];
 #endif
 
-enum { HEAD = 16, LEAST = 5, SIZES = 4 * (32 - LEAST) };
+enum { HEAD = 16, LEAST = 5, SIZES = 4 * (31 - LEAST) };
+
+/* The bytes of the largest size. Where pointers have 32 bits, clang supposes that no object has 2^31 bytes. */
+#define LARGEST ((uint64_t) 7 << 28)
 
 /* What stands before a block: the next free one of its size while it is free, and which size it has. */
 struct head {
@@ -37,7 +40,7 @@ static uint64_t bytes_of(uint64_t size) {
     return (uint64_t) (4 + size % 4) << (LEAST - 2 + size / 4);
 }
 
-/* The least size that has so many bytes, at most 2^31. */
+/* The least size that has so many bytes, at most LARGEST. */
 static uint64_t size_for(uint64_t bytes) {
     if (bytes <= 1 << LEAST) return 0;
     const uint64_t log = 63 - (uint64_t) __builtin_clzll(bytes - 1);
@@ -61,7 +64,7 @@ static void *grown(uint64_t size) {
 }
 
 static void *take(uint64_t bytes) {
-    if (bytes > (uint64_t) 1 << 31) return 0;
+    if (bytes > LARGEST) return 0;
     const uint64_t size = size_for(bytes), place = spare[size];
     if (!place) return grown(size);
     spare[size] = at(place)->next;

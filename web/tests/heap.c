@@ -93,8 +93,8 @@ int main(void) {
         const uint64_t size = size_for(bytes);
         if (bytes_of(size) < bytes || (size && bytes_of(size - 1) >= bytes)) fail("a size is not the least that is enough");
     }
-    if (size_for((uint64_t) 1 << 31) >= SIZES || bytes_of(size_for((uint64_t) 1 << 31)) != (uint64_t) 1 << 31) fail("the largest size is no size");
-    if (rattle_alloc(((uint64_t) 1 << 31) + 1, 1).ok || rattle_alloc(UINT64_MAX, 1).ok) fail("more than the largest size is given");
+    if (size_for(LARGEST) != SIZES - 1 || bytes_of(SIZES - 1) != LARGEST) fail("the largest size is no size");
+    if (rattle_alloc(LARGEST + 1, 1).ok || rattle_alloc((uint64_t) 1 << 31, 1).ok || rattle_alloc(UINT64_MAX, 1).ok) fail("more than the largest size is given");
     if (turns()) fail("a growth is refused though there is room");
     const size_t had = pages;
     if (turns() || pages > had + had / 4) fail("what was freed is not given again");

@@ -79,7 +79,7 @@ try {
   const { printed = "", files = {}, said = "", isDiff } = run(words[0], words.slice(1));
   tell(0, 0, -1);
   for (const [name, data] of Object.entries(files)) fs.writeFileSync(name, data);
-  fs.writeSync(1, printed);
+  process.stdout.write(printed);
   process.stderr.write(said);
   process.exitCode = isDiff && printed.length ? 1 : 0;
 } catch (fault) {
