@@ -82,7 +82,7 @@ function watchGlyphs() {
   };
   place("letters").oninput = counted;
   place("none").onclick = () => {
-    options.forEach((option) => option.setAttribute("aria-selected", "false"));
+    options.forEach((option) => turn(option, false));
     place("letters").value = "";
     counted();
   };
@@ -100,8 +100,12 @@ function move(at) {
 
 const isChosen = (option) => option.getAttribute("aria-selected") === "true";
 
-function toggle(option, on = !isChosen(option)) {
+function turn(option, on) {
   option.setAttribute("aria-selected", String(on));
+}
+
+function toggle(option) {
+  turn(option, !isChosen(option));
   counted();
 }
 
@@ -138,7 +142,8 @@ function beginning(letter) {
 function choose() {
   const wanted = place("names").value.trim().split(/\s+/).filter(Boolean), byName = new Map(options.map((option) => [option.title, option]));
   const found = wanted.filter((name) => byName.has(name)), absent = wanted.filter((name) => !byName.has(name));
-  found.forEach((name) => toggle(byName.get(name), true));
+  found.forEach((name) => turn(byName.get(name), true));
+  counted();
   if (found.length) {
     move(options.indexOf(byName.get(found.at(-1))));
     options[active].scrollIntoView({ block: "nearest" });
