@@ -14,7 +14,7 @@ VERSION := $(shell sed -n '1s/.*"t1subset \([0-9.]*\)".*/\1/p' docs/t1subset.1)
 SONAME := libt1subset.so.$(firstword $(subst ., ,$(VERSION)))
 SHARED := libt1subset.so.$(VERSION)
 
-.PHONY: all lib install install-program uninstall dist test wrong-bodies clean
+.PHONY: all lib web install install-program uninstall dist test wrong-bodies clean
 all: bin/t1subset
 
 bin/t1subset: crates.txt $(shell find crates -name out -prune -o -type f -print)
@@ -24,8 +24,14 @@ bin/t1subset: crates.txt $(shell find crates -name out -prune -o -type f -print)
 # The library for C. The crates below it are those of the program.
 lib: lib/libt1subset.a
 
-lib/libt1subset.a: bin/t1subset include/t1subset.h $(wildcard c/t1subset.*) tools/build_library.sh
+lib/libt1subset.a: bin/t1subset include/t1subset.h $(wildcard c/t1subset.*) tools/build_library.sh tools/prove_t1_c.sh
 	tools/build_library.sh lib
+
+# The page of web/: the module, which stands in module.js.
+web: web/module.js
+
+web/module.js: bin/t1subset include/t1subset.h web/heap.c web/int128.c tools/build_web.sh tools/narrow_module.py tools/prove_t1_c.sh
+	tools/build_web.sh web
 
 install: install-program $(LIB)/libt1subset.a docs/t1subset.3
 	install -D -m 644 include/t1subset.h $(DESTDIR)$(INCLUDEDIR)/t1subset.h
@@ -67,4 +73,4 @@ wrong-bodies:
 	tools/wrong_bodies.py $(CRATES)
 
 clean:
-	rm -rf bin lib dist crates/*/out
+	rm -rf bin lib dist web/module.js crates/*/out

@@ -1,0 +1,90 @@
+#!/usr/bin/env node
+"use strict";
+/* The words of the program t1subset over the module: the same files, lines and exit status, but for the command line. MODULE names
+ * the module.js that is meant. A line "NUMBER DETAIL INPUT" about the answer is written to the file that TOLD names. */
+const fs = require("fs"), path = require("path");
+const { library } = require("../calls.js");
+
+const text = fs.readFileSync(process.env.MODULE || path.join(__dirname, "../module.js"), "latin1");
+const t1 = library(Buffer.from(/"([A-Za-z0-9+/=]{100,})"/.exec(text)[1], "base64"));
+const options = { form: 0, codes: [], text: [], extract: null }, words = [];
+
+const plain = (data) => Buffer.from(data).toString("latin1");
+const bytes = (word) => new Uint8Array(Buffer.from(word));
+const file = (name) => new Uint8Array(fs.readFileSync(name));
+
+/* The codes of a list that is one, such as 65-90,97. */
+function codesOf(list) {
+  return list.split(",").flatMap((part) => {
+    const [first, last = first] = part.split("-").map(Number);
+    return Array.from({ length: last - first + 1 }, (_, at) => first + at);
+  });
+}
+
+/* Takes the options out of the words. */
+function take(given) {
+  const takes = {
+    "--pfb": () => { options.form = 1; },
+    "--codes": (value) => { options.codes.push(...codesOf(value())); },
+    "--text": (value) => { options.text = [...bytes(value())]; },
+    "--extract": (value) => { options.extract = bytes(value()); },
+  };
+  while (given.length) {
+    const word = given.shift(), [name, ...behind] = word.split("=");
+    if (word === "--") return words.push(...given.splice(0));
+    if (name in takes) takes[name](() => behind.length ? behind.join("=") : given.shift());
+    else words.push(word);
+  }
+}
+
+/* Why the fonts of each name stay: a line for each, by the lines of `fonts`. */
+function kept(documents) {
+  const lines = plain(t1.fonts(documents)).split("\n").map((line) => /^\d+: \d+ (\S+) .* kept: (.*)$/.exec(line)).filter(Boolean);
+  return [...new Map(lines.map((found) => [found[1], `kept ${found[1]}: ${found[2]}\n`])).values()].join("");
+}
+
+/* What a word prints, which files it writes, and what it says. */
+function run(word, rest) {
+  const { form, codes: listed, text: letters, extract } = options, codes = Uint8Array.from([...listed, ...letters]);
+  const written = (out, data, said = "") => ({ files: { [out]: data }, said });
+  const [first, second, ...names] = rest, wanted = names.map(bytes);
+  const subset = () => codes.length ? t1.subset_codes(file(first), wanted, codes, form) : t1.subset(file(first), wanted, form);
+  const several = () => rest.slice(1).map(file), inside = (at) => path.join(first, path.basename(rest[at + 1]));
+  const places = () => plain(t1.fonts(rest.map(file))).replace(/^(\d+):/gm, (_, at) => `${rest[at]}:`);
+  const does = {
+    check: () => ({ printed: t1.check(file(first)) }),
+    list: () => ({ printed: t1.list(file(first)) }),
+    show: () => ({ printed: t1.show(file(first), bytes(second)) }),
+    pfa: () => written(second, t1.convert(file(first), 0)),
+    pfb: () => written(second, t1.convert(file(first), 1)),
+    mend: () => written(second, t1.mend(file(first), form), plain(t1.mends(file(first)))),
+    subset: () => written(second, subset()),
+    merge: () => written(first, t1.merge(several(), form)),
+    rejoin: () => written(first, t1.rejoin(several(), form)),
+    pool: () => written(first, t1.pool(several()), kept(several())),
+    level: () => ({ files: Object.fromEntries(t1.level(several()).map((data, at) => [inside(at), data])), said: kept(several()) }),
+    fonts: () => extract ? written(first, t1.extract(extract, several())) : { printed: places() },
+    diff: () => ({ printed: t1.diff(file(first), file(second)), isDiff: true }),
+    join: () => ({ printed: t1.join(file(first), file(second)) }),
+  };
+  return does[word]();
+}
+
+function tell(number, detail, input) {
+  if (process.env.TOLD) fs.writeFileSync(process.env.TOLD, `${number} ${detail} ${input}\n`);
+}
+
+take(process.argv.slice(2));
+try {
+  const { printed = "", files = {}, said = "", isDiff } = run(words[0], words.slice(1));
+  tell(0, 0, -1);
+  for (const [name, data] of Object.entries(files)) fs.writeFileSync(name, data);
+  process.stdout.write(printed);
+  process.stderr.write(said);
+  process.exitCode = isDiff && printed.length ? 1 : 0;
+} catch (fault) {
+  if (fault.number === undefined) throw fault;
+  tell(fault.number, fault.detail, fault.input);
+  process.stderr.write(`refused: ${fault.message}\n`);
+  process.exitCode = 1;
+}
