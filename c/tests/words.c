@@ -32,6 +32,7 @@ struct options {
     uint32_t form;
     uint8_t codes[1 << 12];
     size_t count;
+    const char *extract;
 };
 
 static void add_codes(struct options *options, const char *bytes, size_t size) {
@@ -64,6 +65,7 @@ static int take_options(struct options *options, int count, char **words) {
         else if (!plain && !strcmp(words[at], "--pfb")) options->form = T1SUBSET_PFB;
         else if (!plain && (value = value_of("--codes", words, &at))) add_list(options, value);
         else if (!plain && (value = value_of("--text", words, &at))) text = value;
+        else if (!plain && (value = value_of("--extract", words, &at))) options->extract = value;
         else words[left++] = words[at];
     }
     add_codes(options, text, strlen(text));
@@ -91,6 +93,7 @@ static uint32_t call(const char *word, const struct options *options, const t1su
     if (!strcmp(word, "diff")) return t1subset_diff(first.data, first.size, second.data, second.size, answer);
     if (!strcmp(word, "pool")) return t1subset_pool(arguments, count, answer);
     if (!strcmp(word, "fonts")) return t1subset_fonts(arguments, count, answer);
+    if (!strcmp(word, "extract")) return t1subset_extract((const uint8_t *) options->extract, strlen(options->extract), arguments, count, answer);
     if (!strcmp(word, "join")) return t1subset_join(first.data, first.size, second.data, second.size, answer);
     fail("no such word\n");
     return 0;
@@ -98,7 +101,7 @@ static uint32_t call(const char *word, const struct options *options, const t1su
 
 /* How many of the arguments behind a word are files, from the first on; and which of them is OUT, or 0. */
 static int files_of(const char *word, int count) {
-    static const char *const several[] = {"merge", "rejoin", "diff", "join", "pool", "fonts"};
+    static const char *const several[] = {"merge", "rejoin", "diff", "join", "pool", "fonts", "extract"};
     for (size_t at = 0; at < sizeof several / sizeof *several; at++) {
         if (!strcmp(word, several[at])) return count;
     }
@@ -106,7 +109,7 @@ static int files_of(const char *word, int count) {
 }
 
 static int out_of(const char *word) {
-    if (!strcmp(word, "merge") || !strcmp(word, "rejoin") || !strcmp(word, "pool")) return 2;
+    if (!strcmp(word, "merge") || !strcmp(word, "rejoin") || !strcmp(word, "pool") || !strcmp(word, "extract")) return 2;
     return !strcmp(word, "pfa") || !strcmp(word, "pfb") || !strcmp(word, "mend") || !strcmp(word, "subset") ? 3 : 0;
 }
 
@@ -181,7 +184,7 @@ int main(int count, char **words) {
     if (count < 3) return 2;
     static struct options options;
     count = take_options(&options, count, words);
-    const char *word = words[1];
+    const char *word = options.extract ? "extract" : words[1];
     const int out = out_of(word), files = files_of(word, count);
     t1subset_bytes *arguments = calloc((size_t) count, sizeof *arguments);
     if (!arguments) return 2;
@@ -198,6 +201,7 @@ int main(int count, char **words) {
     if (number) fprintf(stderr, "refused: %.*s\n", (int) answer.bytes.size, (const char *) answer.bytes.data);
     else if (!status && !strcmp(word, "mend")) say_mends(arguments[0]);
     else if (!status && !strcmp(word, "pool")) say_kept(arguments, taken);
+    else if (!status && !strcmp(word, "diff")) status = answer.bytes.size > 0;
     t1subset_free(&answer);
     for (size_t at = 0; at < taken && at < (size_t) files; at++) free((void *) arguments[at].data);
     free(arguments);

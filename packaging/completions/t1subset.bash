@@ -9,6 +9,8 @@ _t1subset() {
     merge) options='--explain --pfb --help' takes='-' names=0 ;;
     rejoin) options='--explain --pfb --help' takes='-' names=0 ;;
     pool) options='--explain --help' takes='-' names=0 ;;
+    level) options='--explain --help' takes='-' names=0 ;;
+    fonts) options='--explain --extract --help' takes='--extract' names=0 ;;
     diff) options='--explain --help' takes='-' names=0 ;;
     mend) options='--explain --pfb --help' takes='-' names=0 ;;
     check) options='--explain --help' takes='-' names=0 ;;
@@ -26,8 +28,8 @@ _t1subset() {
         *) [ $((place += 1)) -eq 1 ] && font=${COMP_WORDS[at]} ;;
         esac
     done
-    if [ "$COMP_CWORD" -eq "$first" ]; then options='subset merge rejoin pool diff mend check list show pfa pfb join help --explain --help --version'
-    elif [ "${COMP_WORDS[first]}" = help ]; then options='subset merge rejoin pool diff mend check list show pfa pfb join'
+    if [ "$COMP_CWORD" -eq "$first" ]; then options='subset merge rejoin pool level fonts diff mend check list show pfa pfb join help --explain --help --version'
+    elif [ "${COMP_WORDS[first]}" = help ]; then options='subset merge rejoin pool level fonts diff mend check list show pfa pfb join'
     elif [[ ${COMP_WORDS[COMP_CWORD - 1]} =~ ^($takes)$ ]]; then return
     elif [[ $cur != -* ]]; then
         [ "$names" -gt 0 ] && [ $((place + 1)) -ge "$names" ] || return
