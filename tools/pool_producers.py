@@ -28,7 +28,7 @@ FONTS = ["cmr10", "cmbx10", "cmti10"]
 
 def words(seed):
     """Some words of few letters, the same in each run."""
-    chosen = random.Random(seed)
+    chosen = random.Random(str(seed))
     letters = chosen.sample(LETTERS, 12)
     return ["".join(chosen.choices(letters, k=6)) for _ in range(8)]
 
