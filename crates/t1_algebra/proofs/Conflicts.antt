@@ -2,7 +2,7 @@
 use Rattle.std.proofs.{Common.{arith, ◌≡◌, ◌↔◌, ℕ, true, false, cond, not, ◌&&◌, ◌||◌, List, [], get_or, ap, Ordering, Option, Some, None, unwrap_or, nat_le}, Math.Bool.{or_comm}}
 use Rattle.std.proofs.{lemmas.Bool.{leb-true, le-leb, and_from}, lemmas.List.Folds.{list_any_none}}
 use Rattle.std.specs.FinMap as maps
-use Rattle.t1_font.specs.{FontModel.{names_in}, FontValue.{FontValue, Encoding, Word, Codes, weight, weight_limit, count_limit}}
+use Rattle.t1_font.specs.FontValue.{FontValue, Encoding, Word, Codes, weight, weight_limit, count_limit, names_in}
 use Rattle.t1_algebra.specs.Conflicts.{ShellDiffers, CodeDiffers, GlyphDiffers, LacksComponent, SubrDiffers, OverLimit, keys_of_both, agrees, codes_of_both}
 use Rattle.t1_algebra.specs.Conflicts.{wants, code_clashes, glyph_clashes, glyphs_of_both, wanted_by, component_clashes, subr_clashes, used_by, is_within}
 use Rattle.t1_algebra.specs.Conflicts.{shell_conflict, code_conflict, glyph_conflict, component_conflict, subr_conflict, states_conflict, conflict}

@@ -6,8 +6,9 @@ use Rattle.t1_run.specs.{State.{Ending}, Run.{direct, direct3, exec, direct_by},
 use Rattle.t1_run.proofs.Locality.{local}
 use Rattle.t1_font.specs.{FontValue.{FontValue, Numbered}, IsFont.{IsFont}}
 use Rattle.t1_font.proofs.FontReaders.{all_seen}
-use Rattle.t1_algebra.specs.{Keep.{keep, has, components, subset}, Outcomes.{component_outcome}, States.{joined_font, Compatible}, Profile.{profile, Endings, in_set_of}}
-use Rattle.t1_algebra.specs.Laws.{IsOf, DrawsAlike, AnswersAlike}
+use Rattle.t1_algebra.specs.{Keep.{keep, has, components, subset, IsOf}, Outcomes.{component_outcome}, States.{joined_font, Compatible}, Profile.{profile, Endings, in_set_of}}
+use Rattle.t1_algebra.specs.Laws.{AnswersAlike}
+use Rattle.t1_algebra.specs.Alike.{DrawsAlike}
 use Rattle.t1_algebra.proofs.{Words.{list_any, nat_list_cmp_total, Names, same_bytes}, Kept.{keep_part}, Sets.{name_same, itself, here, later, any_append_left, any_append_right, cases}, Uses.{sought}}
 use Rattle.t1_algebra.proofs.{JoinedStates.{left_runs, left_subrs, font_back, compatible_back}, Subsets.{get-glyph, runs_alike, subrs_alike, glyph_in_join}}
 

@@ -5,7 +5,7 @@ use Rattle.std.proofs.lemmas.List.{length-map}
 use Rattle.std.specs.FinMap as maps
 use Rattle.t1_join.specs.{Meaning.{of_number}, Join.{State}, StateLaws.{same_meaning-self}, TableMeaning.{TableMeaning, joined_table}}
 use Rattle.t1_join.specs.{TableLaws.{get_joined, same_table}}
-use Rattle.t1_font.specs.{FontModel.{names_in, word_of, encoding_by, font_by}, Maps.{map_values}, FontValue.{FontValue, Numbered, Named, total, subr_weight, weight, weight_limit, count_limit}}
+use Rattle.t1_font.specs.{FontModel.{word_of, encoding_by, font_by}, Maps.{map_values}, FontValue.{FontValue, Numbered, Named, total, subr_weight, weight, weight_limit, count_limit, names_in}}
 use Rattle.t1_font.proofs.{CutEntries.{entries-retain}, MapLemmas.{entries_all, get-retain, get-map_values}}
 use Rattle.t1_algebra.specs.States.{named_at, code_state, KeepsLimits, is_sought, subr_state, name_state, Compatible, Join, joined_font}
 use Rattle.t1_algebra.specs.StateTables.{StatesValue, numbered, name_meaning, behind_mark, AreSought, used_subrs, all_components, name_states, states_of, subr_adds, name_adds}

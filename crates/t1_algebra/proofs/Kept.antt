@@ -4,7 +4,7 @@ use Rattle.std.proofs.{lemmas.Bool.{and_from, or_left, or_right, or_cases}, lemm
 use Rattle.std.specs.FinSet as sets
 use Rattle.std.specs.FinMap as maps
 use Rattle.t1_font.specs.FontValue.{FontValue, name_cmp, notdef}
-use Rattle.t1_algebra.specs.{Interpreter.{Numbers}, Keep.{Closed, is_closed, is_needed, keep, kept, components, components_here, has, charstring}, Laws.{IsOf, Inside}}
+use Rattle.t1_algebra.specs.{Interpreter.{Numbers}, Keep.{Closed, is_closed, is_needed, keep, kept, components, components_here, has, charstring, IsOf}, Laws.{Inside}}
 use Rattle.t1_algebra.proofs.Words.{list_any, eq_by_cmp, nat_cmp_total, first_so, second_so, nat_list_cmp_total, nat_cmp-IsAntisymmetric, Interpreter, Names, same_bytes}
 use Rattle.t1_algebra.proofs.Sets.{any_at, any_one, all_at, all_from, any_flat_map, same_members, contains-filter, in_items, from_in_items, name_same, each_set, cases}
 

@@ -2,7 +2,7 @@
 use Rattle.std.proofs.{Common.{◌≡◌, ◌↔◌, option_map, ℕ, Bool, true, not, map, sym, ◌∙◌, ap, true≢false, Option, Some, None, is_some, nat_cmp, arith}, lemmas.Bool.{not-false, and_parts}}
 use Rattle.std.proofs.lemmas.Simd.{map-map}
 use Rattle.std.specs.FinMap as maps
-use Rattle.t1_font.specs.{FontValue.{FontValue, SubrsShell, Numbered, declared_count}, FontModel.{word_of}, Maps.{map_values}, WriteLaws.{SameKind}}
+use Rattle.t1_font.specs.{FontValue.{FontValue, SubrsShell, Numbered, declared_count}, FontModel.{word_of}, Maps.{map_values}, Encodings.{SameKind}}
 use Rattle.t1_font.proofs.MapLemmas.{Some_None, get-map_values, entries-map_values}
 use Rattle.t1_algebra.specs.{Searches.{first_where}}
 use Rattle.t1_algebra.specs.Shared.{Shared, shared_of, ShellPart, all_parts, same_number, same_bool, same_word, same_words, same_part, differing_part}

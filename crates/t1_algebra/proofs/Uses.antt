@@ -3,7 +3,7 @@ use Rattle.std.proofs.Common.{◌≡◌, ℕ, Bool, true, ◌||◌, inl, inr, Li
 use Rattle.std.specs.Cmp.{both_ways}
 use Rattle.std.proofs.lemmas.Bool.{or_cases, or_left, or_right}
 use Rattle.std.specs.FinMap as maps
-use Rattle.t1_font.specs.{FontModel.{names_in}, FontValue.{FontValue}}
+use Rattle.t1_font.specs.FontValue.{FontValue, names_in}
 use Rattle.t1_algebra.specs.{Keep.{has}, States.{executed_at, executes, called_at, calls_for, is_called, is_sought}}
 use Rattle.t1_algebra.proofs.{Words.{list_any, nat_list_cmp_total, Interpreter}, Sets.{name_same, any_one, any_at, cases}}
 

@@ -5,14 +5,13 @@ use Rattle.t1_bytes.specs.declared.form.Form.{Form}
 use Rattle.t1_bytes.specs.Laws.{AreBytes}
 use Rattle.t1_join.specs.Groupings.{Grouping, one, two, EachLeaf, leaves}
 use Rattle.t1_font.specs.FontValue.{FontValue}
-use Rattle.t1_font.specs.Canon.{canon}
+use Rattle.t1_font.specs.Canon.{canon, Fits}
 use Rattle.t1_font.specs.ReadFont.{read_font}
 use Rattle.t1_font.specs.Spelling.{Spells}
-use Rattle.t1_font.specs.WriteLaws.{Fits}
 use Rattle.t1_algebra.specs.Interpreter.{Names}
-use Rattle.t1_algebra.specs.Keep.{keep, subset}
+use Rattle.t1_algebra.specs.Keep.{keep, subset, IsOf}
 use Rattle.t1_algebra.specs.Profile.{profile}
-use Rattle.t1_algebra.specs.Laws.{IsOf, DrawsAlike}
+use Rattle.t1_algebra.specs.Alike.{DrawsAlike}
 use Rattle.t1_algebra.specs.Groupings.{JoinTo, union_all}
 
 -- How a font is made of a font's subsets: the file of the subset over some names is read; two fonts are merged; a font

@@ -2,7 +2,7 @@
 use Rattle.std.specs.Prelude.{◌≡◌, ℕ, cond, List, Option, Some, None}
 use Rattle.std.specs.FinMap as maps
 use Rattle.t1_font.specs.FontValue.{FontValue}
-use Rattle.t1_font.specs.WriteLaws.{SameKind}
+use Rattle.t1_font.specs.Encodings.{SameKind}
 use Rattle.t1_algebra.specs.States.{Agree, code_state, is_stub}
 
 -- an entry, or nothing if it is a stub

@@ -22,6 +22,10 @@ module _ (f : FontValue) where
   abbrev pub has : List ℕ → Bool
   has n = maps.contains_key f.glyphs n
 
+-- a set of names that the font has
+abbrev pub IsOf : FontValue → Names → Type 0
+IsOf f a = (n : List ℕ) → sets.contains a n ≡ true → has f n ≡ true
+
 -- the components that a charstring names: of an accented glyph, its base and its accent
 abbrev pub components : {O : Type 0} → Interpreter O → Numbered → List ℕ → List (List ℕ)
 components m s c = m.names (m.direct s c)

@@ -3,8 +3,7 @@ use Rattle.std.specs.Prelude.{ℕ, zero, suc, Bool, not, cond, ◌&&◌, List, [
 use Rattle.std.specs.List.{list_any}
 use Rattle.std.specs.Option.{option_map}
 use Rattle.std.specs.FinMap as maps
-use Rattle.t1_font.specs.FontValue.{FontValue, declared_count}
-use Rattle.t1_font.specs.FontModel.{names_in}
+use Rattle.t1_font.specs.FontValue.{FontValue, declared_count, names_in}
 use Rattle.t1_algebra.specs.Profile.{profile}
 use Rattle.t1_algebra.specs.Searches.{first_where, found}
 use Rattle.t1_algebra.specs.States.{executes}

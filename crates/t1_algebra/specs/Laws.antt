@@ -10,7 +10,8 @@ use Rattle.t1_font.specs.FontModel.{subr_at}
 use Rattle.t1_font.specs.IsFont.{IsFont}
 use Rattle.t1_font.specs.Joins.{join_parts}
 use Rattle.t1_algebra.specs.Interpreter.{Interpreter, Names}
-use Rattle.t1_algebra.specs.Keep.{has, keep, kept, subset, Closed}
+use Rattle.t1_algebra.specs.Keep.{IsOf, has, keep, kept, subset, Closed}
+use Rattle.t1_algebra.specs.Alike.{DrawsAlike}
 use Rattle.t1_algebra.specs.States.{Compatible, Join, KeepsLimits, joined_option, joined_font, subr_state, name_state, code_state, is_sought}
 use Rattle.t1_algebra.specs.StateTables.{states_of, FontStatesAgree, FontStatesJoin}
 use Rattle.t1_algebra.specs.Conflicts.{conflict, conflicts}
@@ -18,22 +19,9 @@ use Rattle.t1_algebra.specs.Searches.{first_of}
 use Rattle.t1_algebra.specs.JoinedEntries.{EntriesJoin}
 use Rattle.t1_algebra.specs.Groupings.{union_all, Merges, folded, EachPair}
 
--- a set of names that the font has
-abbrev pub IsOf : FontValue → Names → Type 0
-IsOf f a = (n : List ℕ) → sets.contains a n ≡ true → has f n ≡ true
-
 -- each name of a is a name of b
 abbrev pub Inside : Names → Names → Type 0
 Inside a b = (n : List ℕ) → sets.contains a n ≡ true → sets.contains b n ≡ true
-
--- a glyph of f is the same in j, where hints are replaced and where they are kept: its charstring, its runs and the Subrs that they execute, and its drawings
-pub record DrawsAlike (f j : FontValue) (n : List ℕ) : Type 0 where
-  pub charstring : maps.get j.glyphs n ≡ maps.get f.glyphs n
-  pub answer : (c : List ℕ) → maps.get f.glyphs n ≡ Some c → direct (maps.get j.subrs) c ≡ direct (maps.get f.subrs) c
-  pub answer3 : (c : List ℕ) → maps.get f.glyphs n ≡ Some c → direct3 (maps.get j.subrs) c ≡ direct3 (maps.get f.subrs) c
-  pub executes : (c : List ℕ) → maps.get f.glyphs n ≡ Some c → exec (maps.get j.subrs) c ≡ exec (maps.get f.subrs) c
-  pub draws : draw (maps.get j.subrs) (maps.get j.glyphs) n ≡ draw (maps.get f.subrs) (maps.get f.glyphs) n
-  pub draws3 : draw3 (maps.get j.subrs) (maps.get j.glyphs) n ≡ draw3 (maps.get f.subrs) (maps.get f.glyphs) n
 
 -- calls answer the same of a glyph in j as in f: what its charstring does by itself and what it draws, where hints are replaced and where they are kept, and
 -- what it executes, over what each font shows to an interpreter

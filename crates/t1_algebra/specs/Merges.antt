@@ -8,7 +8,7 @@ use Rattle.t1_algebra.specs.Keep.{has}
 use Rattle.t1_algebra.specs.Profile.{profile}
 use Rattle.t1_algebra.specs.States.{KeepsLimits}
 use Rattle.t1_algebra.specs.StateTables.{StatesValue, states_of}
-use Rattle.t1_algebra.specs.Laws.{DrawsAlike}
+use Rattle.t1_algebra.specs.Alike.{DrawsAlike}
 use Rattle.t1_algebra.specs.Groupings.{folded, EachPair, Merges}
 
 -- each glyph of either font runs and draws in j as it did

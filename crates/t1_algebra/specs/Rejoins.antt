@@ -11,9 +11,9 @@ use Rattle.t1_font.specs.EvenTexts.{even_texts}
 use Rattle.t1_font.specs.Evening.{each_even, evened_shells, evened}
 use Rattle.t1_font.specs.FontBoxes.{Box, joined_box, box_of, font_with, can_have, boxes_of}
 use Rattle.t1_algebra.specs.Interpreter.{Names}
-use Rattle.t1_algebra.specs.Keep.{keep, kept, subset}
+use Rattle.t1_algebra.specs.Keep.{keep, kept, subset, IsOf}
 use Rattle.t1_algebra.specs.Profile.{profile}
-use Rattle.t1_algebra.specs.Laws.{IsOf, DrawsAlike}
+use Rattle.t1_algebra.specs.Alike.{DrawsAlike}
 use Rattle.t1_algebra.specs.Groupings.{union_all, Merges}
 use Rattle.t1_algebra.specs.Lacks.{first_lack}
 use Rattle.t1_algebra.specs.Merges.{MergesTo}

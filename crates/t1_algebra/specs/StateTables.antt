@@ -6,8 +6,7 @@ use Rattle.std.specs.FinMap as maps
 use Rattle.t1_join.specs.Meaning.{Meaning, of_number}
 use Rattle.t1_join.specs.Products.{SameJoin, BothJoin, FittingAgree, FittingJoin}
 use Rattle.t1_join.specs.TableMeaning.{TableMeaning, TablesJoin, table_code, joined_table}
-use Rattle.t1_font.specs.FontModel.{names_in}
-use Rattle.t1_font.specs.FontValue.{FontValue, Encoding, Word, Codes, Numbered, Named, total, texts_weight, weight_limit, count_limit}
+use Rattle.t1_font.specs.FontValue.{FontValue, Encoding, Word, Codes, Numbered, Named, total, texts_weight, weight_limit, count_limit, names_in}
 use Rattle.t1_font.specs.Maps.{map_values}
 use Rattle.t1_font.specs.Cut.{stub}
 use Rattle.t1_algebra.specs.Interpreter.{Interpreter}

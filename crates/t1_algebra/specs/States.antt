@@ -5,12 +5,10 @@ use Rattle.std.specs.Str.{bytes_eq}
 use Rattle.std.specs.Option.{unwrap_or}
 use Rattle.std.specs.FinMap as maps
 use Rattle.std.specs.FinSet as sets
-use Rattle.t1_font.specs.FontValue.{FontValue, Encoding, Word, Codes, count_limit, weight_limit, weight}
-use Rattle.t1_font.specs.FontModel.{names_in}
+use Rattle.t1_font.specs.FontValue.{FontValue, Encoding, Word, Codes, count_limit, weight_limit, weight, names_in}
 use Rattle.t1_font.specs.Maps.{map_values, merged}
 use Rattle.t1_font.specs.Cut.{stub}
-use Rattle.t1_font.specs.Joins.{join_encodings}
-use Rattle.t1_font.specs.WriteLaws.{SameKind}
+use Rattle.t1_font.specs.Encodings.{join_encodings, SameKind}
 use Rattle.t1_algebra.specs.Interpreter.{Interpreter, same_bytes}
 use Rattle.t1_algebra.specs.Keep.{components}
 

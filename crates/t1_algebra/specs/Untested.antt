@@ -7,7 +7,8 @@ use Rattle.t1_algebra.specs.Interpreter.{Interpreter, Names}
 use Rattle.t1_algebra.specs.Keep.{subset}
 use Rattle.t1_algebra.specs.States.{Join, joined_font}
 use Rattle.t1_algebra.specs.Groupings.{Merges}
-use Rattle.t1_algebra.specs.Laws.{DrawsAlike, AnswersAlike}
+use Rattle.t1_algebra.specs.Laws.{AnswersAlike}
+use Rattle.t1_algebra.specs.Alike.{DrawsAlike}
 
 -- each glyph runs and draws the same in a font and in the font without its test, over the maps of both and as calls see them
 abbrev pub UntestedDraws : Type 0

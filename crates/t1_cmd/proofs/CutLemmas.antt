@@ -15,8 +15,7 @@ use Rattle.t1_join.specs.Groupings.{one, from_left}
 use Rattle.t1_join.proofs.OrderLemmas.{leaves_from_left}
 use Rattle.t1_algebra.specs.Interpreter.{Names}
 use Rattle.t1_algebra.specs.Profile.{profile}
-use Rattle.t1_algebra.specs.Keep.{subset}
-use Rattle.t1_algebra.specs.Laws.{IsOf}
+use Rattle.t1_algebra.specs.Keep.{subset, IsOf}
 use Rattle.t1_algebra.specs.Merges.{ComesTo}
 use Rattle.t1_algebra.specs.Rejoins.{cut_to, with_even_texts, Truncated, IsTruncated, truncated_fonts, sets_of, largest}
 use Rattle.t1_algebra.specs.Rejoins.{GetBox, boxed_as, shared_font, rejoined, Rejoins}

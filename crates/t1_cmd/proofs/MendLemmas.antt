@@ -10,9 +10,8 @@ use Rattle.t1_font.specs.declared.fault.ReadFault.{ReadFault}
 use Rattle.t1_font.specs.FontValue.{FontValue}
 use Rattle.t1_font.specs.FontTest.{untested_font}
 use Rattle.t1_font.specs.IsFont.{IsFont}
-use Rattle.t1_font.specs.Canon.{canon}
+use Rattle.t1_font.specs.Canon.{canon, Fits}
 use Rattle.t1_font.specs.ReadFont.{read_font, read_font_widely}
-use Rattle.t1_font.specs.WriteLaws.{Fits}
 use Rattle.t1_font.proofs.Spelled.{reads, reads_again}
 use Rattle.t1_font.proofs.Widely.{spells_widely}
 use Rattle.t1_font.proofs.Untested.{untested_twice, untested_is_font}

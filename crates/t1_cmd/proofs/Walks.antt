@@ -12,8 +12,8 @@ use Rattle.std.specs.FinMap.Entries.{below_all}
 use Rattle.std.proofs.lemmas.Bool.{lt-ltb, le-ltb}
 use Rattle.std.proofs.lemmas.List.{append-nil, length-map}
 use Rattle.std.proofs.lemmas.Grind.{flat_map-append}
-use Rattle.t1_font.specs.FontValue.{FontValue, Encoding, Word, Codes, Numbered, Named, declared_count}
-use Rattle.t1_font.specs.FontModel.{subr_at, subrs_below, name_at, word_of, names_in}
+use Rattle.t1_font.specs.FontValue.{FontValue, Encoding, Word, Codes, Numbered, Named, declared_count, names_in}
+use Rattle.t1_font.specs.FontModel.{subr_at, subrs_below, name_at, word_of}
 use Rattle.t1_font.specs.IsFont.{IsFont, IsEncoding}
 use Rattle.t1_font.proofs.FontReaders.{subrs_seen}
 use Rattle.t1_font.proofs.MapLemmas.{T_true, entries_all}

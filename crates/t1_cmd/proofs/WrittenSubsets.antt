@@ -9,15 +9,13 @@ use Rattle.std.specs.Result.{result_ok}
 use Rattle.t1_bytes.specs.declared.form.Form.{Form}
 use Rattle.t1_font.specs.FontValue.{FontValue}
 use Rattle.t1_font.specs.IsFont.{IsFont}
-use Rattle.t1_font.specs.Canon.{canon}
+use Rattle.t1_font.specs.Canon.{canon, Fits}
 use Rattle.t1_font.specs.ReadFont.{read_font}
-use Rattle.t1_font.specs.WriteLaws.{Fits}
 use Rattle.t1_font.proofs.canonical.LengthLemmas.{canon_short}
 use Rattle.t1_subset.specs.declared.conflict.Conflict.{Conflict as Refusal}
 use Rattle.t1_algebra.specs.Interpreter.{Names}
 use Rattle.t1_algebra.specs.Profile.{profile}
-use Rattle.t1_algebra.specs.Keep.{subset}
-use Rattle.t1_algebra.specs.Laws.{IsOf}
+use Rattle.t1_algebra.specs.Keep.{subset, IsOf}
 use Rattle.t1_subset.specs.Merger.{NotMerged}
 use Rattle.t1_algebra.specs.Groupings.{union_all}
 use Rattle.t1_algebra.proofs.Fonts.{subset_is_font}

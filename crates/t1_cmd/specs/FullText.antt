@@ -5,8 +5,8 @@ use Rattle.std.specs.FinMap.{get}
 use Rattle.t1_grammar.specs.Grammar.{fixed}
 use Rattle.t1_bytes.specs.White.{is_white}
 use Rattle.t1_run.specs.Drawings.{Picture, Drawn, Undrawn, draw}
-use Rattle.t1_font.specs.FontValue.{FontValue}
-use Rattle.t1_font.specs.FontModel.{subr_at, names_in}
+use Rattle.t1_font.specs.FontValue.{FontValue, names_in}
+use Rattle.t1_font.specs.FontModel.{subr_at}
 use Rattle.t1_join.specs.Shown.{shown}
 use Rattle.t1_join.specs.ListingMeaning.{ends_name}
 use Rattle.t1_cmd.specs.declared.faults.Reason.{Reason}

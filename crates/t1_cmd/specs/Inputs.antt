@@ -35,6 +35,7 @@ HasFailed i = Rose i.before i.after
 abbrev pub IsQuiet : Input → Type 0
 IsQuiet i = (i.after ≡ i.before) × (i.before < last_count)
 
+-- no call of any of the readers failed
 abbrev pub AllQuiet : List Input → Type 0
 AllQuiet [] = Unit {0}
 AllQuiet (i ∷ is) = IsQuiet i × AllQuiet is

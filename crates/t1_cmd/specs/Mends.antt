@@ -8,8 +8,7 @@ use Rattle.t1_font.specs.declared.mend.Mend.{Mend}
 use Rattle.t1_font.specs.Mends.{mends_of, mend_text}
 use Rattle.t1_font.specs.FontTest.{untested_font}
 use Rattle.t1_font.specs.IsFont.{IsFont}
-use Rattle.t1_font.specs.Canon.{canon}
-use Rattle.t1_font.specs.WriteLaws.{Fits}
+use Rattle.t1_font.specs.Canon.{canon, Fits}
 use Rattle.t1_cmd.specs.declared.faults.Reason.{Reason}
 use Rattle.t1_cmd.specs.Answers.{with_reason, within_limit, if_there}
 use Rattle.t1_cmd.specs.Fonts.{font_reason, font_input, mended_input, of_mended, file_answer}

@@ -14,8 +14,7 @@ use Rattle.t1_run.specs.Drawings.{draw, draw3}
 use Rattle.t1_font.specs.FontValue.{FontValue, Shell, SubrsShell, Numbered, Encoding, Word, Codes, declared_count, count_limit, weight, weight_limit}
 use Rattle.t1_font.specs.FontModel.{subr_at}
 use Rattle.t1_font.specs.IsFont.{IsFont, SubrsFit}
-use Rattle.t1_font.specs.WriteLaws.{SameKind}
-use Rattle.t1_font.specs.Joins.{join_encodings}
+use Rattle.t1_font.specs.Encodings.{SameKind, join_encodings}
 use Rattle.t1_font.specs.Words.{is_regular}
 use Rattle.t1_font.specs.Rewriting.{parted}
 use Rattle.t1_font.specs.Tags.{name_marker, name_in}
@@ -33,7 +32,7 @@ use Rattle.t1_join.specs.Groupings.{Grouping, one, two, from_left, leaves}
 use Rattle.t1_join.proofs.OrderLemmas.{leaves_from_left, each_leaf}
 use Rattle.t1_algebra.specs.Keep.{has}
 use Rattle.t1_algebra.specs.Profile.{profile}
-use Rattle.t1_algebra.specs.Laws.{DrawsAlike}
+use Rattle.t1_algebra.specs.Alike.{DrawsAlike}
 use Rattle.t1_algebra.specs.States.{code_state, Agree, joined_option, Compatible, joined_font}
 use Rattle.t1_algebra.specs.Groupings.{Merges}
 use Rattle.t1_algebra.specs.Merges.{ComesTo, DrawsAll}

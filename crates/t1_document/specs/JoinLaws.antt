@@ -5,7 +5,7 @@ use Rattle.t1_bytes.specs.Laws.{AreBytes}
 use Rattle.t1_font.specs.FontValue.{FontValue}
 use Rattle.t1_font.specs.FontModel.{subr_at}
 use Rattle.t1_font.specs.ReadFont.{read_font_widely}
-use Rattle.t1_font.specs.WriteLaws.{SameKind}
+use Rattle.t1_font.specs.Encodings.{SameKind}
 use Rattle.t1_algebra.specs.Keep.{has}
 use Rattle.t1_algebra.specs.States.{code_state}
 use Rattle.t1_algebra.specs.Evened.{StaysDrawn, map_subrs}

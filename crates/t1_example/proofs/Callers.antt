@@ -9,20 +9,19 @@ use Rattle.t1_bytes.specs.declared.form.Form.TheVariants.{Pfa, Pfb}
 use Rattle.t1_font.specs.declared.fault.ReadFault.{ReadFault}
 use Rattle.t1_font.specs.declared.fault.ReadFault.TheVariants as reading
 use Rattle.t1_font.specs.Answers.{Refused}
-use Rattle.t1_font.specs.Canon.{canon}
+use Rattle.t1_font.specs.Canon.{canon, Fits}
 use Rattle.t1_font.specs.FontValue.{FontValue, name_cmp}
 use Rattle.t1_font.specs.IsFont.{IsFont}
 use Rattle.t1_font.specs.ReadFont.{read_font}
 use Rattle.t1_font.specs.Spelling.{Spells}
-use Rattle.t1_font.specs.WriteLaws.{Fits}
 use Rattle.t1_font.proofs.Spelled.{reads_again, one_font}
 use Rattle.t1_font.proofs.canonical.RoundTrip.{round_trip}
 use Rattle.t1_subset.specs.declared.fault.SubsetFault.{SubsetFault}
 use Rattle.t1_subset.specs.declared.fault.SubsetFault.TheVariants as subsetting
 use Rattle.t1_algebra.specs.Interpreter.{Names}
-use Rattle.t1_algebra.specs.Keep.{has, keep, subset}
+use Rattle.t1_algebra.specs.Keep.{has, keep, subset, IsOf}
 use Rattle.t1_algebra.specs.Searches.{first_where}
-use Rattle.t1_algebra.specs.Laws.{IsOf, AnswersAlike}
+use Rattle.t1_algebra.specs.Laws.{AnswersAlike}
 use Rattle.t1_algebra.specs.Profile.{profile}
 use Rattle.t1_subset.specs.Refusals.{Absent}
 use Rattle.t1_algebra.proofs.Fonts.{subset_is_font}

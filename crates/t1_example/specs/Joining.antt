@@ -6,12 +6,11 @@ use Rattle.t1_font.specs.declared.fault.ReadFault.TheVariants as reading
 use Rattle.t1_font.specs.FontValue.{FontValue}
 use Rattle.t1_font.specs.ReadFont.{read_font}
 use Rattle.t1_font.specs.Spelling.{Spells}
-use Rattle.t1_font.specs.WriteLaws.{Fits}
+use Rattle.t1_font.specs.Canon.{Fits}
 use Rattle.t1_subset.specs.declared.fault.SubsetFault.TheVariants as subsetting
 use Rattle.t1_subset.specs.declared.conflict.Conflict.TheVariants as merging
 use Rattle.t1_algebra.specs.Interpreter.{Names}
-use Rattle.t1_algebra.specs.Keep.{subset}
-use Rattle.t1_algebra.specs.Laws.{IsOf}
+use Rattle.t1_algebra.specs.Keep.{subset, IsOf}
 use Rattle.t1_algebra.specs.Profile.{profile}
 use Rattle.t1_example.specs.declared.refusal.Refusal.{Refusal}
 use Rattle.t1_example.specs.declared.refusal.Refusal.TheVariants.{Read, Subset, Merge, Memory}

@@ -20,15 +20,14 @@ mod refusal;
 
 ghost use Rattle.std.specs.Prelude.{◌≡◌, ◌⊎◌, ℕ, true, None, List, Ok, OnOk, IfOk, IfErr, MatchResult};
 ghost use Rattle.std.specs.FinSet as sets;
-ghost use Rattle.t1_font.specs.Canon.{canon};
+ghost use Rattle.t1_font.specs.Canon.{canon, Fits};
 ghost use Rattle.t1_font.specs.FontValue.{FontValue};
 ghost use Rattle.t1_font.specs.IsFont.{IsFont};
 ghost use Rattle.t1_font.specs.ReadFont.{read_font};
 ghost use Rattle.t1_font.specs.Spelling.{Spells};
-ghost use Rattle.t1_font.specs.WriteLaws.{Fits};
 ghost use Rattle.t1_algebra.specs.Interpreter.{Names};
-ghost use Rattle.t1_algebra.specs.Keep.{keep, subset};
-ghost use Rattle.t1_algebra.specs.Laws.{AnswersAlike, IsOf};
+ghost use Rattle.t1_algebra.specs.Keep.{keep, subset, IsOf};
+ghost use Rattle.t1_algebra.specs.Laws.{AnswersAlike};
 ghost use Rattle.t1_subset.specs.NameSets.{lent, asked};
 ghost use Rattle.t1_subset.specs.Merger.{IsMerger, MergesSubsets};
 ghost use Rattle.t1_algebra.specs.Profile.{profile};

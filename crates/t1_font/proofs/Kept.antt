@@ -13,9 +13,9 @@ use Rattle.t1_font.specs.Pieces.{iv_of}
 use Rattle.t1_font.specs.Spelling.{IsLenIV, said, unsaid}
 use Rattle.t1_font.specs.Cut.{stub, restrict, restrict_encoding}
 use Rattle.t1_font.specs.Maps.{map_values, merged}
-use Rattle.t1_font.specs.Joins.{join_encodings, joined_subr, join_parts}
+use Rattle.t1_font.specs.Joins.{joined_subr, join_parts}
+use Rattle.t1_font.specs.Encodings.{join_encodings, SameKind}
 use Rattle.t1_font.specs.IsFont.{IsFont, IsWord, IsCharstring, SubrsFit, SubrWords, AreGlyphs, IsCode, IsEncoding}
-use Rattle.t1_font.specs.WriteLaws.{SameKind}
 use Rattle.t1_font.proofs.MapLemmas.{get-map_values, entries-map_values, get-retain, get-merged, total-le, length_total, joined, Some_same, Some_None}
 use Rattle.std.specs.Cmp.Lexicographic.{nat_list_cmp_total}
 use Rattle.t1_font.proofs.Spelled.{iv_is}

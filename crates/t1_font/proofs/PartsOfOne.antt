@@ -4,7 +4,7 @@ use Rattle.std.specs.List.{AllByRecursion}
 use Rattle.t1_font.specs.Cut.{restrict, restrict_encoding}
 use Rattle.t1_font.specs.FontValue.{FontValue, Encoding, Word, Codes}
 use Rattle.t1_font.specs.Parts.{HasShellOf}
-use Rattle.t1_font.specs.WriteLaws.{SameKind}
+use Rattle.t1_font.specs.Encodings.{SameKind}
 
 cut_kind : (p : List ℕ → Bool) (e : Encoding) → SameKind (restrict_encoding p e) e
 cut_kind p (Word w) = refl

@@ -1,10 +1,12 @@
 -- The canonical file of a font: a function of the font value alone.
-use Rattle.std.specs.Prelude.{ℕ, List, map}
+use Rattle.std.specs.Prelude.{◌≡◌, ℕ, false, List, map}
 use Rattle.std.specs.Option.{option_map}
 use Rattle.std.specs.FinMap.{entries}
 use Rattle.t1_bytes.specs.declared.form.Form.{Form}
+use Rattle.t1_bytes.specs.declared.form.Form.TheVariants.{Pfa, Pfb}
 use Rattle.t1_bytes.specs.Cipher.{sealed, private_cipher}
 use Rattle.t1_bytes.specs.Texts.{file_text}
+use Rattle.t1_bytes.specs.FlatText.{starts_segment}
 use Rattle.t1_font.specs.Entry.{Entry}
 use Rattle.t1_font.specs.Subrs.{Subr}
 use Rattle.t1_font.specs.Glyphs.{Glyph}
@@ -63,3 +65,8 @@ canon_private f = private_written (inside_of f.shell (entries f.subrs) (entries 
 -- the canonical file
 abbrev pub canon : FontValue → Form → List ℕ
 canon f form = file_text form (canon_clear f) (private_cipher (canon_private f))
+
+-- the file can be told from a PFB: it is one, or the head doesn't begin with byte 128
+abbrev pub Fits : Form → FontValue → Type 0
+Fits Pfa f = starts_segment f.shell.head ≡ false
+Fits Pfb f = Unit {0}

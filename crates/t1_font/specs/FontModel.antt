@@ -1,9 +1,9 @@
 -- What the parts of a font in memory stand for, and what its readers answer.
-use Rattle.std.specs.Prelude.{◌≡◌, ℕ, ◌<◌, nat_lt, Bool, true, false, ◌⊎◌, min, List, [], Option, Some, None, IsSome, map, if◌then◌else◌}
+use Rattle.std.specs.Prelude.{◌≡◌, ℕ, ◌<◌, nat_lt, Bool, true, false, ◌⊎◌, min, List, [], Option, Some, None, IsSome, if◌then◌else◌}
 use Rattle.std.proofs.Common.{inl, inr, refl}
 use Rattle.std.proofs.lemmas.Bool.{ltb-true}
 use Rattle.std.specs.Coded.{Coded, code_by, coded×, coded⊎, coded_ℕ, coded_option}
-use Rattle.std.specs.FinMap.{get, entries}
+use Rattle.std.specs.FinMap.{get}
 use Rattle.std.specs.Option.{option_map}
 use Rattle.t1_font.specs.declared.shell.KeptSubrs.{KeptSubrs}
 use Rattle.t1_font.specs.declared.shell.Shell.TheInside as shells
@@ -121,10 +121,6 @@ font_by shell word codes subrs glyphs = record { shell = shell; encoding = encod
 abbrev pub name_at : Encoding → ℕ → Option (List ℕ)
 name_at (Word w) code = None
 name_at (Codes m) code = get m code
-
--- the names of the glyphs, in the order of their bytes
-abbrev pub names_in : Named → List (List ℕ)
-names_in m = map (λ e. e.0) (entries m)
 
 -- the Subr at an index that is declared
 abbrev pub subr_at : FontValue → ℕ → Option (List ℕ)

@@ -1,5 +1,5 @@
 -- The value of a font, its weight and its limits.
-use Rattle.std.specs.Prelude.{ℕ, ◌+◌, ◌≤◌, max, List, [], ◌∷◌, length, codes, Option, Some, None}
+use Rattle.std.specs.Prelude.{ℕ, ◌+◌, ◌≤◌, max, List, [], ◌∷◌, length, codes, map, Option, Some, None}
 use Rattle.std.specs.declared.cmp.Ordering.{Ordering}
 use Rattle.std.specs.Ordering.{nat_cmp}
 use Rattle.std.specs.Cmp.Lexicographic.{slice_cmp}
@@ -16,6 +16,10 @@ Numbered = FinMap nat_cmp (List ℕ)
 -- what stands at each name
 abbrev pub Named : Type 0
 Named = FinMap name_cmp (List ℕ)
+
+-- the names at which something stands, upwards
+abbrev pub names_in : Named → List (List ℕ)
+names_in m = map (λ e. e.0) (entries m)
 
 -- What a font with Subrs keeps of their table: the declared count, the words of its first entry (empty where it has none), and the phrase that closes it.
 pub record SubrsShell : Type 0 where
@@ -72,10 +76,11 @@ total f (e ∷ es) = f e.0 e.1 + total f es
 abbrev pub texts_weight : Shell → ℕ
 texts_weight s = length s.head + length s.clear_tail + length s.private + length s.middle + length s.tail
 
--- a Subr of no bytes weighs as much as one of one byte
+-- a Subr weighs 128, its lead bytes and the bytes of its charstring, of which one counts where there are none
 abbrev pub subr_weight : ℕ → ℕ → List ℕ → ℕ
 subr_weight len_iv i body = 128 + len_iv + max 1 (length body)
 
+-- a glyph weighs 256, its lead bytes and the bytes of its charstring
 abbrev pub glyph_weight : ℕ → List ℕ → List ℕ → ℕ
 glyph_weight len_iv name body = 256 + len_iv + length body
 

@@ -6,15 +6,10 @@ use Rattle.std.specs.FinMap.{FinMap, get, len, entries}
 use Rattle.t1_join.specs.Passes.{first_met, merge}
 use Rattle.t1_font.specs.declared.parts.PartsFault.{PartsFault}
 use Rattle.t1_font.specs.declared.parts.PartsFault.TheVariants.{Limit, Memory}
-use Rattle.t1_font.specs.FontValue.{FontValue, Encoding, Word, Codes, Named, name_cmp, count_limit, weight_limit, weight}
+use Rattle.t1_font.specs.FontValue.{FontValue, Named, name_cmp, count_limit, weight_limit, weight}
 use Rattle.t1_font.specs.Cut.{stub}
+use Rattle.t1_font.specs.Encodings.{join_encodings}
 use Rattle.t1_font.specs.Maps.{map_values, merged}
-
--- the codes of both tables; of two words the first, which is to be the second too
-abbrev pub join_encodings : Encoding → Encoding → Encoding
-join_encodings (Word w) e = Word w
-join_encodings (Codes m) (Word w) = Codes m
-join_encodings (Codes m) (Codes n) = Codes (merged m n)
 
 -- what two tables have from two places on, upwards by key; of a key that both have, the first's entry
 abbrev pub merged_from : {K X : Type 0} {R : K → K → Ordering} → FinMap R X → FinMap R X → ℕ → ℕ → List (K × X)

@@ -50,6 +50,7 @@ len_iv_marker = do
   fixed (codes "/lenIV")
   before white_comes
 
+-- white space, and a number of at most 255
 unfoldable pub len_iv : Grammar ℕ
 len_iv = do
   white

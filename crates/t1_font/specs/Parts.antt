@@ -1,7 +1,7 @@
 -- Fonts with the shell of another.
 use Rattle.std.specs.Prelude.{◌≡◌}
 use Rattle.t1_font.specs.FontValue.{FontValue}
-use Rattle.t1_font.specs.WriteLaws.{SameKind}
+use Rattle.t1_font.specs.Encodings.{SameKind}
 
 -- f has the shell of whole, and its kind of Encoding
 pub record HasShellOf (f whole : FontValue) : Type 0 where

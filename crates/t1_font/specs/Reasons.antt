@@ -19,8 +19,10 @@ abbrev pub RefusesIn : Dialect → List ℕ → ReadFault → Type 0
 RefusesIn d file Memory = Unit {0}
 RefusesIn d file e = (font_file d file).Reason e
 
+-- a fault with which a file may be refused
 abbrev pub Refuses : List ℕ → ReadFault → Type 0
 Refuses = RefusesIn strict
 
+-- the same of a file that is read widely
 abbrev pub RefusesWidely : List ℕ → ReadFault → Type 0
 RefusesWidely = RefusesIn wide

@@ -10,6 +10,7 @@ use Rattle.t1_font.specs.Dialect.{white_in}
 abbrev pub is_delimiter : ℕ → Bool
 is_delimiter b = b == 40 || b == 41 || b == 60 || b == 62 || b == 91 || b == 93 || b == 123 || b == 125 || b == 47 || b == 37
 
+-- neither white space nor a delimiter
 abbrev pub is_regular : ℕ → Bool
 is_regular b = not (is_white b || is_delimiter b)
 
@@ -23,11 +24,12 @@ abbrev pub regular_comes : List ℕ → Bool
 regular_comes [] = false
 regular_comes (b ∷ bs) = is_regular b
 
--- one byte of white space
+-- white space comes, or nothing
 abbrev pub starts_white : List ℕ → Bool
 starts_white [] = true
 starts_white (b ∷ bs) = is_white b
 
+-- one byte of white space
 unfoldable pub one_white : Grammar (List ℕ)
 one_white = that starts_white (count 1)
 
@@ -42,6 +44,7 @@ name_limit = 127
 abbrev pub is_word : List ℕ → Bool
 is_word w = nat_le 1 (length w) && nat_le (length w) word_limit
 
+-- some regular bytes, within the limit of a word
 unfoldable pub word : Grammar (List ℕ)
 word = that is_word (run is_regular)
 

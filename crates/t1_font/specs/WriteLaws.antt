@@ -1,24 +1,20 @@
 -- The laws of fonts and their canonical files, each the contract of a function in `laws`.
-use Rattle.std.specs.Prelude.{◌≡◌, ◌↔◌, ℕ, ◌+◌, ◌*◌, ◌≤◌, Bool, true, false, List, length, Ok}
+use Rattle.std.specs.Prelude.{◌≡◌, ◌↔◌, ℕ, ◌+◌, ◌*◌, ◌≤◌, Bool, true, List, length, Ok}
 use Rattle.std.specs.FinMap.{get, len}
 use Rattle.t1_bytes.specs.declared.form.Form.{Form}
 use Rattle.t1_bytes.specs.declared.form.Form.TheVariants.{Pfa, Pfb}
 use Rattle.t1_bytes.specs.Laws.{AreBytes}
 use Rattle.t1_bytes.specs.FlatText.{starts_segment, IsFlat}
-use Rattle.t1_font.specs.FontValue.{FontValue, Encoding, Word, Codes, notdef, count_limit, weight_limit, weight}
+use Rattle.t1_font.specs.FontValue.{FontValue, notdef, count_limit, weight_limit, weight}
 use Rattle.t1_bytes.specs.Limits.{file_limit}
 use Rattle.t1_font.specs.FontModel.{subr_at}
 use Rattle.t1_font.specs.ReadFont.{read_font}
-use Rattle.t1_font.specs.Canon.{canon}
+use Rattle.t1_font.specs.Canon.{canon, Fits}
 use Rattle.t1_font.specs.Cut.{restrict}
 use Rattle.t1_font.specs.Joins.{join_parts}
 use Rattle.t1_font.specs.Maps.{merged}
+use Rattle.t1_font.specs.Encodings.{SameKind}
 use Rattle.t1_font.specs.IsFont.{HasBytes, IsFont}
-
--- text that begins with byte 128 would be taken for PFB
-abbrev pub Fits : Form → FontValue → Type 0
-Fits Pfa f = starts_segment f.shell.head ≡ false
-Fits Pfb f = Unit {0}
 
 -- the canonical file of a font is read as the font
 abbrev pub RoundTrip : Type 0
@@ -53,6 +49,7 @@ abbrev pub CanonLength : Form → ℕ → ℕ
 CanonLength Pfa weight = 3 * weight + 37546
 CanonLength Pfb weight = weight + 37357
 
+-- the canonical file of a font is no longer than that
 abbrev pub CanonWeighs : Type 0
 CanonWeighs = (f : FontValue) (form : Form) → IsFont f → length (canon f form) ≤ CanonLength form (weight f)
 
@@ -68,13 +65,6 @@ ShowsItsSubrs = (f : FontValue) → IsFont f → subr_at f ≡ get f.subrs
 -- a join weighs no less than its first font
 abbrev pub JoinWeighs : Type 0
 JoinWeighs = (f g : FontValue) → weight f ≤ weight (join_parts f g)
-
--- the same word, or two tables
-abbrev pub SameKind : Encoding → Encoding → Type 0
-SameKind (Word v) (Word w) = v ≡ w
-SameKind (Word v) (Codes n) = ⊥
-SameKind (Codes m) (Word w) = ⊥
-SameKind (Codes m) (Codes n) = Unit {0}
 
 -- the entries of two fonts with one shell, within the limits, are a font
 abbrev pub JoinIsFont : Type 0

@@ -3,8 +3,8 @@
 ghost use Rattle.std.specs.Prelude.{◌≡◌, ◌≤◌, true, false, is_some};
 ghost use Rattle.std.specs.Option.{option_map};
 ghost use Rattle.std.specs.FinMap as fin;
-ghost use Rattle.t1_font.specs.FontValue.{weight, count_limit, weight_limit};
-ghost use Rattle.t1_font.specs.FontModel.{clamp, part_of, word_of, font_by, name_at, names_in, subr_at};
+ghost use Rattle.t1_font.specs.FontValue.{weight, count_limit, weight_limit, names_in};
+ghost use Rattle.t1_font.specs.FontModel.{clamp, part_of, word_of, font_by, name_at, subr_at};
 ghost use Rattle.t1_font.specs.IsFont.{IsFont};
 ghost use Rattle.t1_font.specs.Joins.{IsOverLimits};
 

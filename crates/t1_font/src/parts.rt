@@ -5,8 +5,8 @@ ghost use Rattle.std.specs.Option.{option_map};
 ghost use Rattle.std.specs.FinMap as fin;
 ghost use Rattle.t1_font.specs.FontModel.{encoding_of};
 ghost use Rattle.t1_font.specs.Maps.{map_values, merged};
-ghost use Rattle.t1_font.specs.Joins.{joined_subr, join_encodings, join_parts, Refuses};
-ghost use Rattle.t1_font.specs.WriteLaws.{SameKind};
+ghost use Rattle.t1_font.specs.Joins.{joined_subr, join_parts, Refuses};
+ghost use Rattle.t1_font.specs.Encodings.{join_encodings, SameKind};
 
 use crate::font::{Font, FontParts, LentEncoding};
 use crate::lent::Numbered;

@@ -10,8 +10,7 @@ ghost use Rattle.t1_bytes.specs.Limits.{file_limit};
 ghost use Rattle.t1_font.specs.FontModel.{subrs_view, encoding_of};
 ghost use Rattle.t1_font.specs.ReadFont.{read_font};
 ghost use Rattle.t1_font.specs.Writing.{subr_text, glyph_text, subrs_part, glyphs_part, puts_text, encoding_text};
-ghost use Rattle.t1_font.specs.Canon.{sealed_body, subr_entry, glyph_entry, subrs_pieces, encoding_pieces, canon_clear, canon_private, canon};
-ghost use Rattle.t1_font.specs.WriteLaws.{Fits};
+ghost use Rattle.t1_font.specs.Canon.{sealed_body, subr_entry, glyph_entry, subrs_pieces, encoding_pieces, canon_clear, canon_private, canon, Fits};
 
 use crate::font::{Font, FontParts, LentEncoding};
 use crate::lent::{Named, Numbered};

@@ -8,6 +8,7 @@ use Rattle.t1_join.specs.declared.lines.Line.{Line}
 use Rattle.t1_join.specs.declared.lines.Line.TheVariants.{Subr, Glyph}
 use Rattle.t1_join.specs.ListingText.{Entry, subr, glyph, with_entry}
 
+-- the entry that a line of a listing says
 abbrev pub line_entry : Line → Entry
 line_entry (Subr i v) = subr i v
 line_entry (Glyph n v) = glyph n.now v

@@ -5,7 +5,7 @@ use Rattle.std.proofs.{lemmas.List.Sorted.{IsPermutation-sym}, lemmas.Bool.{eqb-
 use Rattle.t1_join.proofs.OrderLemmas.{leaves_from_left, same_leaves}
 use Rattle.t1_join.specs.Groupings.{Grouping, one, two, from_left, leaves}
 use Rattle.t1_font.specs.{FontValue.{FontValue}, IsFont.{IsFont}}
-use Rattle.t1_algebra.specs.{Interpreter.{Names}, Keep.{subset}, Profile.{profile}, Laws.{IsOf, DrawsAlike}}
+use Rattle.t1_algebra.specs.{Interpreter.{Names}, Keep.{subset, IsOf}, Profile.{profile}, Alike.{DrawsAlike}}
 use Rattle.t1_algebra.specs.{States.{Join, joined_font, KeepsLimits}, Conflicts.{Conflict, conflict}, Groupings.{Merges, union_all, folded}}
 use Rattle.t1_algebra.specs.Merges.{DrawsBoth, ComesTo, DrawsAll, MergesToNone}
 use Rattle.t1_algebra.proofs.{Drawings.{left_alike, right_alike}, Conflicts.{no_conflict, conflict_back}, Fonts.{two_subsets, font_within, fonts_within, any_order_of_fonts}}

@@ -3,8 +3,7 @@ use Rattle.std.specs.Prelude.{◌≡◌, ◌<◌, ℕ, Bool, true, false, List, 
 use Rattle.std.specs.List.{AllByRecursion}
 use Rattle.std.specs.FinMap as maps
 use Rattle.t1_join.specs.Meaning.{of_number}
-use Rattle.t1_font.specs.FontValue.{FontValue, name_cmp, declared_count}
-use Rattle.t1_font.specs.FontModel.{names_in}
+use Rattle.t1_font.specs.FontValue.{FontValue, name_cmp, declared_count, names_in}
 use Rattle.t1_font.specs.IsFont.{IsFont}
 use Rattle.t1_algebra.specs.Interpreter.{same_bytes}
 use Rattle.t1_algebra.specs.Profile.{profile}

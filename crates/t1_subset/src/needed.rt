@@ -3,8 +3,7 @@
 ghost use Rattle.std.specs.Prelude.{◌≡◌, IfOk};
 ghost use Rattle.std.specs.FinSet as sets;
 ghost use Rattle.t1_algebra.specs.Profile.{profile};
-ghost use Rattle.t1_algebra.specs.Keep.{keep, kept};
-ghost use Rattle.t1_algebra.specs.Laws.{IsOf};
+ghost use Rattle.t1_algebra.specs.Keep.{keep, kept, IsOf};
 ghost use Rattle.t1_subset.specs.Calls.{number_set};
 ghost use Rattle.t1_subset.specs.NameSets.{asked};
 

@@ -4,7 +4,7 @@ ghost use Rattle.std.specs.Prelude.{◌≡◌, IfOk, IfErr, OnOk, None, not, Lis
 ghost use Rattle.std.specs.FinSet as sets;
 ghost use Rattle.t1_algebra.specs.Profile.{profile};
 ghost use Rattle.t1_algebra.specs.Keep.{has, keep, subset};
-ghost use Rattle.t1_algebra.specs.Laws.{DrawsAlike};
+ghost use Rattle.t1_algebra.specs.Alike.{DrawsAlike};
 ghost use Rattle.t1_algebra.specs.Searches.{first_where};
 ghost use Rattle.t1_subset.specs.NameSets.{lent, asked};
 ghost use Rattle.t1_subset.specs.Refusals.{Absent};

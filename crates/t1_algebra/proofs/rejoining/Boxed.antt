@@ -11,7 +11,7 @@ use Rattle.t1_font.specs.FontBoxes.{Box, Side, joined_box, box_at, side_in, clea
 use Rattle.t1_font.proofs.even_fonts.{Evened.{even_is_font}, EvenTexts.{even_texts_stay}}
 use Rattle.t1_font.proofs.even_fonts.Boxes.{BoxBytes, all_bytes, joined_bytes, all_fonts, own_font, even_still, have_it, one_box_stays}
 use Rattle.t1_join.specs.Groupings.{leaves}
-use Rattle.t1_algebra.specs.{Interpreter.{Names}, Keep.{keep, subset}, Profile.{profile}, Laws.{DrawsAlike}, Lacks.{first_lack}, Merges.{MergesTo}}
+use Rattle.t1_algebra.specs.{Interpreter.{Names}, Keep.{keep, subset}, Profile.{profile}, Lacks.{first_lack}, Merges.{MergesTo}, Alike.{DrawsAlike}}
 use Rattle.t1_algebra.specs.Groupings.{union_all}
 use Rattle.t1_algebra.specs.Rejoins.{declares, cut_to, with_even_texts, SameButBox, Truncated, IsTruncated, truncated_fonts, sets_of, names_of_all, largest}
 use Rattle.t1_algebra.specs.Rejoins.{GetBox, shared_font, rejoined, Rejoins, TruncatedSubsetsRejoin}

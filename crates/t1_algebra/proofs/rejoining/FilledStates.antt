@@ -5,7 +5,7 @@ use Rattle.std.specs.Str.{bytes_eq}
 use Rattle.std.proofs.{lemmas.Bool.{ltb-true, ltb-false}, lemmas.List.Folds.{list_any-append}}
 use Rattle.std.specs.FinSet as sets
 use Rattle.std.specs.FinMap as maps
-use Rattle.t1_font.specs.{FontValue.{FontValue, declared_count}, FontModel.{names_in}, Cut.{stub}, Evening.{stubs_at, below, with_stubs, filled, indices_of_all}}
+use Rattle.t1_font.specs.{FontValue.{FontValue, declared_count, names_in}, Cut.{stub}, Evening.{stubs_at, below, with_stubs, filled, indices_of_all}}
 use Rattle.t1_algebra.specs.{Keep.{has}, Profile.{profile}, Shared.{shared_of}, Conflicts.{wants}, Searches.{first_where}}
 use Rattle.t1_algebra.specs.States.{executed_at, executes, named_at, is_called, subr_state, state_of_entry, joined_option}
 use Rattle.t1_algebra.specs.StateTables.{numbered, code_states, used_subrs, names_table, name_meaning, states_of}

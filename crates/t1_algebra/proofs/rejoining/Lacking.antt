@@ -4,7 +4,7 @@ use Rattle.std.proofs.Common.{unwrap_or}
 use Rattle.std.proofs.lemmas.Bool.{lt-ltb}
 use Rattle.std.specs.FinMap as maps
 use Rattle.std.specs.FinSet as sets
-use Rattle.t1_font.specs.{FontValue.{FontValue, declared_count}, FontModel.{names_in}, Evening.{even, largest_count, each_even, evened_shells}, EveningLaws.{IsEvenWith}}
+use Rattle.t1_font.specs.{FontValue.{FontValue, declared_count, names_in}, Evening.{even, largest_count, each_even, evened_shells}, EveningLaws.{IsEvenWith}}
 use Rattle.t1_font.proofs.MapLemmas.{get-retain}
 use Rattle.t1_algebra.specs.{Keep.{keep, kept}, Profile.{profile}, States.{executes, executed_at}, Searches.{first_where, found}}
 use Rattle.t1_algebra.specs.Lacks.{Lack, user_of, first_below, is_had, lack_at, lack_among, first_lack}

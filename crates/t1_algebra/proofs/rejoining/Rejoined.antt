@@ -8,7 +8,7 @@ use Rattle.t1_join.proofs.OrderLemmas.{leaves_from_left}
 use Rattle.t1_font.specs.{FontValue.{FontValue, SubrsShell, Numbered, name_cmp, total, subr_weight, declared_count}, IsFont.{IsFont, IsWord, IsPhrase, SubrsFit, SubrWords}}
 use Rattle.t1_font.specs.{Evening.{evened}, EvenTexts.{even_texts}}
 use Rattle.t1_font.proofs.{even_fonts.Evened.{even_is_font, even_fit}, MapLemmas.{get-retain, find_first, total-le, Some_None}}
-use Rattle.t1_algebra.specs.{Keep.{keep, kept, subset}, Profile.{profile}, Laws.{IsOf, DrawsAlike}, Merges.{MergesTo}}
+use Rattle.t1_algebra.specs.{Keep.{keep, kept, subset, IsOf}, Profile.{profile}, Merges.{MergesTo}, Alike.{DrawsAlike}}
 use Rattle.t1_algebra.specs.Rejoins.{declares, Truncated, truncated_fonts, sets_of, names_of_all, largest}
 use Rattle.t1_algebra.proofs.rejoining.EvenCuts.{IsEvenCut, even_shared, even_rejoined, EvenCutsRejoin}
 use Rattle.t1_algebra.proofs.{Words.{AllByRecursion, nat_cmp_total, nat_list_cmp_total, nat_cmp-IsAntisymmetric, Names}, Drawings.{subset_alike, alike}, Fonts.{subset_is_font, any_order_of_fonts}}

@@ -10,7 +10,7 @@ use Rattle.t1_font.specs.{IsFont.{IsFont, SubrsFit, SubrWords}, EvenTexts.{even_
 use Rattle.t1_font.specs.Evening.{raised, even_shell, even, stubs_at, below, with_stubs, filled, largest_count, indices_of_all, evened_shells, filled_all, evened}
 use Rattle.t1_font.specs.FontBoxes.{boxed}
 use Rattle.t1_font.proofs.even_fonts.Boxes.{one_shell_stays}
-use Rattle.t1_algebra.specs.{Keep.{keep, kept, has, charstring, subset}, Profile.{profile}, States.{joined_option}, Laws.{IsOf}}
+use Rattle.t1_algebra.specs.{Keep.{keep, kept, has, charstring, subset, IsOf}, Profile.{profile}, States.{joined_option}}
 use Rattle.t1_algebra.specs.Rejoins.{cut_to, with_even_texts, declares, Truncated, truncated_fonts, sets_of, largest}
 use Rattle.t1_algebra.proofs.rejoining.EvenCuts.{IsEvenCut, even_shared}
 use Rattle.t1_algebra.proofs.{Words.{list_any, AllByRecursion, eq_by_cmp, nat_cmp_total, nat_cmp-IsAntisymmetric, Interpreter, Names}, Kept.{keep_has, kept_call, keeps_alike}}

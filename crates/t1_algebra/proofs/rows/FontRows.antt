@@ -15,10 +15,10 @@ use Rattle.t1_join.specs.Join.{joined_state}
 use Rattle.t1_join.specs.Meaning.{of_number}
 use Rattle.t1_join.specs.TableLaws.{get_joined}
 use Rattle.t1_font.specs.Cut.{stub}
-use Rattle.t1_font.specs.FontValue.{FontValue, Shell, Encoding, Word, name_cmp, notdef, Codes}
+use Rattle.t1_font.specs.FontValue.{FontValue, Shell, Encoding, Word, name_cmp, notdef, Codes, names_in}
 use Rattle.t1_font.specs.Maps.{map_values, merged}
 use Rattle.t1_font.specs.Entries.{last_entries}
-use Rattle.t1_font.specs.FontModel.{names_in, word_of}
+use Rattle.t1_font.specs.FontModel.{word_of}
 use Rattle.t1_font.proofs.MapLemmas.{get-map_values, entries-map_values}
 use Rattle.t1_font.proofs.CutEntries.{entries-merged}
 use Rattle.t1_algebra.specs.Interpreter.{Interpreter, Names, same_bytes}

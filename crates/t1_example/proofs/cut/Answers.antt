@@ -1,10 +1,8 @@
 use Rattle.std.proofs.Common.{◌∙◌, sym, ap, subst, inr, Ok}
 use Rattle.std.proofs.lemmas.Result.{err_from_is_err_and}
-use Rattle.t1_font.specs.Canon.{canon}
+use Rattle.t1_font.specs.Canon.{canon, Fits}
 use Rattle.t1_font.specs.FontValue.{FontValue}
-use Rattle.t1_font.specs.WriteLaws.{Fits}
-use Rattle.t1_algebra.specs.Keep.{subset}
-use Rattle.t1_algebra.specs.Laws.{IsOf}
+use Rattle.t1_algebra.specs.Keep.{subset, IsOf}
 use Rattle.t1_subset.specs.NameSets.{lent, asked}
 use Rattle.t1_algebra.specs.Profile.{profile}
 use Rattle.t1_example.specs.Outcomes.{LacksFirst, first_lacking}

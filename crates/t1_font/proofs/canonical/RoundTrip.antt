@@ -26,9 +26,8 @@ use Rattle.t1_bytes.specs.Limits.{file_limit}
 use Rattle.t1_font.specs.Pieces.{EncodingText, OneWord, Puts, ClearPieces, PrivatePieces, flat_pieces, private_pieces}
 use Rattle.t1_font.specs.ReadFont.{font_of, has_notdef, flat_text, font_from, font_file, read_font}
 use Rattle.t1_font.specs.Writing.{encoding_text}
-use Rattle.t1_font.specs.Canon.{encoding_pieces, inside_of, outside_of, canon_clear, canon_private, canon}
+use Rattle.t1_font.specs.Canon.{encoding_pieces, inside_of, outside_of, canon_clear, canon_private, canon, Fits}
 use Rattle.t1_font.specs.IsFont.{IsFont, SubrsFit}
-use Rattle.t1_font.specs.WriteLaws.{Fits}
 use Rattle.t1_font.proofs.ValueLaws.{notdef_is, within_again}
 use Rattle.t1_font.proofs.canonical.ClearWritten.{clear_again}
 use Rattle.t1_font.proofs.canonical.PrivateWritten.{private_again}

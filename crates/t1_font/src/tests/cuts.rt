@@ -9,7 +9,7 @@ ghost use Rattle.t1_font.specs.Cut.{set_of_names, restrict};
 ghost use Rattle.t1_font.specs.Canon.{canon};
 ghost use Rattle.t1_font.specs.IsFont.{IsFont};
 ghost use Rattle.t1_font.specs.Parts.{HasShellOf};
-ghost use Rattle.t1_font.specs.WriteLaws.{SameKind};
+ghost use Rattle.t1_font.specs.Encodings.{SameKind};
 
 use super::rows::with;
 use super::{file, lent_file};

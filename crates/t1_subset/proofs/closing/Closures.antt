@@ -10,7 +10,7 @@ use Rattle.std.specs.FinSet as sets
 use Rattle.std.specs.FinMap as maps
 use Rattle.t1_font.specs.{FontValue.{FontValue, notdef}, IsFont.{IsFont}, Cut.{set_of_names, restrict}}
 use Rattle.t1_algebra.specs.{Interpreter.{same_bytes, Interpreter, Names, Numbers}}
-use Rattle.t1_algebra.specs.{Keep.{has, Closed, keep, components, components_here, charstring, kept, subset}, Laws.{IsOf, DrawsAlike}, Searches.{first_where}}
+use Rattle.t1_algebra.specs.{Keep.{has, Closed, keep, components, components_here, charstring, kept, subset, IsOf}, Searches.{first_where}, Alike.{DrawsAlike}}
 use Rattle.t1_algebra.specs.Profile.{profile}
 use Rattle.t1_algebra.proofs.{Sets.{cases, name_same, tied, itself, in_list, any_filter, from_in_list, same_members}}
 use Rattle.t1_algebra.proofs.{Searching.{none_at_all}, Kept.{keep_least, keep_from, keep_has, keep_closed}, Drawings.{subset_alike}}

@@ -5,7 +5,7 @@ use Rattle.std.specs.{List.{list_any}, Cmp.{nat_cmp_total, second_so}, Cmp.Lexic
 use Rattle.std.specs.FinMap as maps
 use Rattle.std.specs.FinSet as sets
 use Rattle.t1_join.specs.Meaning.{of_number}
-use Rattle.t1_font.specs.{Maps.{merged}, FontValue.{FontValue, Named, name_cmp}, FontModel.{names_in}}
+use Rattle.t1_font.specs.{Maps.{merged}, FontValue.{FontValue, Named, name_cmp, names_in}}
 use Rattle.t1_font.proofs.MapLemmas.{entries-map_values}
 use Rattle.t1_algebra.specs.{Interpreter.{same_bytes}, Keep.{has, components, charstring}, Profile.{profile}}
 use Rattle.t1_algebra.specs.States.{joined_option, is_called, is_sought, joined_font, Compatible, executes, calls_for}

@@ -1,5 +1,5 @@
 use Rattle.std.proofs.Common.{◌≡◌, ◌∙◌, ap, length, arith, rules}
-use Rattle.t1_font.specs.FontModel.{names_in}
+use Rattle.t1_font.specs.FontValue.{names_in}
 use Rattle.t1_cmd.proofs.Walks.{names_length}
 use Rattle.t1_cmd.proofs.fonts.glyph_count.Goals as goal
 

@@ -1,4 +1,4 @@
-use Rattle.t1_font.specs.FontModel.{names_in}
+use Rattle.t1_font.specs.FontValue.{names_in}
 use Rattle.t1_algebra.specs.Conflicts.{GlyphDiffers, glyph_clashes}
 use Rattle.t1_subset.proofs.Telling.{Adding, each_told}
 use Rattle.t1_subset.proofs.differences.add_glyphs.Given as goal

@@ -3,7 +3,7 @@ use Rattle.std.specs.Cmp.Lexicographic.{same_text}
 use Rattle.t1_bytes.specs.declared.form.Form.TheVariants.{Pfb}
 use Rattle.t1_font.specs.FontValue.{FontValue, Encoding, Word, Codes}
 use Rattle.t1_font.specs.Cut.{restrict_encoding, restrict}
-use Rattle.t1_font.specs.WriteLaws.{SameKind}
+use Rattle.t1_font.specs.Encodings.{SameKind}
 use Rattle.t1_font.proofs.canonical.RoundTrip.{one_canon}
 use Rattle.t1_font.proofs.tests.cuts.is_one_shell.Goals as goal
 
