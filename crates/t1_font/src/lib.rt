@@ -79,7 +79,7 @@ pub use t1_run::{
     Curve, DrawFault, Drawing, DrawnPart, Fault, Layout, Mark, Pen, PlacedPart, Point, draw,
     lay_out, trace,
 };
-pub use tags::name_in;
+pub use tags::{name_in, untagged};
 pub use writing::write;
 
 #[cfg(test)]

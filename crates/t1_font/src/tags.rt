@@ -58,8 +58,8 @@ fn tag_at(bytes: &[u8]) -> Option<&[u8]>
     Some(rest)
 }
 
-/// Bytes without the tags that they begin with.
-pub(crate) fn untagged(bytes: &[u8]) -> &[u8]
+/// A name without the tags that it begins with: six capitals and `+`, as often as they come.
+pub fn untagged(bytes: &[u8]) -> &[u8]
     ensures { result.now ≡ untagged bytes.now }
 {
     let mut rest = bytes;
