@@ -7,6 +7,10 @@ body that answers want of memory in place of another answer: for such an edit th
 fail (`caught by: TEST`). The edits are tried on copies of the repository, several side by side; the repository itself is
 not changed.
 
+Edits within the bodies of different functions are tried together by one check, since a function is proved over what others
+promise, and not over their bodies: each has to be refused for its own function and the clause that it names. What doesn't come
+out so is tried by itself.
+
 usage: tools/wrong_bodies.py [--jobs N] [--only NAME] [CRATE...]      (all crates if none is named)
 Ends with status 1 if an edit can't be applied or read, or is neither refused nor caught.
 """
@@ -23,8 +27,8 @@ import tempfile
 from common import TOP, below, copy_crates, needs, put, text_of
 
 EDITS = os.path.join(TOP, "tools/wrong-bodies")
-# The first edit of a copy costs its crate's proof, and each further edit a load of that proof.
-CHUNK = 30
+# How many edits of different functions are tried by one check.
+TOGETHER = 16
 # How long a test may run that is not built yet, which takes it many times as long.
 SECONDS = "900"
 # What is said of an edit that is refused, and of one that is caught.
@@ -102,10 +106,92 @@ def caught(crate, edit):
     return [(name, f"test {crate}/{name}: NOT CAUGHT: {test} {told}: {(done.stdout + done.stderr).strip()[-300:]}")]
 
 
-def refused(crate, edits):
-    """What rt says of some edits of a crate, tried in their own copy."""
+def function_of(edit):
+    """The function that has to be refused, as the first line of an edit names it."""
+    return re.match(r"refused by: ([\w:]+)", lines_of(edit)[0])[1]
+
+
+def change_of(edit, crate):
+    """What an edit changes as a path, the first and the last line and the new lines, if that lies within its function."""
+    paths = {line[len("file: "):] for line in lines_of(edit) if line.startswith("file: ")}
+    if len(paths) != 1:
+        return None
+    path = paths.pop()
     with tempfile.TemporaryDirectory(prefix="wrong-bodies-") as room:
-        copy_crates(room, crates())
+        old = text_of(TOP, "crates", crate, path)
+        os.makedirs(os.path.dirname(os.path.join(room, path)), exist_ok=True)
+        put(old.encode(), room, path)
+        if apply(edit, room):
+            return None
+        old, new = old.split("\n"), text_of(room, path).split("\n")
+    first = next((at for at, (a, b) in enumerate(zip(old, new)) if a != b), min(len(old), len(new)))
+    same = next(at for at, (a, b) in enumerate(zip(old[:first - 1:-1], new[:first - 1:-1])) if a != b) if old[-1] == new[-1] else 0
+    last = len(old) - same
+    name = function_of(edit).split("::")[-1]
+    for at, line in enumerate(old):
+        head = re.match(rf"( *)(?:pub(?:\(\w+\))? )?(?:const )?(?:extern \"C\" )?fn {name}\b", line)
+        if head and at < first and last <= next(end for end in range(at, len(old)) if old[end] == head[1] + "}"):
+            return path, first, last, new[first:len(new) - same]
+    return None
+
+
+def told_of(output, crate):
+    """What a check says of each function, by its path: whether it is proved, and the lines above that say why not."""
+    told, why = {}, []
+    for line in output.splitlines():
+        said = re.match(rf"(?:fn|struct|enum|impl|const) {crate}::(\S+): (.*)", line)
+        if said:
+            told[said[1]] = (said[2], why)
+            why = []
+        else:
+            why.append(line)
+    return told
+
+
+def refusal(edit, told):
+    """The line that refuses an edit for its function and the clause that it names, or None."""
+    name = function_of(edit)
+    verdict, why = next((said for path, said in told.items() if f"::{path}".endswith(f"::{name}")), ("proved", []))
+    if verdict == "proved" or any(re.search("is not in scope|was not admitted", line) for line in why):
+        return None
+    clause = re.search(r", clause (\w+)", lines_of(edit)[0])
+    wanted = f"clause-{clause[1]}`" if clause else "`)"
+    return next((line for line in why if re.match(r"note: src/\S+ it is not proved that", line) and wanted in line), None)
+
+
+def copy_with_work(room, crate):
+    """A copy of all crates, and of what an earlier check of this one left, by links: a check puts other files in their place."""
+    copy_crates(room, crates())
+    work = os.path.join("crates", crate, "out/incremental")
+    if os.path.isdir(os.path.join(TOP, work)):
+        shutil.copytree(os.path.join(TOP, work), os.path.join(room, work), symlinks=True, copy_function=os.link)
+
+
+def checked(crate, room):
+    """What a check of a crate in a copy says."""
+    words = ["rt", "check"]
+    return subprocess.run(words, cwd=os.path.join(room, "crates", crate), capture_output=True, text=True, errors="replace").stdout
+
+
+def refused_together(crate, changes):
+    """What one check says of edits of different functions, and of each that it doesn't refuse by itself."""
+    with tempfile.TemporaryDirectory(prefix="wrong-bodies-") as room:
+        copy_with_work(room, crate)
+        for path, first, last, lines in sorted((change for _, change in changes), key=lambda change: -change[1]):
+            whole = text_of(room, "crates", crate, path).split("\n")
+            put("\n".join(whole[:first] + lines + whole[last:]).encode(), room, "crates", crate, path)
+        told = told_of(checked(crate, room), crate)
+    found = {edit: refusal(edit, told) for edit, _ in changes}
+    good = [(os.path.basename(edit), f"must-fail {crate}/{os.path.basename(edit)}: {GOOD[0]}: {line[:160]}") for edit, line in found.items() if line]
+    return good + refused(crate, [edit for edit, line in found.items() if not line])
+
+
+def refused(crate, edits):
+    """What rt says of some edits of a crate, each tried by itself in one copy."""
+    if not edits:
+        return []
+    with tempfile.TemporaryDirectory(prefix="wrong-bodies-") as room:
+        copy_with_work(room, crate)
         folder = os.path.join(room, "crates", crate, "must-fail")
         os.makedirs(folder)
         for edit in edits:
@@ -118,17 +204,29 @@ def refused(crate, edits):
 
 def chunks_of(crate, edits):
     """What is tried in one copy: a call, and what it is called with."""
-    to_refuse = [edit for edit in edits if not catcher(edit)]
-    for at in range(0, len(to_refuse), CHUNK):
-        yield refused, crate, to_refuse[at : at + CHUNK]
-    for edit in edits:
-        if catcher(edit):
-            yield caught, crate, edit
+    together, alone = [], []
+    for edit in filter(lambda edit: not catcher(edit), edits):
+        change = change_of(edit, crate)
+        if not change:
+            alone.append(edit)
+            continue
+        free = lambda batch: len(batch) < TOGETHER and function_of(edit) not in [function_of(other) for other, _ in batch]
+        batch = next(filter(free, together), None)
+        if batch is None:
+            batch = []
+            together.append(batch)
+        batch.append((edit, change))
+    for batch in together:
+        yield refused_together, crate, batch
+    if alone:
+        yield refused, crate, alone
+    for edit in filter(catcher, edits):
+        yield caught, crate, edit
 
 
 def build(names):
-    """Builds the libraries below these crates once, so that no copy has to prove them."""
-    for crate in below(names):
+    """Builds these libraries and those below them once, so that no copy has to prove them."""
+    for crate in below(names) + [name for name in names if name not in below(names)]:
         if subprocess.run(["rt", "lib"], cwd=os.path.join(TOP, "crates", crate), stdout=subprocess.DEVNULL).returncode:
             sys.exit(f"{crate} is not proved")
 

@@ -1,6 +1,7 @@
 pub mod Interpreter
 pub mod Outcomes
 pub mod Keep
+pub mod Alike
 pub mod Profile
 pub mod States
 pub mod Searches

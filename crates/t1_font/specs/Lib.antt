@@ -21,6 +21,7 @@ pub mod Gathering
 pub mod Sources
 pub mod FontModel
 pub mod IsFont
+pub mod Encodings
 pub mod Joins
 pub mod ReadFont
 pub mod Spelling
