@@ -135,28 +135,47 @@ def change_of(edit, crate):
     return None
 
 
+# What a check says where a proof names what an edit took away, or cites such a proof: that tells nothing of a contract.
+NAMES = "has no field|is not in scope|has no `|was not admitted"
+
+
 def told_of(output, crate):
-    """What a check says of each function, by its path: whether it is proved, and the lines above that say why not."""
-    told, why = {}, []
+    """What a check says of each function, by its path: whether it is proved, and the lines that say why not."""
+    told, why, errors = {}, [], []
     for line in output.splitlines():
-        said = re.match(rf"(?:fn|struct|enum|impl|const) {crate}::(\S+): (.*)", line)
+        said = re.match(rf"(?:fn|struct|enum|impl|trait|const) {crate}::(\S+): (.*)", line)
         if said:
             told[said[1]] = (said[2], why)
             why = []
-        else:
+        elif re.match(r"note: src/\S+ it is not proved that", line):
             why.append(line)
+        elif re.match(r"\./proofs/\S+ error: ", line):
+            errors.append(line)
+    for path, (_, lines) in told.items():
+        file = re.compile(r"\./proofs/" + re.escape("/".join(path.split("::"))).replace("/", "/\\+?") + r"/\w+\.antt:")
+        lines += filter(file.match, errors)
     return told
+
+
+def is_method(path, name):
+    """Whether a check calls by this path what an edit calls by this name: a method by the block that has it, which is called after its type and its trait."""
+    *module, owner, method = path.split("::")
+    *others, said, wanted = [""] + name.split("::")
+    return method == wanted and "::".join(module) == "::".join(others[1:]) and (owner.startswith(said) or owner.endswith(said))
 
 
 def refusal(edit, told):
     """The line that refuses an edit for its function and the clause that it names, or None."""
     name = function_of(edit)
-    verdict, why = next((said for path, said in told.items() if f"::{path}".endswith(f"::{name}")), ("proved", []))
-    if verdict == "proved" or any(re.search("is not in scope|was not admitted", line) for line in why):
-        return None
     clause = re.search(r", clause (\w+)", lines_of(edit)[0])
-    wanted = f"clause-{clause[1]}`" if clause else "`)"
-    return next((line for line in why if re.match(r"note: src/\S+ it is not proved that", line) and wanted in line), None)
+    wanted = f"clause-{clause[1]}`" if clause else "`"
+    for path, (verdict, why) in told.items():
+        is_it = f"::{path}".endswith(f"::{name}") or "::" in path and "::" in name and is_method(path, name)
+        if is_it and verdict != "proved" and not any(re.search(NAMES, line) for line in why):
+            found = next((line for line in why if wanted in line), None)
+            if found:
+                return found
+    return None
 
 
 def copy_with_work(room, crate):
