@@ -382,6 +382,16 @@ def pooled_pages(program, folder):
     check(before != after and before[:4] == after[:4] == b"\x89PNG", "examples/pool-pages.sh makes no pictures")
 
 
+def pooled_documents(program):
+    """tools/pool_producers.py pools two documents by dvips, whose pages stay right."""
+    if lacks("tools/pool_producers.py", ["tex", "dvips", "gs"]):
+        return
+    out = printed([sys.executable, os.path.join(TOP, "tools/pool_producers.py"), "2"], env={**os.environ, "T1SUBSET": program})
+    rows = [[cell.strip() for cell in line.split("|")[1:-1]] for line in out.splitlines()]
+    dvips = next((row for row in rows if row[:1] == ["dvips"] and len(row) == 6), None)
+    check(dvips and dvips[1] == dvips[3] == dvips[5] == "4" and int(dvips[4]) < int(dvips[2]), out)
+
+
 def library_of(folder):
     """The folder of the library that tools/build_library.sh makes of the archive that the gate leaves, or None."""
     if not (compiler() and os.path.exists(os.path.join(TOP, "crates/t1_c/out/libt1_c.a"))):
@@ -409,6 +419,7 @@ def main():
         if library:
             calls(program, library)
         producers(program)
+        pooled_documents(program)
     say("specimens show what the fonts draw, and the scripts run")
 
 
