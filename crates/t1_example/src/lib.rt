@@ -52,11 +52,11 @@ pub use private_texts::sealed_and_opened;
 pub use refusal::Refusal;
 pub use spaces::space;
 pub use spellings::respelled;
-pub use subset_files::subset_file;
-pub use widths::width;
 use std::alloc::Global;
+pub use subset_files::subset_file;
 use t1_font::{Font, Form, Source, read, write};
 use t1_subset::{Conflict, merge, subset};
+pub use widths::width;
 
 /// Which of two fonts is the left one of a merge.
 #[derive(Clone, Copy, Debug, PartialEq, Eq)]

@@ -29,7 +29,8 @@ fn lines(alloc: Global, count: u32, before: &[u8], behind: &[u8]) -> Result<Vec<
 
 /// The private text of a font of so many glyphs beside `.notdef`, each 250 units wide.
 fn private_of(alloc: Global, count: u32) -> Result<Vec<u8>, AllocError> {
-    let start = b"/lenIV 0 def /CharStrings 1 dict dup begin\n/.notdef 5 RD \x9b\x23\xb0\xbb\x08 ND\n";
+    let start =
+        b"/lenIV 0 def /CharStrings 1 dict dup begin\n/.notdef 5 RD \x9b\x23\xb0\xbb\x08 ND\n";
     let mut private = Vec::from_slice(alloc, start)?;
     let glyphs = lines(alloc, count, b"/g", b" 5 RD \x9b\x23\xb0\xbb\x08 ND\n")?;
     private.extend_from_slice(glyphs.as_slice())?;
@@ -137,14 +138,16 @@ fn replaces(alloc: Global, count: u32) -> Result<bool, AllocError> {
 fn called(alloc: Global, count: u32, places: u32) -> Result<bool, AllocError> {
     let file = font_of(alloc, count)?;
     let names = names_of_one(alloc, count)?;
-    Ok(opens(alloc, count)?
-        && spells(alloc, 250, b"\x8b\xf7\x8e\x0d\x0e")?
-        && spells(alloc, 70_000, b"\x8b\xff\x00\x01\x11\x70\x0d\x0e")?
-        && width_in(alloc, file.as_slice(), b"g0")? == Some(250 * 65_536)
-        && width_in(alloc, file.as_slice(), b"A")? == None
-        && lists(alloc, count)?
-        && names.as_slice() == b".notdef g0 "
-        && replaces(alloc, places)?)
+    Ok(
+        opens(alloc, count)?
+            && spells(alloc, 250, b"\x8b\xf7\x8e\x0d\x0e")?
+            && spells(alloc, 70_000, b"\x8b\xff\x00\x01\x11\x70\x0d\x0e")?
+            && width_in(alloc, file.as_slice(), b"g0")? == Some(250 * 65_536)
+            && width_in(alloc, file.as_slice(), b"A")? == None
+            && lists(alloc, count)?
+            && names.as_slice() == b".notdef g0 "
+            && replaces(alloc, places)?,
+    )
 }
 
 #[test]
