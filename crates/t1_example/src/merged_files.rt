@@ -1,6 +1,6 @@
 //! A caller of `t1_cmd`.
 
-ghost use Rattle.std.specs.Prelude.{◌≡◌, ◌∷◌, [], MatchResult};
+ghost use Rattle.std.specs.Prelude.{◌≡◌, ◌∷◌, [], None, MatchResult};
 ghost use Rattle.t1_algebra.specs.Groupings.{union_all};
 ghost use Rattle.t1_algebra.specs.Interpreter.{Names};
 ghost use Rattle.t1_algebra.specs.Keep.{subset};
@@ -24,7 +24,7 @@ pub fn both_files(alloc: Global, first: &[u8], second: &[u8]) -> Result<Vec<u8>,
         → IsSubsetFile f b second.now
         → MatchResult result
         (λ v. v.items ≡ canon (subset profile f (union_all (a ∷ b ∷ []))) Pfa)
-        (λ e. e.reason ≡ Reason.Memory) }
+        (λ e. (e.place ≡ None) × (e.reason ≡ Reason.Memory)) }
 {
     merge_files(alloc, &[first, second], Form::Pfa)
 }

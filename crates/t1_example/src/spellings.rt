@@ -14,5 +14,7 @@ pub fn respelled(alloc: Global, file: &[u8]) -> Result<Vec<u8>, ReadFault>
 {
     let source = read(alloc, file)?;
     let font = source.font(alloc)?;
-    Ok(write(alloc, &font, Form::Pfb)?)
+    let file = write(alloc, &font, Form::Pfb);
+    drop(font);
+    Ok(file?)
 }

@@ -97,7 +97,10 @@ fn canonical(alloc: Global, count: u32) -> Result<Vec<u8>, AllocError> {
 /// The names that the subset of `g0` of such a font has.
 fn names_of_one(alloc: Global, count: u32) -> Result<Vec<u8>, AllocError> {
     let file = font_of(alloc, count)?;
-    match subset_file(alloc, file.as_slice(), &[b"g0"]) {
+    let Ok(source) = read(alloc, file.as_slice()) else {
+        return Err(AllocError);
+    };
+    match subset_file(alloc, &source, &[b"g0"]) {
         Ok(some) => names_in(alloc, some.as_slice()),
         Err(_) => Err(AllocError),
     }
