@@ -148,7 +148,7 @@ fn called(alloc: Global, count: u32, places: u32) -> Result<bool, AllocError> {
             && width_in(alloc, file.as_slice(), b"g0")? == Some(250 * 65_536)
             && width_in(alloc, file.as_slice(), b"A")? == None
             && lists(alloc, count)?
-            && names.as_slice() == b".notdef g0 "
+            && names.as_slice() == b".notdef g0 ".as_slice()
             && replaces(alloc, places)?,
     )
 }

@@ -13,7 +13,7 @@ returns c =
     let font = c.args.font.now in
     let if_named = λ (other : List ℕ) (old : Option (List ℕ)). if bytes_eq name other then Some font else old in
     let texts : text_in c.put.new.self ≡ only name font =
-        λ i other. (c.in_ok-put.ensures.put other ∙ ap (if_named other) (c.new-texts.ensures other)) i in
+    λ i other. (c.in_ok-put.ensures.put other ∙ ap (if_named other) (c.new-texts.ensures other)) i in
     IfOk-weaker c.level.result _ _
     (λ v e. e ∙ ap (document_levelled (text_in c.put.new.self)) c.in_ok-document.ensures.exact
     ∙ ap (λ (new : NewTexts). document_levelled new (document_of c.args.text.now)) texts)
