@@ -122,6 +122,11 @@ uint32_t t1subset_check(const uint8_t *font, size_t size, t1subset_answer *answe
  * LENGTH" for each glyph. */
 uint32_t t1subset_list(const uint8_t *font, size_t size, t1subset_answer *answer);
 
+/* The same lines, and behind them what the font's dictionary says, as it is spelled there: "name NAME" (FontName),
+ * "matrix NUMBERS" (FontMatrix), "box NUMBERS" (FontBBox) and "unique NUMBER" (UniqueID), none of a key that isn't there;
+ * and last "width NAME X Y" for each glyph, in font units, or "width NAME fault FAULT" if it can't be drawn. */
+uint32_t t1subset_list_full(const uint8_t *font, size_t size, t1subset_answer *answer);
+
 /* Lines that say what a glyph draws, in font units: "width X Y", "bearing X Y", and for each part "part X Y" and its
  * marks, such as "move X Y", "line X Y", "curve X Y X Y X Y", "close", "hstem Y DY"; or "fault NAME" if it can't be drawn. */
 uint32_t t1subset_show(const uint8_t *font, size_t size, const uint8_t *name, size_t name_size, t1subset_answer *answer);

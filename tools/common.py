@@ -37,6 +37,13 @@ def put(data, *path):
     return os.path.join(*path)
 
 
+def put_between(text, maker, name, lines):
+    """A page with these lines in its part of this name, which says by which script of tools/ it is made."""
+    begin, end = f"<!-- The {name} is made by tools/{maker}. -->\n", f"<!-- The {name} ends here. -->\n"
+    before, behind = text.split(begin)[0], text.split(end)[1]
+    return before + begin + "\n" + "\n".join(lines) + "\n\n" + end + behind
+
+
 def example(name):
     """A file of examples/."""
     return bytes_of(TOP, "examples", name)

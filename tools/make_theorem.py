@@ -12,10 +12,11 @@ usage: tools/make_theorem.py [--check | --imports]
 import os
 import sys
 
-from common import TOP, needs, put, say, text_of
+from common import TOP, needs, put, put_between, say, text_of
 from definitions import Definitions
 
 PAGE = os.path.join(TOP, "docs/THEOREM.md")
+MAKER = "make_theorem.py"
 STATEMENT = ("t1_algebra", "Headline", "Headline")
 QUOTED = ("ComesToSubset", "Headline")
 # The chapters of Adobe Type 1 Font Format, version 1.1, or the Technical Note, for which a file stands; the others are this
@@ -99,16 +100,9 @@ def statement():
     return ["```", *"\n\n".join(map("\n".join, quoted)).splitlines(), "```"]
 
 
-def put_between(text, name, lines):
-    """A page with these lines in its part of this name."""
-    begin, end = f"<!-- The {name} is made by tools/make_theorem.py. -->\n", f"<!-- The {name} ends here. -->\n"
-    before, behind = text.split(begin)[0], text.split(end)[1]
-    return before + begin + "\n" + "\n".join(lines) + "\n\n" + end + behind
-
-
 def page():
     """The page as it has to be."""
-    return put_between(put_between(text_of(PAGE), "statement", statement()), "list", reading_list())
+    return put_between(put_between(text_of(PAGE), MAKER, "statement", statement()), MAKER, "list", reading_list())
 
 
 def show_imports():

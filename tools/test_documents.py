@@ -19,7 +19,7 @@ WORDS = 2500
 
 
 def pages():
-    found = glob.glob(os.path.join(TOP, "*.md")) + glob.glob(os.path.join(TOP, "docs/*.md"))
+    found = glob.glob(os.path.join(TOP, "*.md")) + glob.glob(os.path.join(TOP, "docs/*.md")) + glob.glob(os.path.join(TOP, "crates/*/*.md"))
     return sorted(found + [os.path.join(TOP, folder, "README.md") for folder in ("python", "rust")])
 
 

@@ -36,7 +36,7 @@ SANITIZERS = ["-fsanitize=address,undefined", "-fno-sanitize-recover=all"]
 # Numbers that no word over the library answers: growths.c and edges.c meet them.
 ELSEWHERE = {"ok", "memory", "bad_call", "file_too_long", "no_font", "nothing_to_merge"}
 # Options that no call has.
-OWN_OPTIONS = {"--names", "--explain", "--full"}
+OWN_OPTIONS = {"--names", "--explain"}
 
 
 class Library:
@@ -239,6 +239,7 @@ def run_font(pair, font, last):
     """All words over a font, and over two subsets of it; the first of these is returned, if there is one."""
     for words in (["check", font], ["pfa", font, "out"], ["pfb", font, "out"], ["mend", font, "out"]):
         pair.both(words)
+    pair.both(["list", "--full", font])
     status, listed, _, _ = pair.both(["list", font])
     names = [name for name in re.findall(r"^glyph (\S+) ", listed.decode(), re.M) if "\\" not in name]
     if status:

@@ -68,6 +68,7 @@ function library(bytes) {
   return {
     check: (font) => call("check", () => one(font)),
     list: (font) => call("list", () => one(font)),
+    list_full: (font) => call("list_full", () => one(font)),
     show: (font, name) => call("show", () => [...one(font), ...one(name)]),
     convert: (font, form) => call("convert", () => [...one(font), form]),
     mend: (font, form) => call("mend", () => [...one(font), form]),

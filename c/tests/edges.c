@@ -36,6 +36,7 @@ static void no_bytes(t1subset_bytes font) {
     const uint8_t no_code[] = {0};
     EXPECT(t1subset_check(NULL, 0, &answer), T1SUBSET_NO_EEXEC, 0, "no eexec");
     EXPECT(t1subset_list(NULL, 0, &answer), T1SUBSET_NO_EEXEC, 0, "no eexec");
+    EXPECT(t1subset_list_full(NULL, 0, &answer), T1SUBSET_NO_EEXEC, 0, "no eexec");
     EXPECT(t1subset_show(NULL, 0, NULL, 0, &answer), T1SUBSET_NO_EEXEC, 0, "no eexec");
     EXPECT(t1subset_show(font.data, font.size, NULL, 0, &answer), T1SUBSET_NO_GLYPH, -1, "no glyph ");
     EXPECT(t1subset_convert(NULL, 0, T1SUBSET_PFA, &answer), T1SUBSET_NO_EEXEC, 0, "no eexec");

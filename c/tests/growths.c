@@ -29,6 +29,7 @@ static t1subset_bytes font, commented, listings[2], names[3], parts[3], document
 
 static uint32_t check(t1subset_answer *to) { return t1subset_check(font.data, font.size, to); }
 static uint32_t list(t1subset_answer *to) { return t1subset_list(font.data, font.size, to); }
+static uint32_t list_full(t1subset_answer *to) { return t1subset_list_full(font.data, font.size, to); }
 static uint32_t show(t1subset_answer *to) { return t1subset_show(font.data, font.size, names[0].data, names[0].size, to); }
 static uint32_t convert(t1subset_answer *to) { return t1subset_convert(font.data, font.size, T1SUBSET_PFB, to); }
 static uint32_t mend(t1subset_answer *to) { return t1subset_mend(font.data, font.size, T1SUBSET_PFB, to); }
@@ -73,7 +74,8 @@ static const struct {
     uint32_t (*make)(t1subset_answer *);
     uint32_t number;
 } calls[] = {
-    {"check", check, T1SUBSET_OK}, {"list", list, T1SUBSET_OK}, {"show", show, T1SUBSET_OK},
+    {"check", check, T1SUBSET_OK}, {"list", list, T1SUBSET_OK}, {"list in full", list_full, T1SUBSET_OK},
+    {"show", show, T1SUBSET_OK},
     {"convert", convert, T1SUBSET_OK}, {"mend", mend, T1SUBSET_OK}, {"mends", mends, T1SUBSET_OK}, {"subset", subset, T1SUBSET_OK},
     {"subset of codes", subset_codes, T1SUBSET_OK},
     {"merge", merge, T1SUBSET_OK}, {"rejoin", rejoin, T1SUBSET_OK}, {"diff", diff, T1SUBSET_OK}, {"join", join, T1SUBSET_OK},

@@ -33,6 +33,7 @@ struct options {
     uint8_t codes[1 << 12];
     size_t count;
     const char *extract;
+    int full;
 };
 
 static void add_codes(struct options *options, const char *bytes, size_t size) {
@@ -63,6 +64,7 @@ static int take_options(struct options *options, int count, char **words) {
     for (int at = 0; at < count; at++) {
         if (!plain && !strcmp(words[at], "--")) plain = 1;
         else if (!plain && !strcmp(words[at], "--pfb")) options->form = T1SUBSET_PFB;
+        else if (!plain && !strcmp(words[at], "--full")) options->full = 1;
         else if (!plain && (value = value_of("--codes", words, &at))) add_list(options, value);
         else if (!plain && (value = value_of("--text", words, &at))) text = value;
         else if (!plain && (value = value_of("--extract", words, &at))) options->extract = value;
@@ -70,6 +72,10 @@ static int take_options(struct options *options, int count, char **words) {
     }
     add_codes(options, text, strlen(text));
     return left;
+}
+
+static uint32_t list(const struct options *options, t1subset_bytes font, t1subset_answer *answer) {
+    return options->full ? t1subset_list_full(font.data, font.size, answer) : t1subset_list(font.data, font.size, answer);
 }
 
 static uint32_t subset(const struct options *options, t1subset_bytes font, const t1subset_bytes *names, size_t count, t1subset_answer *answer) {
@@ -82,7 +88,7 @@ static uint32_t call(const char *word, const struct options *options, const t1su
     const uint32_t form = options->form;
     const t1subset_bytes first = count > 0 ? arguments[0] : named(""), second = count > 1 ? arguments[1] : named("");
     if (!strcmp(word, "check")) return t1subset_check(first.data, first.size, answer);
-    if (!strcmp(word, "list")) return t1subset_list(first.data, first.size, answer);
+    if (!strcmp(word, "list")) return list(options, first, answer);
     if (!strcmp(word, "show")) return t1subset_show(first.data, first.size, second.data, second.size, answer);
     if (!strcmp(word, "pfa")) return t1subset_convert(first.data, first.size, T1SUBSET_PFA, answer);
     if (!strcmp(word, "pfb")) return t1subset_convert(first.data, first.size, T1SUBSET_PFB, answer);

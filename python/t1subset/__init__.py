@@ -35,6 +35,7 @@ from ._calls import (
     join,
     level,
     list,
+    list_full,
     mend,
     mends,
     merge,
@@ -45,7 +46,7 @@ from ._calls import (
     version,
 )
 from ._refusals import Number, Part, Refused
-from ._texts import Checked, Drawn, DrawnPart, Listed, Mark, Mend, Placed, Point, Undrawn
+from ._texts import Checked, Drawn, DrawnPart, Listed, ListedInFull, Mark, Mend, Placed, Point, Undrawn
 
 __version__ = "0.1.0"
 
@@ -57,6 +58,7 @@ __all__ = [
     "DrawnPart",
     "Form",
     "Listed",
+    "ListedInFull",
     "Mark",
     "Mend",
     "Name",
@@ -74,6 +76,7 @@ __all__ = [
     "join",
     "level",
     "list",
+    "list_full",
     "mend",
     "mends",
     "merge",

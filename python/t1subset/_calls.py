@@ -10,7 +10,7 @@ from typing import Any, Iterable, List, Literal, Tuple, Union
 from . import _texts
 from ._library import Answer, Given, library
 from ._refusals import Number, Refused
-from ._texts import Checked, Drawn, Listed, Mend, Placed, Undrawn
+from ._texts import Checked, Drawn, Listed, ListedInFull, Mend, Placed, Undrawn
 
 
 class Form(enum.Enum):
@@ -45,6 +45,20 @@ def list(font: BytesLike) -> Listed:
     {65: 'X', 66: 'Y', 194: 'H'}
     """
     return _texts.listed(_text(library.t1subset_list, *_file(font)))
+
+
+def list_full(font: BytesLike) -> ListedInFull:
+    """What `list` says, and what the font's dictionary says, and the widths of the glyphs.
+
+    >>> listed = list_full(font)
+    >>> listed.name, listed.matrix, listed.bbox, listed.unique_id
+    ('Tiny', '0.001 0 0 0.001 0 0', '0 0 500 700', None)
+    >>> listed.widths["X"]
+    Point(x=Fraction(300, 1), y=Fraction(0, 1))
+    >>> listed.widths["N"]
+    Undrawn(fault='NestedSeac')
+    """
+    return _texts.listed_in_full(_text(library.t1subset_list_full, *_file(font)))
 
 
 def show(font: BytesLike, name: Name) -> Union[Drawn, Undrawn]:

@@ -34,6 +34,7 @@ _FORM: List[Any] = [ctypes.c_uint32]
 _CALLS: Dict[str, List[Any]] = {
     "t1subset_check": _FILE,
     "t1subset_list": _FILE,
+    "t1subset_list_full": _FILE,
     "t1subset_show": _FILE + _FILE,
     "t1subset_convert": _FILE + _FORM,
     "t1subset_mend": _FILE + _FORM,

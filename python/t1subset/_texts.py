@@ -1,4 +1,4 @@
-"""What the library's texts say: `check`, `list`, `show`, `mends` and `fonts`."""
+"""What the library's texts say: `check`, `list`, `list_full`, `show`, `mends` and `fonts`."""
 
 from __future__ import annotations
 
@@ -79,6 +79,26 @@ class Undrawn:
     fault: str
 
 
+@dataclass(frozen=True)
+class ListedInFull(Listed):
+    """What a font lists in full: beside that of `Listed` what its dictionary says, None of a key that isn't there.
+
+    name: the FontName, as names stand in `Listed`.
+    matrix, bbox: the FontMatrix and the FontBBox, as the font spells them within their brackets: numbers, mostly.
+    unique_id: the UniqueID, as the font spells it: digits, mostly.
+    widths: the width of each glyph by its name, or the fault for which it can't be drawn.
+
+    In `matrix`, `bbox` and `unique_id` white space is a blank, and any other byte that isn't visible, and the backslash,
+    is \\x and two digits.
+    """
+
+    name: Optional[str]
+    matrix: Optional[str]
+    bbox: Optional[str]
+    unique_id: Optional[str]
+    widths: Mapping[str, Union[Point, Undrawn]]
+
+
 class Mend(NamedTuple):
     """A thing that `mend` mends of a font. `str` gives the line that the program t1subset prints of it.
 
@@ -142,13 +162,12 @@ def checked(text: str) -> Checked:
     return Checked(*map(int, found.groups()))
 
 
-def listed(text: str) -> Listed:
-    """What the text of `list` says."""
+def _listed(lines: List[str]) -> Listed:
     word = None
     codes: Dict[int, str] = {}
     subrs: Dict[int, int] = {}
     glyphs: Dict[str, int] = {}
-    for line in text.splitlines():
+    for line in lines:
         kind, *rest = line.split(" ")
         if kind == "glyph" and len(rest) == 2:
             glyphs[name_of(rest[0])] = int(rest[1])
@@ -161,6 +180,11 @@ def listed(text: str) -> Listed:
         else:
             raise unknown(line)
     return Listed(codes if word is None else word, subrs, glyphs)
+
+
+def listed(text: str) -> Listed:
+    """What the text of `list` says."""
+    return _listed(text.splitlines())
 
 
 def _amount(text: str) -> Fraction:
@@ -197,6 +221,42 @@ def drawn(text: str) -> Union[Drawn, Undrawn]:
             raise unknown(mark.word)
     made = tuple(DrawnPart(offset, tuple(marks)) for offset, marks in parts)
     return Drawn(_point(width, "width"), _point(bearing, "bearing"), made)
+
+
+def _width(rest: str) -> Tuple[str, Union[Point, Undrawn]]:
+    words = rest.split(" ")
+    if len(words) != 3:
+        raise unknown("width " + rest)
+    name, x, y = words
+    return name_of(name), Undrawn(y) if x == "fault" else Point(_amount(x), _amount(y))
+
+
+def listed_in_full(text: str) -> ListedInFull:
+    """What the text of `list --full` says."""
+    told: Dict[str, Optional[str]] = dict.fromkeys(("name", "matrix", "box", "unique"))
+    widths: Dict[str, Union[Point, Undrawn]] = {}
+    lines: List[str] = []
+    for line in text.splitlines():
+        kind, blank, rest = line.partition(" ")
+        if kind in told and blank:
+            told[kind] = rest
+        elif kind == "width":
+            name, width = _width(rest)
+            widths[name] = width
+        else:
+            lines.append(line)
+    listed = _listed(lines)
+    name = told["name"]
+    return ListedInFull(
+        listed.encoding,
+        listed.subrs,
+        listed.glyphs,
+        name if name is None else name_of(name),
+        told["matrix"],
+        told["box"],
+        told["unique"],
+        widths,
+    )
 
 
 def _mend(line: str) -> Mend:

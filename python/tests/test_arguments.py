@@ -100,6 +100,7 @@ class Arguments(unittest.TestCase):
         calls: List[Callable[[Any], Any]] = [
             t1subset.check,
             t1subset.list,
+            t1subset.list_full,
             t1subset.convert,
             t1subset.mend,
             t1subset.mends,
@@ -242,6 +243,7 @@ class Memory(unittest.TestCase):
         one, two = fonts.made([], {b".notdef": b"\x0e"}), fonts.made([], {b".notdef": b"\x0e", b"A": b"\x0e"})
         self.assertEqual(self.sweep(lambda: t1subset.check(PFA)).weight, 4936)
         self.assertEqual(len(self.sweep(lambda: t1subset.list(PFA)).glyphs), 11)
+        self.assertEqual(len(self.sweep(lambda: t1subset.list_full(PFA)).widths), 11)
         self.assertEqual(self.sweep(lambda: t1subset.show(PFA, "L")), t1subset.Undrawn("Nesting"))
         self.assertEqual(self.sweep(lambda: t1subset.convert(PFA, "pfb")), PFB)
         self.assertEqual(self.sweep(lambda: t1subset.mend(PFA, "pfb")), PFB)

@@ -67,7 +67,7 @@ class Laws(unittest.TestCase):
                 pfa, pfb = t1subset.convert(font, "pfa"), t1subset.convert(font, "pfb")
                 self.assertEqual((pfa[:1], pfb[:2]), (b"%", b"\x80\x01"))
                 self.assertEqual((t1subset.convert(pfb), t1subset.convert(pfa, "pfb")), (pfa, pfb))
-                self.assertEqual(t1subset.list(pfa), t1subset.list(font))
+                self.assertEqual(t1subset.list_full(pfa), t1subset.list_full(font))
 
     def test_a_mended_font_is_mended(self) -> None:
         for path, font in each_font():

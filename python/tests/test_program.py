@@ -62,13 +62,32 @@ def text_of(answer: object) -> str:
             lines += [line(mark.word, *mark.numbers) for mark in part.marks]
         return "".join(lines)
     assert isinstance(answer, t1subset.Listed)
+    return "".join([*listed_lines(answer), *lines_in_full(answer)])
+
+
+def listed_lines(answer: t1subset.Listed) -> List[str]:
     if isinstance(answer.encoding, str):
         lines = [f"encoding {shown(answer.encoding)}\n"]
     else:
         lines = [f"code {code} {shown(name)}\n" for code, name in answer.encoding.items()]
     lines += [f"subr {index} {length}\n" for index, length in answer.subrs.items()]
-    lines += [f"glyph {shown(name)} {length}\n" for name, length in answer.glyphs.items()]
-    return "".join(lines)
+    return lines + [f"glyph {shown(name)} {length}\n" for name, length in answer.glyphs.items()]
+
+
+def lines_in_full(answer: t1subset.Listed) -> List[str]:
+    """The lines that `list` prints with `--full` alone."""
+    if not isinstance(answer, t1subset.ListedInFull):
+        return []
+    name = None if answer.name is None else shown(answer.name)
+    told = [("name", name), ("matrix", answer.matrix), ("box", answer.bbox), ("unique", answer.unique_id)]
+    lines = [f"{word} {value}\n" for word, value in told if value is not None]
+    for glyph, width in answer.widths.items():
+        word = "width " + shown(glyph)
+        if isinstance(width, t1subset.Point):
+            lines.append(line(word, width.x, width.y))
+        else:
+            lines.append(f"{word} fault {width.fault}\n")
+    return lines
 
 
 class Program(unittest.TestCase):
@@ -115,6 +134,7 @@ class Program(unittest.TestCase):
                 names = some_names(font) if accepted(font) else []
                 self.same(["check", "IN0"], [font], lambda: t1subset.check(font))
                 self.same(["list", "IN0"], [font], lambda: t1subset.list(font))
+                self.same(["list", "--full", "IN0"], [font], lambda: t1subset.list_full(font))
                 self.same(["pfa", "IN0", "OUT"], [font], lambda: t1subset.convert(font))
                 self.same(["pfb", "IN0", "OUT"], [font], lambda: t1subset.convert(font, "pfb"))
                 self.same(["mend", "IN0", "OUT"], [font], lambda: t1subset.mend(font))

@@ -45,6 +45,7 @@ def rows_of_files() -> List[Row]:
         found += [
             (number, text, detail, 0, partial(t1subset.check, font)),
             (number, text, detail, 0, partial(t1subset.list, font)),
+            (number, text, detail, 0, partial(t1subset.list_full, font)),
             (number, text, detail, 0, partial(t1subset.show, font, "nosuch")),
             (number, text, detail, 0, partial(t1subset.convert, font)),
             (number, text, detail, 0, partial(t1subset.mend, font)),

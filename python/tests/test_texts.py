@@ -1,4 +1,4 @@
-"""What `check`, `list`, `show` and `mends` say, and names that are no ASCII."""
+"""What `check`, `list`, `list_full`, `show` and `mends` say, and names that are no ASCII."""
 
 from __future__ import annotations
 
@@ -9,7 +9,7 @@ from fractions import Fraction
 from typing import Any, Tuple
 
 import t1subset
-from t1subset import Checked, Drawn, Listed, Mend, Undrawn, _calls, _texts
+from t1subset import Checked, Drawn, Listed, Mend, Point, Undrawn, _calls, _texts
 
 from . import fonts
 from .fonts import PFA, PFB, changed
@@ -46,6 +46,31 @@ class Texts(unittest.TestCase):
 
     def test_list_of_no_codes(self) -> None:
         self.assertEqual(t1subset.list(t1subset.subset(PFA, [])).encoding, {})
+
+    def test_list_in_full(self) -> None:
+        full, listed = t1subset.list_full(PFA), t1subset.list(PFA)
+        self.assertEqual((full.encoding, full.subrs, full.glyphs), (listed.encoding, listed.subrs, listed.glyphs))
+        self.assertEqual((full.name, full.matrix, full.bbox), ("Tiny", "0.001 0 0 0.001 0 0", "0 0 500 700"))
+        self.assertIsNone(full.unique_id)
+        self.assertEqual(list(full.widths), list(full.glyphs))
+        widths = {".notdef": 250, "X": 300, "acute": 300, "Aacute": 500}
+        for name, width in widths.items():
+            self.assertEqual(full.widths[name], Point(Fraction(width), Fraction(0)))
+        self.assertEqual((full.widths["L"], full.widths["N"]), (Undrawn("Nesting"), Undrawn("NestedSeac")))
+
+    def test_values_as_they_are_spelled(self) -> None:
+        matrix = b"/FontMatrix [0.001 0 0 0.001 0 0]"
+        rows = [
+            (matrix, b"/FontMatrix{ 1e-3 0\n0 .001\x800 0}", "matrix", r" 1e-3 0 0 .001\x800 0"),
+            (b"/FontBBox {0 0 500 700}", b"/FontBBox", "bbox", "def"),
+            (b"/FontName /Tiny", b"/FontName/T\xe9\\y", "name", "T\udce9\\y"),
+            (b"/FontName /Tiny", b"/FontName /", "name", ""),
+            (b"/FontName /Tiny", b"/FontNames /Tiny", "name", None),
+            (b"/FontName /Tiny", b"/UniqueID 5000793 def\n/FontName /Tiny", "unique_id", "5000793"),
+        ]
+        for old, new, field, value in rows:
+            with self.subTest(new=new):
+                self.assertEqual(getattr(t1subset.list_full(changed(old, new)), field), value)
 
     def test_show(self) -> None:
         box = [("move", 50, 0), ("line", 150, 0), ("line", 150, 700), ("line", 50, 700), ("close",)]
@@ -107,7 +132,7 @@ class Texts(unittest.TestCase):
 
     def test_answers_can_be_compared_and_pickled(self) -> None:
         drawn, undrawn, mends = t1subset.show(PFA, "X"), t1subset.show(PFA, "N"), t1subset.mends(fonts.spelled())
-        for answer in (t1subset.check(PFA), t1subset.list(PFA), drawn, undrawn, mends):
+        for answer in (t1subset.check(PFA), t1subset.list(PFA), t1subset.list_full(PFA), drawn, undrawn, mends):
             self.assertEqual(pickle.loads(pickle.dumps(answer)), answer)
 
     def test_texts_of_another_library(self) -> None:
@@ -115,6 +140,10 @@ class Texts(unittest.TestCase):
             (_texts.checked, "ok\n"),
             (_texts.listed, "glyph A\n"),
             (_texts.listed, "kern A B 5\n"),
+            (_texts.listed, "name Tiny\n"),
+            (_texts.listed_in_full, "name\n"),
+            (_texts.listed_in_full, "width A 5\n"),
+            (_texts.listed_in_full, "width A 5 0 0\n"),
             (_texts.drawn, ""),
             (_texts.drawn, "width 1 0\nbearing 0 0\nmove 1 0\n"),
             (_texts.drawn, "bearing 0 0\nwidth 1 0\n"),

@@ -29,7 +29,7 @@ impl Amount {
     }
 
     /// The amount that is printed so.
-    fn shown(text: &str) -> Option<Amount> {
+    pub(crate) fn shown(text: &str) -> Option<Amount> {
         match text.strip_suffix("/65536") {
             Some(count) => count.parse().ok().map(Amount),
             None => text.parse::<i64>().ok()?.checked_mul(65536).map(Amount),

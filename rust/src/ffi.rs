@@ -36,6 +36,7 @@ struct Answer {
 extern "C" {
     fn t1subset_check(font: *const u8, size: usize, answer: *mut Answer) -> u32;
     fn t1subset_list(font: *const u8, size: usize, answer: *mut Answer) -> u32;
+    fn t1subset_list_full(font: *const u8, size: usize, answer: *mut Answer) -> u32;
     fn t1subset_show(font: *const u8, size: usize, name: *const u8, name_size: usize, answer: *mut Answer) -> u32;
     fn t1subset_convert(font: *const u8, size: usize, form: u32, answer: *mut Answer) -> u32;
     fn t1subset_mend(font: *const u8, size: usize, form: u32, answer: *mut Answer) -> u32;
@@ -155,6 +156,11 @@ pub(crate) fn check(font: &[u8]) -> Result<Vec<u8>, Refused> {
 pub(crate) fn list(font: &[u8]) -> Result<Vec<u8>, Refused> {
     // SAFETY: as in `check`.
     call(|answer| unsafe { t1subset_list(font.as_ptr(), font.len(), answer) })
+}
+
+pub(crate) fn list_full(font: &[u8]) -> Result<Vec<u8>, Refused> {
+    // SAFETY: as in `check`.
+    call(|answer| unsafe { t1subset_list_full(font.as_ptr(), font.len(), answer) })
 }
 
 pub(crate) fn show(font: &[u8], name: &[u8]) -> Result<Vec<u8>, Refused> {

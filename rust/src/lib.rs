@@ -24,8 +24,8 @@
 //!
 //! # Panics
 //!
-//! [`check`], [`list`], [`show`], [`mends`] and [`fonts`] read the library's texts, and panic at a text that
-//! libt1subset.so.0 doesn't write.
+//! [`check`], [`list`], [`list_full`], [`show`], [`mends`] and [`fonts`] read the library's texts, and panic at a text
+//! that libt1subset.so.0 doesn't write.
 
 #![warn(missing_docs)]
 #![deny(unsafe_code)]
@@ -40,7 +40,7 @@ mod placed;
 mod refusal;
 
 pub use drawing::{Amount, Drawing, DrawnPart, Mark, Picture, Point};
-pub use listed::{Checked, Encoding, Listed};
+pub use listed::{Checked, Encoding, Listed, ListedInFull, Width};
 pub use mended::Mend;
 pub use name::Name;
 pub use placed::Placed;
@@ -87,6 +87,26 @@ pub fn check(font: &[u8]) -> Result<Checked, Refused> {
 /// ```
 pub fn list(font: &[u8]) -> Result<Listed, Refused> {
     ffi::list(font).map(|text| read(&text, Listed::read))
+}
+
+/// What [`list`] says, and what the font's dictionary says, and the widths of the glyphs.
+///
+/// ```
+/// use t1subset::Width;
+///
+/// # fn main() -> Result<(), Box<dyn std::error::Error>> {
+/// let font = std::fs::read("../examples/tiny.pfa")?;
+/// let full = t1subset::list_full(&font)?;
+/// assert_eq!(full.listed, t1subset::list(&font)?);
+/// assert_eq!(full.bbox.as_deref(), Some("0 0 500 700"));
+/// if let Some(Width::Drawn(width)) = full.widths.get(&b"X"[..]) {
+///     assert_eq!(width.x.to_f64(), 300.0);
+/// }
+/// # Ok(())
+/// # }
+/// ```
+pub fn list_full(font: &[u8]) -> Result<ListedInFull, Refused> {
+    ffi::list_full(font).map(|text| read(&text, ListedInFull::read))
 }
 
 /// What a glyph draws, or the fault for which it can't be drawn.

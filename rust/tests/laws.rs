@@ -5,7 +5,7 @@ mod common;
 use common::{document, each_font, example, made, some_names, EMPTY, STUB};
 use std::thread;
 use t1subset::{
-    check, convert, diff, extract, fonts, join, level, list, mend, mends, merge, pool, rejoin, show, subset,
+    check, convert, diff, extract, fonts, join, level, list, list_full, mend, mends, merge, pool, rejoin, show, subset,
 };
 use t1subset::{subset_codes, Form};
 
@@ -43,7 +43,7 @@ fn a_font_has_one_file_in_each_form() {
         let (pfa, pfb) = (convert(&font, Form::Pfa).unwrap(), convert(&font, Form::Pfb).unwrap());
         assert_eq!((&pfa[..1], &pfb[..2]), (&b"%"[..], &b"\x80\x01"[..]), "{path}");
         assert!(convert(&pfb, Form::Pfa).unwrap() == pfa && convert(&pfa, Form::Pfb).unwrap() == pfb, "{path}");
-        assert_eq!(list(&pfa), list(&font), "{path}");
+        assert_eq!(list_full(&pfa), list_full(&font), "{path}");
     }
 }
 

@@ -8,7 +8,7 @@ use std::ffi::c_void;
 use std::fmt::Debug;
 use std::ptr;
 use t1subset::{
-    check, convert, diff, extract, fonts, join, level, list, mend, mends, merge, pool, rejoin, show, subset,
+    check, convert, diff, extract, fonts, join, level, list, list_full, mend, mends, merge, pool, rejoin, show, subset,
 };
 use t1subset::{subset_codes, Form, Number, Picture, Refused};
 
@@ -84,6 +84,7 @@ fn each_call() {
     let (pfa, pfb) = (example("tiny.pfa"), example("tiny.pfb"));
     assert_eq!(sweep(|| check(&pfa)).unwrap().weight, 4936);
     assert_eq!(sweep(|| list(&pfa)).unwrap().glyphs.len(), 11);
+    assert_eq!(sweep(|| list_full(&pfa)).unwrap().widths.len(), 11);
     assert_eq!(sweep(|| show(&pfa, "L")).unwrap(), Picture::Undrawn("Nesting".into()));
     assert!(sweep(|| convert(&pfa, Form::Pfb)).unwrap() == pfb);
     assert!(sweep(|| mend(&pfa, Form::Pfb)).unwrap() == pfb);

@@ -8,7 +8,7 @@ use std::fmt::Write;
 use std::fs;
 use std::path::PathBuf;
 use std::process::{Command, Output};
-use t1subset::{Amount, Checked, Drawing, Encoding, Form, Listed, Mark, Picture, Point, Refused};
+use t1subset::{Amount, Checked, Drawing, Encoding, Form, Listed, ListedInFull, Mark, Picture, Point, Refused, Width};
 
 /// The program: that of the variable T1SUBSET, else the tree's.
 fn program() -> Option<PathBuf> {
@@ -69,6 +69,22 @@ fn list_text(listed: &Listed) -> String {
     };
     out.extend(listed.subrs.iter().map(|(index, length)| format!("subr {index} {length}\n")));
     out.extend(listed.glyphs.iter().map(|(name, length)| format!("glyph {name} {length}\n")));
+    out
+}
+
+fn full_text(full: &ListedInFull) -> String {
+    let mut out = list_text(&full.listed);
+    let name = full.name.as_ref().map(|name| name.to_string());
+    let told = [("name", &name), ("matrix", &full.matrix), ("box", &full.bbox), ("unique", &full.unique_id)];
+    for (word, value) in told {
+        out.extend(value.iter().map(|value| format!("{word} {value}\n")));
+    }
+    for (name, width) in &full.widths {
+        match width {
+            Width::Drawn(width) => numbers(&mut out, &format!("width {name}"), &[width.x, width.y]),
+            Width::Undrawn(fault) => writeln!(out, "width {name} fault {fault}").unwrap(),
+        }
+    }
     out
 }
 
@@ -135,6 +151,7 @@ fn words_about_one_font() {
         let font = font.as_slice();
         run.same(&["check", "IN0"], &[font], t1subset::check(font).map(|it| check_text(&it).into()));
         run.same(&["list", "IN0"], &[font], t1subset::list(font).map(|it| list_text(&it).into()));
+        run.same(&["list", "--full", "IN0"], &[font], t1subset::list_full(font).map(|it| full_text(&it).into()));
         run.same(&["pfa", "IN0", "OUT"], &[font], t1subset::convert(font, Form::Pfa));
         run.same(&["pfb", "IN0", "OUT"], &[font], t1subset::convert(font, Form::Pfb));
         run.same(&["mend", "IN0", "OUT"], &[font], t1subset::mend(font, Form::Pfa));

@@ -5,7 +5,9 @@ mod common;
 
 use common::{example, made, Tiny, EMPTY};
 use std::fmt::Debug;
-use t1subset::{check, convert, extract, fonts, join, level, list, mend, mends, merge, pool, rejoin, show, subset};
+use t1subset::{
+    check, convert, extract, fonts, join, level, list, list_full, mend, mends, merge, pool, rejoin, show, subset,
+};
 use t1subset::{subset_codes, Form, Number, Part, Refused};
 
 /// One byte more than a file may have.
@@ -31,6 +33,7 @@ fn refused_file(font: &[u8], number: Number, text: &str, detail: u64) {
     let pfa = example("tiny.pfa");
     refused(check(font), number, text, detail, Some(0));
     refused(list(font), number, text, detail, Some(0));
+    refused(list_full(font), number, text, detail, Some(0));
     refused(show(font, "nosuch"), number, text, detail, Some(0));
     refused(convert(font, Form::Pfa), number, text, detail, Some(0));
     refused(mend(font, Form::Pfa), number, text, detail, Some(0));

@@ -1,11 +1,11 @@
-//! What `check`, `list`, `show` and `mends` say of Tiny, and names that are no ASCII.
+//! What `check`, `list`, `list_full`, `show` and `mends` say of Tiny, and names that are no ASCII.
 
 mod common;
 
 use common::{example, made, Tiny, EMPTY};
 use std::collections::BTreeMap;
-use t1subset::{check, convert, list, mends, show, subset};
-use t1subset::{Amount, Drawing, DrawnPart, Encoding, Form, Mark, Mend, Name, Picture, Point};
+use t1subset::{check, convert, list, list_full, mends, show, subset};
+use t1subset::{Amount, Drawing, DrawnPart, Encoding, Form, Mark, Mend, Name, Picture, Point, Width};
 
 /// The test whether Tiny was loaded before, and its name.
 const TESTED: &[u8] =
@@ -40,6 +40,40 @@ fn listed() {
     assert_eq!(listed.encoding, Encoding::Codes(BTreeMap::new()));
     let listed = list(&made("Word", &[], &[(b".notdef", EMPTY)])).unwrap();
     assert_eq!((listed.encoding, listed.subrs.len()), (Encoding::Word("StandardEncoding".into()), 0));
+}
+
+#[test]
+fn listed_in_full() {
+    let font = example("tiny.pfa");
+    let full = list_full(&font).unwrap();
+    assert_eq!(full.listed, list(&font).unwrap());
+    let (matrix, bbox) = ("0.001 0 0 0.001 0 0", "0 0 500 700");
+    assert_eq!(
+        (full.name, full.matrix.as_deref(), full.bbox.as_deref()),
+        (Some("Tiny".into()), Some(matrix), Some(bbox))
+    );
+    assert_eq!(full.unique_id, None);
+    let names: Vec<&Name> = full.widths.keys().collect();
+    assert_eq!(names, full.listed.glyphs.keys().collect::<Vec<_>>());
+    for (name, units) in [(".notdef", 250), ("X", 300), ("acute", 300), ("Aacute", 500)] {
+        assert_eq!(full.widths.get(name.as_bytes()), Some(&Width::Drawn(at(units, 0))), "{name}");
+    }
+    for (name, fault) in [("L", "Nesting"), ("N", "NestedSeac")] {
+        assert_eq!(full.widths.get(name.as_bytes()), Some(&Width::Undrawn(fault.into())), "{name}");
+    }
+}
+
+#[test]
+fn values_as_they_are_spelled() {
+    let spelled = |old: &[u8], new: &[u8]| list_full(&Tiny::new().with(old, new).file()).unwrap();
+    let full = spelled(b"/FontMatrix [0.001 0 0 0.001 0 0]", b"/FontMatrix{ 1e-3 0\n0 .001\x800 0}");
+    assert_eq!(full.matrix.as_deref(), Some(r" 1e-3 0 0 .001\x800 0"));
+    assert_eq!(spelled(b"/FontBBox {0 0 500 700}", b"/FontBBox").bbox.as_deref(), Some("def"));
+    assert_eq!(spelled(b"/FontName /Tiny", b"/FontName/T\xe9\\y").name, Some(b"T\xe9\\y"[..].into()));
+    assert_eq!(spelled(b"/FontName /Tiny", b"/FontName /").name, Some("".into()));
+    assert_eq!(spelled(b"/FontName /Tiny", b"/FontNames /Tiny").name, None);
+    let full = spelled(b"/FontName /Tiny", b"/UniqueID 5000793 def\n/FontName /Tiny");
+    assert_eq!(full.unique_id.as_deref(), Some("5000793"));
 }
 
 #[test]

@@ -7,7 +7,7 @@ const { library } = require("../calls.js");
 
 const text = fs.readFileSync(process.env.MODULE || path.join(__dirname, "../module.js"), "latin1");
 const t1 = library(Buffer.from(/"([A-Za-z0-9+/=]{100,})"/.exec(text)[1], "base64"));
-const options = { form: 0, codes: [], text: [], extract: null }, words = [];
+const options = { form: 0, codes: [], text: [], extract: null, full: false }, words = [];
 
 const plain = (data) => Buffer.from(data).toString("latin1");
 const bytes = (word) => new Uint8Array(Buffer.from(word));
@@ -25,6 +25,7 @@ function codesOf(list) {
 function take(given) {
   const takes = {
     "--pfb": () => { options.form = 1; },
+    "--full": () => { options.full = true; },
     "--codes": (value) => { options.codes.push(...codesOf(value())); },
     "--text": (value) => { options.text = [...bytes(value())]; },
     "--extract": (value) => { options.extract = bytes(value()); },
@@ -53,7 +54,7 @@ function run(word, rest) {
   const places = () => plain(t1.fonts(rest.map(file))).replace(/^(\d+):/gm, (_, at) => `${rest[at]}:`);
   const does = {
     check: () => ({ printed: t1.check(file(first)) }),
-    list: () => ({ printed: t1.list(file(first)) }),
+    list: () => ({ printed: options.full ? t1.list_full(file(first)) : t1.list(file(first)) }),
     show: () => ({ printed: t1.show(file(first), bytes(second)) }),
     pfa: () => written(second, t1.convert(file(first), 0)),
     pfb: () => written(second, t1.convert(file(first), 1)),

@@ -17,6 +17,7 @@ ghost use Rattle.std.specs.Prelude.{◌≡◌, ◌∷◌, [], length};
 ghost use Rattle.t1_subset.specs.NameSets.{lent};
 ghost use Rattle.t1_cmd.specs.CheckText.{check_answer};
 ghost use Rattle.t1_cmd.specs.ListText.{list_answer};
+ghost use Rattle.t1_cmd.specs.FullText.{full_answer};
 ghost use Rattle.t1_cmd.specs.DrawingText.{show_answer};
 ghost use Rattle.t1_cmd.specs.Fonts.{font_input, mended_input, file_answer};
 ghost use Rattle.t1_cmd.specs.Mends.{mends_answer};
@@ -40,7 +41,7 @@ use numbers::{BAD_CALL, form_of};
 use std::alloc::Global;
 use t1_cmd::{
     check_file, convert_file, diff_files, extract_file, join_listings, level_files, list_file,
-    list_mends, mend_file, merge_files, rejoin_files, show_file, subset_file,
+    list_file_full, list_mends, mend_file, merge_files, rejoin_files, show_file, subset_file,
     subset_file_with_codes,
 };
 
@@ -58,6 +59,14 @@ pub extern "C" fn t1subset_list(alloc: Global, font: &[u8], answer: &mut Answer)
     ensures { GivesOf list_answer font.now result answer.new }
 {
     give_of(alloc, list_file(alloc, font), answer)
+}
+
+/// Lists what a font has, what its dictionary says, and how wide its glyphs are: the lines of `t1subset list --full`.
+#[unsafe(no_mangle)]
+pub extern "C" fn t1subset_list_full(alloc: Global, font: &[u8], answer: &mut Answer) -> u32
+    ensures { GivesOf full_answer font.now result answer.new }
+{
+    give_of(alloc, list_file_full(alloc, font), answer)
 }
 
 /// Says what a glyph draws: the lines of `t1subset show`.

@@ -4,8 +4,8 @@ mod documents;
 
 use crate::{
     Answer, t1subset_check, t1subset_convert, t1subset_diff, t1subset_join, t1subset_list,
-    t1subset_mend, t1subset_mends, t1subset_merge, t1subset_rejoin, t1subset_show, t1subset_subset,
-    t1subset_subset_codes,
+    t1subset_list_full, t1subset_mend, t1subset_mends, t1subset_merge, t1subset_rejoin,
+    t1subset_show, t1subset_subset, t1subset_subset_codes,
 };
 use std::alloc::Global;
 use std::test::Fail;
@@ -45,6 +45,9 @@ fn texts(rt: HostRuntime) -> Result<(), Fail> {
     let mut a = used();
     let code = t1subset_list(rt.alloc(), PFB, &mut a);
     assert!(rt; begins(code, &a, b"code 65 X\n"));
+    let mut a = used();
+    let code = t1subset_list_full(rt.alloc(), PFB, &mut a);
+    assert!(rt; begins(code, &a, b"code 65 X\n") && a.bytes.ends_with(b"\nwidth acute 300 0\n"));
     let mut a = used();
     let code = t1subset_show(rt.alloc(), PFB, b"X", &mut a);
     assert!(rt; begins(code, &a, b"width 300 0\n"));
@@ -179,6 +182,9 @@ fn refusals_of_a_font(rt: HostRuntime) -> Result<(), Fail> {
     assert!(rt; gave(code, &a, (11, 0, 0, b"no eexec")));
     let mut a = used();
     let code = t1subset_list(rt.alloc(), b"\x80\x01\x02\x00\x00\x00%!\x80\x07", &mut a);
+    assert!(rt; gave(code, &a, (10, 8, 0, b"bad segment at 8")));
+    let mut a = used();
+    let code = t1subset_list_full(rt.alloc(), b"\x80\x01\x02\x00\x00\x00%!\x80\x07", &mut a);
     assert!(rt; gave(code, &a, (10, 8, 0, b"bad segment at 8")));
     let mut a = used();
     let code = t1subset_show(rt.alloc(), PFA, b"Q", &mut a);

@@ -1,2 +1,4 @@
+pub mod NewFonts
 pub mod Joining
 pub mod Outcomes
+pub mod Widths

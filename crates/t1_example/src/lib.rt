@@ -10,13 +10,23 @@
 //!
 //! [`cuts_joined`] does the same for cuts that other programs made.
 //!
+//! The other functions call one crate each, as its page `CALLING.md` shows.
+//!
 //! ```text
 //! let both = cut_and_joined(alloc, file, &[b"A"], &[b"B"], Order::SecondIntoFirst, Form::Pfb)?;
 //! ```
 #![tactic(auto)]
 
 mod cuts;
+mod listings;
+mod merged_files;
+mod new_fonts;
+mod private_texts;
 mod refusal;
+mod spaces;
+mod spellings;
+mod subset_files;
+mod widths;
 
 ghost use Rattle.std.specs.Prelude.{◌≡◌, ◌⊎◌, ℕ, true, None, List, Ok, OnOk, IfOk, IfErr, MatchResult};
 ghost use Rattle.std.specs.FinSet as sets;
@@ -35,10 +45,18 @@ ghost use Rattle.t1_example.specs.Joining.{AreCuts, CanBeCut, IsMemory, union_su
 ghost use Rattle.t1_example.specs.Outcomes.{FileComesTo, FilesMergeTo, LacksFirst, MergeTo, file_of, first_lacking};
 
 pub use cuts::cuts_joined;
+pub use listings::joined_text;
+pub use merged_files::both_files;
+pub use new_fonts::with_font;
+pub use private_texts::sealed_and_opened;
 pub use refusal::Refusal;
+pub use spaces::space;
+pub use spellings::respelled;
 use std::alloc::Global;
+pub use subset_files::subset_file;
 use t1_font::{Font, Form, Source, read, write};
 use t1_subset::{Conflict, merge, subset};
+pub use widths::width;
 
 /// Which of two fonts is the left one of a merge.
 #[derive(Clone, Copy, Debug, PartialEq, Eq)]

@@ -1,5 +1,6 @@
 //! A caller's work with ample memory, and what it refuses.
 
+mod callers;
 mod cuts;
 
 use crate::{Order, Refusal, cut_and_joined};

@@ -1,0 +1,22 @@
+//! A caller of `t1_char`.
+
+ghost use Rattle.std.specs.Prelude.{◌≡◌, ◌∷◌, [], pos, IfOk};
+ghost use Rattle.t1_char.specs.declared.token.Command.TheVariants.{Hsbw, Endchar};
+ghost use Rattle.t1_char.specs.declared.token.Token.TheVariants.{Num, Cmd};
+ghost use Rattle.t1_char.specs.Tokens.{tokens};
+
+use std::alloc::Global;
+use t1_char::{CharFault, Command, Token, write};
+
+/// The charstring of a glyph that draws nothing and has this width, in charstring units.
+pub fn space(alloc: Global, width: i32) -> Result<Vec<u8>, CharFault>
+    ensures { IfOk result (λ v. tokens v.items ≡ Num (pos 0) ∷ Num width ∷ Cmd Hsbw ∷ Cmd Endchar ∷ []) }
+{
+    let space = [
+        Token::Num(0),
+        Token::Num(width),
+        Token::Cmd(Command::Hsbw),
+        Token::Cmd(Command::Endchar),
+    ];
+    write(alloc, &space)
+}
