@@ -27,3 +27,6 @@ pub mod Again
 pub mod Together
 pub mod Exchanges
 pub mod AnyOrder
+pub mod AliasLines
+pub mod FamilyLoops
+pub mod Aliased
