@@ -198,7 +198,7 @@ pooled_have new (p ∷ ps) h name text e = by_test (bytes_eq p.name name) refl (
     by_test true k more = ((h.0 text (ap new ((bytes_eq-Decides p.name name).0 k) ∙ e)).0, more)
     by_test false k more = more
 
-pooled_by_fewer : (new fewer : NewTexts) → ((name text : List ℕ) → fewer name ≡ Some text → new name ≡ Some text) → (ps : List Place) → ArePooled new ps →
+pub pooled_by_fewer : (new fewer : NewTexts) → ((name text : List ℕ) → fewer name ≡ Some text → new name ≡ Some text) → (ps : List Place) → ArePooled new ps →
     ArePooled fewer ps
 pooled_by_fewer new fewer inside [] h = tt
 pooled_by_fewer new fewer inside (p ∷ ps) h = (λ text e. h.0 text (inside p.name text e), pooled_by_fewer new fewer inside ps h.1)

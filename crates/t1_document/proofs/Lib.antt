@@ -30,3 +30,5 @@ pub mod AnyOrder
 pub mod AliasLines
 pub mod FamilyLoops
 pub mod Aliased
+pub mod LeftPlaces
+pub mod AliasedAgain

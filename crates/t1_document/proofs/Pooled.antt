@@ -39,7 +39,7 @@ pub not_named : (name : List ℕ) (p : Place) (ps : List Place) → bytes_eq nam
 not_named name p ps e h = rw e h
 
 -- two names of which one has a text and the other has none differ
-other_text : (new : NewTexts) (name other text : List ℕ) → new name ≡ Some text → new other ≡ None → bytes_eq name other ≡ false
+pub other_text : (new : NewTexts) (name other text : List ℕ) → new name ≡ Some text → new other ≡ None → bytes_eq name other ≡ false
 other_text new name other text e h = elim (cases_Bool (bytes_eq name other)) [
   | inl same ↦ absurd (none-some text (sym h ∙ (ap new (sym ((bytes_eq-Decides name other).0 same)) ∙ e)))
   | inr apart ↦ apart

@@ -1,0 +1,732 @@
+-- The places that are left where the families of a document have one font each: they have the leaders that they had.
+use Rattle.std.proofs.Common.{◌≡◌, ℕ, Bool, true, false, cond, refl, sym, ◌∙◌, ap, subst, ◌⊎◌, List, [], ◌∷◌, ◌++◌, map, inl, inr, Option, Some, None}
+use Rattle.std.specs.Prelude.{◌&&◌, ◌||◌, ◌==◌, not}
+use Rattle.std.specs.List.{AllByRecursion, list_any}
+use Rattle.std.specs.Option.{option_and_then, option_map}
+use Rattle.std.specs.Str.{bytes_eq}
+use Rattle.std.proofs.lemmas.Bool.{cases_Bool, and_parts, or_parts, cond-true, cond-false, true≢false}
+use Rattle.std.proofs.lemmas.Option.{none-some, same_Some}
+use Rattle.std.proofs.lemmas.Slice.Eq.{bytes_eq-Decides}
+use Rattle.t1_document.specs.Documents.{Place, Document, behind_bytes, prepended}
+use Rattle.t1_document.specs.Rewriting.{NewTexts, is_seen, Stays, Becomes, Gives, at_fate, fated, lacks_name, ArePooled}
+use Rattle.t1_document.specs.Joins.{places_under}
+use Rattle.t1_document.specs.Families.{family, first_place, first_text, is_text, differs, has_other, has_several, can_lead, leader_by, leader_in, if_leads, led_by, Led, names_behind, led_from, led, with_member, members_of, members, aliased, alias_line, fate_under, fate_led, led_fate}
+use Rattle.t1_document.proofs.WriteLoop.{same_test}
+use Rattle.t1_document.proofs.Rewritten.{same_bytes}
+use Rattle.t1_document.proofs.Pooled.{bare, other_text, not_named, not_lacked}
+use Rattle.t1_document.proofs.Again.{HaveText}
+use Rattle.t1_document.proofs.Aliased.{led_is}
+
+-- ---- places of a name
+
+-- a place of another name is left out
+skipped : (name : List ℕ) (p : Place) (ps : List Place) → bytes_eq p.name name ≡ false → places_under name (p ∷ ps) ≡ places_under name ps
+skipped name p ps e = cond-false (bytes_eq p.name name) (p ∷ places_under name ps) (places_under name ps) e
+
+one_under : (name : List ℕ) (p : Place) (ps : List Place) → map bare (places_under name (p ∷ ps))
+    ≡ cond (bytes_eq (bare p).name name) (bare p ∷ map bare (places_under name ps)) (map bare (places_under name ps))
+one_under name p ps = by_test (bytes_eq p.name name)
+  where
+    by_test : (b : Bool) → map bare (cond b (p ∷ places_under name ps) (places_under name ps))
+        ≡ cond b (bare p ∷ map bare (places_under name ps)) (map bare (places_under name ps))
+    by_test true = refl
+    by_test false = refl
+
+-- a place more, of either list
+both_under : (name : List ℕ) (q p : Place) (qs ps : List Place) → bare q ≡ bare p → map bare (places_under name qs) ≡ map bare (places_under name ps) →
+    map bare (places_under name (q ∷ qs)) ≡ map bare (places_under name (p ∷ ps))
+both_under name q p qs ps e h =
+    one_under name q qs
+    ∙ (ap (λ (r : Place). cond (bytes_eq r.name name) (r ∷ map bare (places_under name qs)) (map bare (places_under name qs))) e
+    ∙ (ap (λ (rs : List Place). cond (bytes_eq p.name name) (bare p ∷ rs) rs) h ∙ sym (one_under name p ps)))
+
+-- a place more of one text
+text_under : (text name : List ℕ) (q : Place) (qs : List Place) → (bytes_eq q.name name ≡ true → q.text ≡ text) → HaveText text (places_under name qs) →
+    HaveText text (places_under name (q ∷ qs))
+text_under text name q qs h more = by_test (bytes_eq q.name name) refl
+  where
+    by_test : (b : Bool) → bytes_eq q.name name ≡ b → HaveText text (cond b (q ∷ places_under name qs) (places_under name qs))
+    by_test true e = (h e, more)
+    by_test false e = more
+
+-- the text of the first of these, and of the others
+text_over : (text name : List ℕ) (q : Place) (qs : List Place) → HaveText text (places_under name (q ∷ qs)) →
+    (bytes_eq q.name name ≡ true → q.text ≡ text) × HaveText text (places_under name qs)
+text_over text name q qs h = by_test (bytes_eq q.name name) refl h
+  where
+    by_test : (b : Bool) → bytes_eq q.name name ≡ b → HaveText text (cond b (q ∷ places_under name qs) (places_under name qs)) →
+        (bytes_eq q.name name ≡ true → q.text ≡ text) × HaveText text (places_under name qs)
+    by_test true e k = ((λ f. k.0), k.1)
+    by_test false e k = ((λ f. absurd (true≢false (sym f ∙ e))), k)
+
+-- places that are the same but for the bytes before them have the same text
+text_bare : (text : List ℕ) (ps qs : List Place) → map bare ps ≡ map bare qs → HaveText text qs → HaveText text ps
+text_bare text ps qs e h = from_bare ps (subst (λ (rs : List Place). HaveText text rs) (sym e) (to_bare qs h))
+  where
+    to_bare : (rs : List Place) → HaveText text rs → HaveText text (map bare rs)
+    to_bare [] k = tt
+    to_bare (r ∷ rs) k = (k.0, to_bare rs k.1)
+
+    from_bare : (rs : List Place) → HaveText text (map bare rs) → HaveText text rs
+    from_bare [] k = tt
+    from_bare (r ∷ rs) k = (k.0, from_bare rs k.1)
+
+-- ---- settled names
+
+-- where no place of a name has another text than the first, all have one text
+pub settled_have : (ps : List Place) (name : List ℕ) → has_several ps name ≡ false → (text : List ℕ) × HaveText text (places_under name ps)
+settled_have ps name h = by_first (first_text ps name) refl
+  where
+    module _ (text : List ℕ) (right : (p : Place) → bytes_eq p.name name ≡ true → differs (first_text ps) p ≡ false → p.text ≡ text) where
+      all_have : (rest : List Place) → has_other (first_text ps) rest name ≡ false → HaveText text (places_under name rest)
+      all_have [] k = tt
+      all_have (p ∷ rest) k =
+          let parts = or_parts (bytes_eq name p.name && differs (first_text ps) p) (has_other (first_text ps) rest name) k in
+          text_under text name p rest
+          (λ same. right p same (ap (λ (b : Bool). b && differs (first_text ps) p) (sym (same_test name p.name ∙ same)) ∙ parts.0))
+          (all_have rest parts.1)
+
+    not_so : (b : Bool) → not b ≡ false → b ≡ true
+    not_so true k = refl
+    not_so false k = absurd (true≢false k)
+
+    by_first : (o : Option (List ℕ)) → first_text ps name ≡ o → (text : List ℕ) × HaveText text (places_under name ps)
+    by_first None e = ([], all_have [] (λ p same k.
+        absurd (true≢false (sym (ap (λ (o : Option (List ℕ)). not (is_text o p.text)) (ap (first_text ps) ((bytes_eq-Decides p.name name).0 same) ∙ e)) ∙ k)))
+        ps h)
+    by_first (Some text) e = (text, all_have text (λ p same k.
+        let first : first_text ps p.name ≡ Some text = ap (first_text ps) ((bytes_eq-Decides p.name name).0 same) ∙ e in
+        sym ((bytes_eq-Decides text p.text).0 (ap (λ (o : Option (List ℕ)). is_text o p.text) (sym first) ∙ not_so (is_text (first_text ps p.name) p.text) k)))
+        ps h)
+
+-- no place of these has the name
+abbrev NoneNamed : List ℕ → List Place → Type 0
+NoneNamed name ps = AllByRecursion (λ p. bytes_eq p.name name ≡ false) ps
+
+-- the first text of places of one text is that, or there are none
+first_had : (text name : List ℕ) (ps : List Place) → HaveText text (places_under name ps) → (first_text ps name ≡ Some text) ⊎ NoneNamed name ps
+first_had text name [] h = inr tt
+first_had text name (q ∷ qs) h = by_test (bytes_eq q.name name) refl (text_over text name q qs h) (first_had text name qs (text_over text name q qs h).1)
+  where
+    by_test : (b : Bool) → bytes_eq q.name name ≡ b → (bytes_eq q.name name ≡ true → q.text ≡ text) × HaveText text (places_under name qs) →
+        (first_text qs name ≡ Some text) ⊎ NoneNamed name qs →
+        (option_map (λ p. p.text) (cond b (Some q) (first_place (λ p. bytes_eq p.name name) qs)) ≡ Some text) ⊎ NoneNamed name (q ∷ qs)
+    by_test true e over rest = inl (ap (λ (t : List ℕ). Some t) (over.0 e))
+    by_test false e over (inl f) = inl f
+    by_test false e over (inr f) = inr (e, f)
+
+-- where all have one text, none has another
+pub have_settled : (text name : List ℕ) (ps : List Place) → HaveText text (places_under name ps) → has_several ps name ≡ false
+have_settled text name ps h = elim (first_had text name ps h) [
+  | inl e ↦ by_first e ps h
+  | inr none ↦ by_none ps none
+]
+  where
+    -- a place of another name has no other text of this one
+    other_name : (q : Place) → bytes_eq q.name name ≡ false → (bytes_eq name q.name && differs (first_text ps) q) ≡ false
+    other_name q e = ap (λ (b : Bool). b && differs (first_text ps) q) (same_test name q.name ∙ e)
+
+    by_none : (rest : List Place) → NoneNamed name rest → has_other (first_text ps) rest name ≡ false
+    by_none [] k = refl
+    by_none (q ∷ rest) k = ap (λ (b : Bool). b || has_other (first_text ps) rest name) (other_name q k.0) ∙ by_none rest k.1
+
+    by_first : first_text ps name ≡ Some text → (rest : List Place) → HaveText text (places_under name rest) →
+        has_other (first_text ps) rest name ≡ false
+    by_first e [] k = refl
+    by_first e (q ∷ rest) k =
+        let over = text_over text name q rest k in
+        ap (λ (b : Bool). b || has_other (first_text ps) rest name) (elim (cases_Bool (bytes_eq q.name name)) [
+          | inl same ↦
+              let first : first_text ps q.name ≡ Some text = ap (first_text ps) ((bytes_eq-Decides q.name name).0 same) ∙ e in
+              ap (λ (b : Bool). b && differs (first_text ps) q) (same_test name q.name ∙ same)
+              ∙ (ap (λ (o : Option (List ℕ)). not (is_text o q.text)) first
+              ∙ ap not ((bytes_eq-Decides text q.text).1 (sym (over.0 same))))
+          | inr apart ↦ other_name q apart
+        ])
+        ∙ by_first e rest over.1
+
+-- ---- what is left
+
+-- What is left of a place with its leader before others: the place, if its leader gets no new text; the place with the new text, if it is one of the leader;
+-- else nothing.
+pub data LeftOf (new : NewTexts) (x : Led) (qs : List Place) (Others : List Place → Type 0) : Type 0 where
+  stays : (q : Place) (rest : List Place) → qs ≡ q ∷ rest → bare q ≡ bare x.place → ((l : List ℕ) → x.leader ≡ Some l → new l ≡ None) → Others rest →
+      LeftOf new x qs Others
+  becomes : (q : Place) (rest : List Place) (text : List ℕ) → qs ≡ q ∷ rest → bare q ≡ bare (record x.place { text = text }) →
+      x.leader ≡ Some x.place.name → new x.place.name ≡ Some text → Others rest → LeftOf new x qs Others
+  gives : (l text : List ℕ) → x.leader ≡ Some l → new l ≡ Some text → bytes_eq x.place.name l ≡ false → Others qs → LeftOf new x qs Others
+
+-- these are left of places with their leaders
+abbrev pub Left : NewTexts → List Led → List Place → Type 0
+Left new [] qs = qs ≡ []
+Left new (x ∷ xs) qs = LeftOf new x qs (Left new xs)
+
+first_of_same : (q p : Place) (qs rest : List Place) → q ∷ qs ≡ p ∷ rest → q ≡ p
+first_of_same q p qs rest e = cc
+
+rest_of_same : (q p : Place) (qs rest : List Place) → q ∷ qs ≡ p ∷ rest → qs ≡ rest
+rest_of_same q p qs rest e = cc
+
+-- with other bytes before them
+left_behind : (new : NewTexts) (xs : List Led) (b : List ℕ) (qs : List Place) (last : List ℕ) → Left new xs qs → Left new xs (behind_bytes b qs last).places
+left_behind new xs b [] last h = h
+left_behind new [] b (q ∷ qs) last h = absurd cc
+left_behind new (x ∷ xs) b (q ∷ qs) last (stays p rest e same unled others) =
+    stays (record q { before = b ++ q.before }) qs refl (ap bare (first_of_same q p qs rest e) ∙ same) unled (subst (Left new xs) (sym (rest_of_same q p qs rest e)) others)
+left_behind new (x ∷ xs) b (q ∷ qs) last (becomes p rest text e same leads n others) =
+    becomes (record q { before = b ++ q.before }) qs text refl (ap bare (first_of_same q p qs rest e) ∙ same) leads n (subst (Left new xs) (sym (rest_of_same q p qs rest e)) others)
+left_behind new (x ∷ xs) b (q ∷ qs) last (gives l text leads n apart others) = gives l text leads n apart (left_behind new xs b (q ∷ qs) last others)
+
+-- the places of the document that is written are these
+pub left_of : (new : NewTexts) (xs : List Led) (last : List ℕ) → Left new xs (fated (map (led_fate new) xs) last).places
+unfolding fated
+left_of new [] last = refl
+left_of new (x ∷ xs) last = by_leader x.leader refl (left_of new xs last)
+  where
+    d : Document
+    d = fated (map (led_fate new) xs) last
+
+    by_name : (l text : List ℕ) → x.leader ≡ Some l → new l ≡ Some text → (b : Bool) → bytes_eq x.place.name l ≡ b → Left new xs d.places →
+        Left new (x ∷ xs) (at_fate (cond b (Becomes text) (Gives (alias_line x.place.name l))) x.place d).places
+    by_name l text e f true k others =
+        let same : x.place.name ≡ l = (bytes_eq-Decides x.place.name l).0 k in
+        becomes (record x.place { text = text }) d.places text refl refl (e ∙ ap (λ (n : List ℕ). Some n) (sym same)) (ap new same ∙ f) others
+    by_name l text e f false k others =
+        gives l text e f k (left_behind new xs (x.place.before ++ alias_line x.place.name l) d.places d.last others)
+
+    by_new : (l : List ℕ) → x.leader ≡ Some l → (o : Option (List ℕ)) → new l ≡ o → Left new xs d.places →
+        Left new (x ∷ xs) (at_fate (fate_under x.place.name l o) x.place d).places
+    by_new l e None f others =
+        stays x.place d.places refl refl (λ m k. ap new (sym (same_Some l m (sym e ∙ k))) ∙ f) others
+    by_new l e (Some text) f others = by_name l text e f (bytes_eq x.place.name l) refl others
+
+    by_leader : (o : Option (List ℕ)) → x.leader ≡ o → Left new xs d.places → Left new (x ∷ xs) (at_fate (fate_led new x.place.name o) x.place d).places
+    by_leader None e others = stays x.place d.places refl refl (λ m k. absurd (none-some m (sym e ∙ k))) others
+    by_leader (Some l) e others = by_new l e (new l) refl others
+
+-- ---- leaders of places
+
+-- who leads a place of a name whose places have one text
+led_settled : (several : List ℕ → Bool) (leader : List ℕ → Option (List ℕ)) (was_seen : List ℕ → Bool) (name l : List ℕ) →
+    led_by several leader was_seen name ≡ Some l → several name ≡ false
+led_settled several leader was_seen name l e = by_several (several name) e
+  where
+    by_several : (b : Bool) → cond b None (option_and_then (if_leads was_seen name) (leader (family name))) ≡ Some l → b ≡ false
+    by_several true k = absurd (none-some l k)
+    by_several false k = refl
+
+-- a leader leads its own places
+leads_own : (several : List ℕ → Bool) (leader : List ℕ → Option (List ℕ)) (was_seen : List ℕ → Bool) (name : List ℕ) →
+    several name ≡ false → leader (family name) ≡ Some name → led_by several leader was_seen name ≡ Some name
+leads_own several leader was_seen name s e =
+    ap (λ (b : Bool). cond b None (option_and_then (if_leads was_seen name) (leader (family name)))) s
+    ∙ (ap (option_and_then (if_leads was_seen name)) e
+    ∙ ap (λ (b : Bool). cond (b || was_seen name) (Some name) None) (same_bytes name))
+
+module _ (all : List Place) (new : NewTexts) where
+  abbrev several : List ℕ → Bool
+  several = has_several all
+
+  abbrev leader : List ℕ → Option (List ℕ)
+  leader = leader_in all
+
+  -- what is left of places behind these names
+  abbrev pub LeftFrom : List (List ℕ) → List Place → List Place → Type 0
+  LeftFrom seen ps qs = Left new (led_from several leader seen ps) qs
+
+  -- the next place with its leader
+  abbrev next_led : List (List ℕ) → Place → Led
+  next_led seen p = record { place = p; leader = led_by several leader (is_seen seen) p.name }
+
+  -- what is left of the next place, and of others
+  left_next : (seen : List (List ℕ)) (p : Place) (ps qs : List Place) → LeftFrom seen (p ∷ ps) qs →
+      LeftOf new (next_led seen p) qs (LeftFrom (names_behind p seen) ps)
+  unfolding led_from
+  left_next seen p ps qs h = h
+
+  left_none : (seen : List (List ℕ)) (qs : List Place) → LeftFrom seen [] qs → qs ≡ []
+  unfolding led_from
+  left_none seen qs h = h
+
+  -- ---- names with several texts
+
+  -- a name that takes part is none of these
+  apart_from : (name other : List ℕ) → several name ≡ true → several other ≡ false → bytes_eq other name ≡ false
+  apart_from name other s t = elim (cases_Bool (bytes_eq other name)) [
+    | inl same ↦ absurd (true≢false (sym s ∙ (ap several (sym ((bytes_eq-Decides other name).0 same)) ∙ t)))
+    | inr apart ↦ apart
+  ]
+
+  -- their places are left
+  several_left : (name : List ℕ) → several name ≡ true → (seen : List (List ℕ)) (ps qs : List Place) → LeftFrom seen ps qs →
+      map bare (places_under name qs) ≡ map bare (places_under name ps)
+  several_left name s seen [] qs h = ap (λ (rs : List Place). map bare (places_under name rs)) (left_none seen qs h)
+  several_left name s seen (p ∷ ps) qs h = by_step (left_next seen p ps qs h) (λ rs k. several_left name s (names_behind p seen) ps rs k)
+    where
+      out : several p.name ≡ false → map bare (places_under name ps) ≡ map bare (places_under name (p ∷ ps))
+      out t = ap (map bare) (sym (skipped name p ps (apart_from name p.name s t)))
+
+      by_step : LeftOf new (next_led seen p) qs (LeftFrom (names_behind p seen) ps) →
+          ((rs : List Place) → LeftFrom (names_behind p seen) ps rs → map bare (places_under name rs) ≡ map bare (places_under name ps)) →
+          map bare (places_under name qs) ≡ map bare (places_under name (p ∷ ps))
+      by_step (stays q rest e same unled others) more =
+          ap (λ (rs : List Place). map bare (places_under name rs)) e ∙ both_under name q p rest ps same (more rest others)
+      by_step (becomes q rest text e same leads n others) more =
+          let t = led_settled several leader (is_seen seen) p.name p.name leads in
+          let apart : bytes_eq q.name name ≡ false = ap (λ (r : Place). bytes_eq r.name name) same ∙ apart_from name p.name s t in
+          ap (λ (rs : List Place). map bare (places_under name rs)) e ∙ (ap (map bare) (skipped name q rest apart) ∙ (more rest others ∙ out t))
+      by_step (gives l text leads n apart others) more = more qs others ∙ out (led_settled several leader (is_seen seen) p.name l leads)
+
+  -- ---- names with one text
+
+  module _ (name : List ℕ) (s : several name ≡ false) where
+    -- one that is a leader with a new text has that
+    lead_left : (new_text : List ℕ) → leader (family name) ≡ Some name → new name ≡ Some new_text → (seen : List (List ℕ)) (ps qs : List Place) →
+        LeftFrom seen ps qs → HaveText new_text (places_under name qs)
+    lead_left new_text e f seen [] qs h = subst (λ (rs : List Place). HaveText new_text (places_under name rs)) (sym (left_none seen qs h)) tt
+    lead_left new_text e f seen (p ∷ ps) qs h = by_step (left_next seen p ps qs h) (λ rs k. lead_left new_text e f (names_behind p seen) ps rs k)
+      where
+        by_step : LeftOf new (next_led seen p) qs (LeftFrom (names_behind p seen) ps) →
+            ((rs : List Place) → LeftFrom (names_behind p seen) ps rs → HaveText new_text (places_under name rs)) → HaveText new_text (places_under name qs)
+        by_step (stays q rest k same unled others) more =
+            subst (λ (rs : List Place). HaveText new_text (places_under name rs)) (sym k)
+            (text_under new_text name q rest
+            (λ own.
+            let is : p.name ≡ name = (bytes_eq-Decides p.name name).0 (sym (ap (λ (r : Place). bytes_eq r.name name) same) ∙ own) in
+            let led : led_by several leader (is_seen seen) p.name ≡ Some name =
+            ap (led_by several leader (is_seen seen)) is ∙ leads_own several leader (is_seen seen) name s e in
+            absurd (none-some new_text (sym (unled name led) ∙ f)))
+            (more rest others))
+        by_step (becomes q rest text k same leads n others) more =
+            subst (λ (rs : List Place). HaveText new_text (places_under name rs)) (sym k)
+            (text_under new_text name q rest
+            (λ own.
+            let is : p.name ≡ name = (bytes_eq-Decides p.name name).0 (sym (ap (λ (r : Place). bytes_eq r.name name) same) ∙ own) in
+            ap (λ (r : Place). r.text) same ∙ same_Some text new_text (sym n ∙ (ap new is ∙ f)))
+            (more rest others))
+        by_step (gives l text leads n apart others) more = more qs others
+
+    -- another has the text that it had
+    other_left : (own_text : List ℕ) → ((text : List ℕ) → leader (family name) ≡ Some name → new name ≡ Some text → ⊥) →
+        (seen : List (List ℕ)) (ps qs : List Place) → HaveText own_text (places_under name ps) → LeftFrom seen ps qs → HaveText own_text (places_under name qs)
+    other_left own_text never seen [] qs had h = subst (λ (rs : List Place). HaveText own_text (places_under name rs)) (sym (left_none seen qs h)) tt
+    other_left own_text never seen (p ∷ ps) qs had h =
+        by_step (left_next seen p ps qs h) (λ rs k. other_left own_text never (names_behind p seen) ps rs (text_over own_text name p ps had).1 k)
+      where
+        by_step : LeftOf new (next_led seen p) qs (LeftFrom (names_behind p seen) ps) →
+            ((rs : List Place) → LeftFrom (names_behind p seen) ps rs → HaveText own_text (places_under name rs)) → HaveText own_text (places_under name qs)
+        by_step (stays q rest k same unled others) more =
+            subst (λ (rs : List Place). HaveText own_text (places_under name rs)) (sym k)
+            (text_under own_text name q rest
+            (λ own. ap (λ (r : Place). r.text) same
+            ∙ (text_over own_text name p ps had).0 (sym (ap (λ (r : Place). bytes_eq r.name name) same) ∙ own))
+            (more rest others))
+        by_step (becomes q rest text k same leads n others) more =
+            subst (λ (rs : List Place). HaveText own_text (places_under name rs)) (sym k)
+            (text_under own_text name q rest
+            (λ own.
+            let is : p.name ≡ name = (bytes_eq-Decides p.name name).0 (sym (ap (λ (r : Place). bytes_eq r.name name) same) ∙ own) in
+            absurd (never text (subst (λ (m : List ℕ). leader (family m) ≡ Some m) is (led_is several leader (is_seen seen) p.name p.name leads))
+            (ap new (sym is) ∙ n)))
+            (more rest others))
+        by_step (gives l text leads n apart others) more = more qs others
+
+    -- so those of one text have one text
+    settled_left : (own_text : List ℕ) (seen : List (List ℕ)) (ps qs : List Place) → HaveText own_text (places_under name ps) → LeftFrom seen ps qs →
+        (text : List ℕ) × HaveText text (places_under name qs)
+    settled_left own_text seen ps qs had h = by_leader (leader (family name)) refl
+      where
+        no_leader : ((text : List ℕ) → leader (family name) ≡ Some name → new name ≡ Some text → ⊥) → (text : List ℕ) × HaveText text (places_under name qs)
+        no_leader never = (own_text, other_left own_text never seen ps qs had h)
+
+        by_new : leader (family name) ≡ Some name → (o : Option (List ℕ)) → new name ≡ o → (text : List ℕ) × HaveText text (places_under name qs)
+        by_new e None f = no_leader (λ text k n. none-some text (sym f ∙ n))
+        by_new e (Some text) f = (text, lead_left text e f seen ps qs h)
+
+        by_leader : (o : Option (List ℕ)) → leader (family name) ≡ o → (text : List ℕ) × HaveText text (places_under name qs)
+        by_leader None e = no_leader (λ text k n. none-some name (sym e ∙ k))
+        by_leader (Some l) e = elim (cases_Bool (bytes_eq l name)) [
+          | inl same ↦ by_new (e ∙ ap (λ (m : List ℕ). Some m) ((bytes_eq-Decides l name).0 same)) (new name) refl
+          | inr apart ↦ no_leader (λ text k n.
+              absurd (true≢false (sym ((bytes_eq-Decides l name).1 (same_Some l name (sym e ∙ k))) ∙ apart)))
+        ]
+
+  -- ---- all of them
+
+  module _ (qs : List Place) (left : LeftFrom [] all qs) where
+    -- the same names have several texts
+    pub several_same : (name : List ℕ) → has_several qs name ≡ several name
+    several_same name = elim (cases_Bool (several name)) [
+      | inl s ↦
+          let same : map bare (places_under name all) ≡ map bare (places_under name qs) = sym (several_left name s [] all qs left) in
+          elim (cases_Bool (has_several qs name)) [
+            | inl t ↦ t ∙ sym s
+            | inr t ↦
+                let have = settled_have qs name t in
+                absurd (true≢false (sym s ∙ have_settled have.0 name all (text_bare have.0 (places_under name all) (places_under name qs) same have.1)))
+          ]
+      | inr s ↦
+          let had = settled_have all name s in
+          let have = settled_left name s had.0 [] all qs had.1 left in
+          have_settled have.0 name qs have.1 ∙ sym s
+    ]
+
+    -- a place that can lead a family is in the family
+    is_member : (members : List ℕ) (p : Place) → can_lead several members p ≡ true → family p.name ≡ members
+    is_member members p e =
+        (bytes_eq-Decides (family p.name) members).0 (and_parts ((p.depth == 0) && not (several p.name)) (bytes_eq (family p.name) members) e).1
+
+    -- the leaders of a family are the same among those that are left
+    leaders_left : (members : List ℕ) (seen : List (List ℕ)) (ps rs : List Place) → LeftFrom seen ps rs → leader_by several ps members ≡ leader members →
+        leader_by several rs members ≡ leader_by several ps members
+    leaders_left members seen [] rs h g = ap (λ (ts : List Place). leader_by several ts members) (left_none seen rs h)
+    leaders_left members seen (p ∷ ps) rs h g =
+        by_test (can_lead several members p) refl (left_next seen p ps rs h) (λ ts k f. leaders_left members (names_behind p seen) ps ts k f)
+      where
+        found : Bool → Place → List Place → Option (List ℕ)
+        found b q ts = option_map (λ r. r.name) (cond b (Some q) (first_place (can_lead several members) ts))
+
+        here : (q : Place) (ts : List Place) → bare q ≡ bare p ⊎ ((t : List ℕ) × (bare q ≡ bare (record p { text = t }))) →
+            can_lead several members q ≡ can_lead several members p
+        here q ts (inl e) = ap (can_lead several members) e
+        here q ts (inr e) = ap (can_lead several members) e.1
+
+        by_test : (b : Bool) → can_lead several members p ≡ b → LeftOf new (next_led seen p) rs (LeftFrom (names_behind p seen) ps) →
+            ((ts : List Place) → LeftFrom (names_behind p seen) ps ts → leader_by several ps members ≡ leader members →
+            leader_by several ts members ≡ leader_by several ps members) → leader_by several rs members ≡ leader_by several (p ∷ ps) members
+        by_test true e (stays q rest k same unled others) more =
+            ap (λ (ts : List Place). leader_by several ts members) k
+            ∙ (ap (λ (b : Bool). found b q rest) (ap (can_lead several members) same ∙ e)
+            ∙ (ap (λ (r : Place). Some r.name) same ∙ ap (λ (b : Bool). found b p ps) (sym e)))
+        by_test true e (becomes q rest text k same leads n others) more =
+            ap (λ (ts : List Place). leader_by several ts members) k
+            ∙ (ap (λ (b : Bool). found b q rest) (ap (can_lead several members) same ∙ e)
+            ∙ (ap (λ (r : Place). Some r.name) same ∙ ap (λ (b : Bool). found b p ps) (sym e)))
+        by_test true e (gives l text leads n apart others) more =
+            let own : Some p.name ≡ leader members = ap (λ (b : Bool). found b p ps) (sym e) ∙ g in
+            let its : leader (family p.name) ≡ Some l = led_is several leader (is_seen seen) p.name l leads in
+            let same : p.name ≡ l = same_Some p.name l (own ∙ (ap leader (sym (is_member members p e)) ∙ its)) in
+            absurd (true≢false (sym ((bytes_eq-Decides p.name l).1 same) ∙ apart))
+        by_test false e (stays q rest k same unled others) more =
+            let f : leader_by several ps members ≡ leader members = ap (λ (b : Bool). found b p ps) (sym e) ∙ g in
+            ap (λ (ts : List Place). leader_by several ts members) k
+            ∙ (ap (λ (b : Bool). found b q rest) (ap (can_lead several members) same ∙ e)
+            ∙ (more rest others f ∙ ap (λ (b : Bool). found b p ps) (sym e)))
+        by_test false e (becomes q rest text k same leads n others) more =
+            let f : leader_by several ps members ≡ leader members = ap (λ (b : Bool). found b p ps) (sym e) ∙ g in
+            ap (λ (ts : List Place). leader_by several ts members) k
+            ∙ (ap (λ (b : Bool). found b q rest) (ap (can_lead several members) same ∙ e)
+            ∙ (more rest others f ∙ ap (λ (b : Bool). found b p ps) (sym e)))
+        by_test false e (gives l text leads n apart others) more =
+            let f : leader_by several ps members ≡ leader members = ap (λ (b : Bool). found b p ps) (sym e) ∙ g in
+            more rs others f ∙ ap (λ (b : Bool). found b p ps) (sym e)
+
+    pub leaders_same : (members : List ℕ) → leader_in qs members ≡ leader members
+    leaders_same members =
+        ap (λ (s : List ℕ → Bool). leader_by s qs members) (λ i name. several_same name i)
+        ∙ leaders_left members [] all qs left refl
+
+    -- ---- with their leaders
+
+    -- the same leaders were seen
+    abbrev SeenAlike : List (List ℕ) → List (List ℕ) → Type 0
+    SeenAlike seen other = (l : List ℕ) → leader (family l) ≡ Some l → is_seen other l ≡ is_seen seen l
+
+    -- a leader leads its own family
+    leads_family : (members l : List ℕ) → leader members ≡ Some l → leader (family l) ≡ Some l
+    leads_family members l e = by_place (first_place (can_lead several members) all) refl e
+      where
+        passes : (ps : List Place) (p : Place) → first_place (can_lead several members) ps ≡ Some p → can_lead several members p ≡ true
+        passes [] p k = absurd (none-some p k)
+        passes (q ∷ ps) p k = by_test (can_lead several members q) refl k
+          where
+            by_test : (b : Bool) → can_lead several members q ≡ b → cond b (Some q) (first_place (can_lead several members) ps) ≡ Some p →
+                can_lead several members p ≡ true
+            by_test true f m = subst (λ (r : Place). can_lead several members r ≡ true) (same_Some q p m) f
+            by_test false f m = passes ps p m
+
+        by_place : (o : Option Place) → first_place (can_lead several members) all ≡ o → option_map (λ p. p.name) o ≡ Some l → leader (family l) ≡ Some l
+        by_place None f k = absurd (none-some l k)
+        by_place (Some p) f k =
+            let name : p.name ≡ l = same_Some p.name l k in
+            ap (λ (n : List ℕ). leader (family n)) (sym name) ∙ (ap leader (is_member members p (passes all p f)) ∙ e)
+
+    -- so places of the same name are led alike
+    led_alike : (seen other : List (List ℕ)) → SeenAlike seen other → (name : List ℕ) →
+        led_by several leader (is_seen other) name ≡ led_by several leader (is_seen seen) name
+    led_alike seen other alike name =
+        ap (λ (o : Option (List ℕ)). cond (several name) None o) (by_leader (leader (family name)) refl)
+      where
+        by_leader : (o : Option (List ℕ)) → leader (family name) ≡ o →
+            option_and_then (if_leads (is_seen other) name) o ≡ option_and_then (if_leads (is_seen seen) name) o
+        by_leader None e = refl
+        by_leader (Some l) e = ap (λ (b : Bool). cond (bytes_eq name l || b) (Some l) None) (alike l (leads_family (family name) l e))
+
+    -- behind a place that is left
+    alike_behind : (seen other : List (List ℕ)) (q p : Place) → bare q ≡ bare p ⊎ ((t : List ℕ) × (bare q ≡ bare (record p { text = t }))) →
+        SeenAlike seen other → SeenAlike (names_behind p seen) (names_behind q other)
+    alike_behind seen other q p same alike l e = by_same same
+      where
+        one : (n : List ℕ) (b : Bool) → is_seen (cond b (n ∷ other) other) l ≡ is_seen (cond b (n ∷ seen) seen) l
+        one n true = ap (λ (b : Bool). bytes_eq l n || b) (alike l e)
+        one n false = alike l e
+
+        by_same : bare q ≡ bare p ⊎ ((t : List ℕ) × (bare q ≡ bare (record p { text = t }))) → is_seen (names_behind q other) l ≡ is_seen (names_behind p seen) l
+        by_same (inl k) = ap (λ (r : Place). is_seen (names_behind r other) l) k ∙ one p.name (p.depth == 0)
+        by_same (inr k) = ap (λ (r : Place). is_seen (names_behind r other) l) k.1 ∙ one p.name (p.depth == 0)
+
+    -- and behind one that gave way
+    alike_without : (seen other : List (List ℕ)) (p : Place) (m : List ℕ) → led_by several leader (is_seen seen) p.name ≡ Some m →
+        bytes_eq p.name m ≡ false → SeenAlike seen other → SeenAlike (names_behind p seen) other
+    alike_without seen other p m leads apart alike l e = by_depth (p.depth == 0)
+      where
+        other_name : bytes_eq l p.name ≡ false
+        other_name = elim (cases_Bool (bytes_eq l p.name)) [
+          | inl same ↦
+              let is : l ≡ p.name = (bytes_eq-Decides l p.name).0 same in
+              let its : leader (family p.name) ≡ Some m = led_is several leader (is_seen seen) p.name m leads in
+              let own : p.name ≡ m = same_Some p.name m (ap (λ (n : List ℕ). Some n) (sym is) ∙ (sym e ∙ (ap (λ (n : List ℕ). leader (family n)) is ∙ its))) in
+              absurd (true≢false (sym ((bytes_eq-Decides p.name m).1 own) ∙ apart))
+          | inr f ↦ f
+        ]
+
+        by_depth : (b : Bool) → is_seen other l ≡ is_seen (cond b (p.name ∷ seen) seen) l
+        by_depth true = alike l e ∙ ap (λ (b : Bool). b || is_seen seen l) (sym other_name)
+        by_depth false = alike l e
+
+    -- A place that is left, with its leader: there is no new text for the leader, or the place is the leader's and has that text.
+    abbrev pub IsKept : Led → Type 0
+    IsKept y = (l : List ℕ) → y.leader ≡ Some l → (new l ≡ None) ⊎ ((y.place.name ≡ l) × (new l ≡ Some y.place.text))
+
+    kept_from : (seen other : List (List ℕ)) (ps rs : List Place) → SeenAlike seen other → LeftFrom seen ps rs →
+        AllByRecursion IsKept (led_from several leader other rs)
+    unfolding led_from
+    kept_from seen other [] rs alike h =
+        subst (λ (ts : List Place). AllByRecursion IsKept (led_from several leader other ts)) (sym h) tt
+    kept_from seen other (p ∷ ps) rs alike h =
+        by_step h (λ us ts k. kept_from (names_behind p seen) us ps ts k)
+      where
+        by_step : LeftOf new (next_led seen p) rs (LeftFrom (names_behind p seen) ps) →
+            ((us : List (List ℕ)) (ts : List Place) → SeenAlike (names_behind p seen) us → LeftFrom (names_behind p seen) ps ts →
+            AllByRecursion IsKept (led_from several leader us ts)) → AllByRecursion IsKept (led_from several leader other rs)
+        by_step (stays q rest k same unled others) more =
+            subst (λ (ts : List Place). AllByRecursion IsKept (led_from several leader other ts)) (sym k) (
+              (λ l e.
+              let led : led_by several leader (is_seen seen) p.name ≡ Some l =
+              sym (led_alike seen other alike p.name) ∙ (ap (λ (r : Place). led_by several leader (is_seen other) r.name) (sym same) ∙ e) in
+              inl (unled l led)),
+              more (names_behind q other) rest (alike_behind seen other q p (inl same) alike) others,
+            )
+        by_step (becomes q rest text k same leads n others) more =
+            subst (λ (ts : List Place). AllByRecursion IsKept (led_from several leader other ts)) (sym k) (
+              (λ l e.
+              let led : led_by several leader (is_seen seen) p.name ≡ Some l =
+              sym (led_alike seen other alike p.name) ∙ (ap (λ (r : Place). led_by several leader (is_seen other) r.name) (sym same) ∙ e) in
+              let is : p.name ≡ l = same_Some p.name l (sym leads ∙ led) in
+              inr (
+                ap (λ (r : Place). r.name) same ∙ is,
+                ap new (sym is) ∙ (n ∙ ap (λ (r : Place). Some r.text) (sym same)),
+              )),
+              more (names_behind q other) rest (alike_behind seen other q p (inr (text, same)) alike) others,
+            )
+        by_step (gives l text leads n apart others) more =
+            more other rs (alike_without seen other p l leads apart alike) others
+
+    -- all of them
+    pub all_kept : AllByRecursion IsKept (led_from (has_several qs) (leader_in qs) [] qs)
+    all_kept =
+        subst (λ (s : List ℕ → Bool). AllByRecursion IsKept (led_from s (leader_in qs) [] qs)) (λ i name. sym (several_same name) i)
+        (subst (λ (g : List ℕ → Option (List ℕ)). AllByRecursion IsKept (led_from several g [] qs)) (λ i members. sym (leaders_same members) i)
+        (kept_from [] [] all qs (λ l e. refl) left))
+
+    -- ---- those that take part
+
+    -- a member under a leader with a new text is none of a name without one
+    member_apart : (name : List ℕ) → new name ≡ None → (p : Place) (o : Option (List ℕ)) (l text : List ℕ) (rest : List Place) → o ≡ Some l →
+        new l ≡ Some text → places_under name (with_member p o rest) ≡ places_under name rest
+    member_apart name none p o l text rest e f =
+        ap (λ (m : Option (List ℕ)). places_under name (with_member p m rest)) e
+        ∙ skipped name (record p { name = l }) rest (other_text new l name text f none)
+
+    -- a member more, of either list
+    both_members : (name : List ℕ) (q p : Place) (o : Option (List ℕ)) (rs ps : List Place) → bare q ≡ bare p →
+        map bare (places_under name rs) ≡ map bare (places_under name ps) →
+        map bare (places_under name (with_member q o rs)) ≡ map bare (places_under name (with_member p o ps))
+    both_members name q p None rs ps same h = h
+    both_members name q p (Some l) rs ps same h =
+        both_under name (record q { name = l }) (record p { name = l }) rs ps (ap (λ (r : Place). record r { name = l }) same) h
+
+    -- where the leader has no new text, the same places take part
+    members_from : (name : List ℕ) → new name ≡ None → (seen other : List (List ℕ)) (ps rs : List Place) → SeenAlike seen other → LeftFrom seen ps rs →
+        map bare (places_under name (members_of (led_from several leader other rs)))
+        ≡ map bare (places_under name (members_of (led_from several leader seen ps)))
+    unfolding led_from
+    members_from name none seen other [] rs alike h =
+        ap (λ (ts : List Place). map bare (places_under name (members_of (led_from several leader other ts)))) h
+    members_from name none seen other (p ∷ ps) rs alike h =
+        by_step h (λ us ts a k. members_from name none (names_behind p seen) us ps ts a k)
+      where
+        abbrev taking : List (List ℕ) → List Place → List Place
+        taking us ts = members_of (led_from several leader us ts)
+
+        abbrev behind : List Place
+        behind = taking (names_behind p seen) ps
+
+        abbrev own : Option (List ℕ)
+        own = led_by several leader (is_seen seen) p.name
+
+        by_step : LeftOf new (next_led seen p) rs (LeftFrom (names_behind p seen) ps) →
+            ((us : List (List ℕ)) (ts : List Place) → SeenAlike (names_behind p seen) us → LeftFrom (names_behind p seen) ps ts →
+            map bare (places_under name (taking us ts)) ≡ map bare (places_under name behind)) →
+            map bare (places_under name (taking other rs)) ≡ map bare (places_under name (with_member p own behind))
+        by_step (stays q rest k same unled others) more =
+            let its : led_by several leader (is_seen other) q.name ≡ own =
+            ap (λ (r : Place). led_by several leader (is_seen other) r.name) same ∙ led_alike seen other alike p.name in
+            let left_behind = taking (names_behind q other) rest in
+            ap (λ (ts : List Place). map bare (places_under name (taking other ts))) k
+            ∙ (ap (λ (o : Option (List ℕ)). map bare (places_under name (with_member q o left_behind))) its
+            ∙ both_members name q p own left_behind behind same (more (names_behind q other) rest (alike_behind seen other q p (inl same) alike) others))
+        by_step (becomes q rest text k same leads n others) more =
+            let its : led_by several leader (is_seen other) q.name ≡ Some p.name =
+            ap (λ (r : Place). led_by several leader (is_seen other) r.name) same ∙ (led_alike seen other alike p.name ∙ leads) in
+            let left_behind = taking (names_behind q other) rest in
+            ap (λ (ts : List Place). map bare (places_under name (taking other ts))) k
+            ∙ (ap (map bare) (member_apart name none q (led_by several leader (is_seen other) q.name) p.name text left_behind its n)
+            ∙ (more (names_behind q other) rest (alike_behind seen other q p (inr (text, same)) alike) others
+            ∙ ap (map bare) (sym (member_apart name none p own p.name text behind leads n))))
+        by_step (gives l text leads n apart others) more =
+            more other rs (alike_without seen other p l leads apart alike) others ∙ ap (map bare) (sym (member_apart name none p own l text behind leads n))
+
+    pub members_stay : (name : List ℕ) → new name ≡ None →
+        map bare (places_under name (members qs)) ≡ map bare (places_under name (members all))
+    members_stay name none =
+        ap (λ (s : List ℕ → Bool). map bare (places_under name (members_of (led_from s (leader_in qs) [] qs)))) (λ i n. several_same n i)
+        ∙ (ap (λ (g : List ℕ → Option (List ℕ)). map bare (places_under name (members_of (led_from several g [] qs)))) (λ i n. leaders_same n i)
+        ∙ members_from name none [] [] all qs (λ l e. refl) left)
+
+    -- where it has one, they have that
+    members_have : (ys : List Led) → AllByRecursion IsKept ys → (name text : List ℕ) → new name ≡ Some text → HaveText text (places_under name (members_of ys))
+    members_have [] h name text e = tt
+    members_have (y ∷ ys) h name text e = by_leader y.leader refl (members_have ys h.1 name text e)
+      where
+        by_leader : (o : Option (List ℕ)) → y.leader ≡ o → HaveText text (places_under name (members_of ys)) →
+            HaveText text (places_under name (with_member y.place o (members_of ys)))
+        by_leader None k more = more
+        by_leader (Some l) k more = text_under text name (record y.place { name = l }) (members_of ys) (λ own.
+            let is : l ≡ name = (bytes_eq-Decides l name).0 own in
+            let new_here : new l ≡ Some text = ap new is ∙ e in
+            elim (h.0 l k) [
+              | inl none ↦ absurd (none-some text (sym none ∙ new_here))
+              | inr has ↦ same_Some y.place.text text (sym has.1 ∙ new_here)
+            ]) more
+
+    pub all_members_have : (name text : List ℕ) → new name ≡ Some text → HaveText text (places_under name (members qs))
+    all_members_have = members_have (led qs) all_kept
+
+    -- ---- they stay
+
+    module _ (more : NewTexts) (inside : (name text : List ℕ) → more name ≡ Some text → new name ≡ Some text) (last : List ℕ) where
+      kept_stays : (y : Led) (d : Document) → IsKept y → at_fate (led_fate more y).1 y.place d ≡ record { places = y.place ∷ d.places; last = d.last }
+      kept_stays y d h = by_leader y.leader refl
+        where
+          abbrev whole : Document
+          whole = record { places = y.place ∷ d.places; last = d.last }
+
+          by_new : (l : List ℕ) → y.leader ≡ Some l → (o : Option (List ℕ)) → more l ≡ o → at_fate (fate_under y.place.name l o) y.place d ≡ whole
+          by_new l e None f = refl
+          by_new l e (Some text) f = elim (h l e) [
+            | inl none ↦ absurd (none-some text (sym none ∙ inside l text f))
+            | inr has ↦
+                let same : text ≡ y.place.text = same_Some text y.place.text (sym (inside l text f) ∙ has.1) in
+                ap (λ (b : Bool). at_fate (cond b (Becomes text) (Gives (alias_line y.place.name l))) y.place d) ((bytes_eq-Decides y.place.name l).1 has.0)
+                ∙ ap (λ (t : List ℕ). record { places = record y.place { text = t } ∷ d.places; last = d.last }) same
+          ]
+
+          by_leader : (o : Option (List ℕ)) → y.leader ≡ o → at_fate (fate_led more y.place.name o) y.place d ≡ whole
+          by_leader None e = refl
+          by_leader (Some l) e = by_new l e (more l) refl
+
+      all_stay : (ys : List Led) → AllByRecursion IsKept ys → fated (map (led_fate more) ys) last ≡ record { places = map (λ y. y.place) ys; last = last }
+      unfolding fated
+      all_stay [] h = refl
+      all_stay (y ∷ ys) h =
+          kept_stays y (fated (map (led_fate more) ys) last) h.0
+          ∙ ap (λ (d : Document). record { places = y.place ∷ d.places; last = d.last }) (all_stay ys h.1)
+
+      led_whole : (s : List ℕ → Bool) (g : List ℕ → Option (List ℕ)) (seen : List (List ℕ)) (ps : List Place) →
+          map (λ y. y.place) (led_from s g seen ps) ≡ ps
+      unfolding led_from
+      led_whole s g seen [] = refl
+      led_whole s g seen (p ∷ ps) = ap (λ (rs : List Place). p ∷ rs) (led_whole s g (names_behind p seen) ps)
+
+      -- a document whose families have one font each stays
+      pub aliased_stays : aliased more (record { places = qs; last = last }) ≡ record { places = qs; last = last }
+      aliased_stays =
+          all_stay (led qs) all_kept
+          ∙ ap (λ (ps : List Place). record { places = ps; last = last }) (led_whole (has_several qs) (leader_in qs) [] qs)
+
+    -- ---- pooled
+
+    -- what no place has, none that is left has
+    lacks_left : (name : List ℕ) (seen : List (List ℕ)) (ps rs : List Place) → LeftFrom seen ps rs → lacks_name name ps ≡ true → lacks_name name rs ≡ true
+    lacks_left name seen [] rs h none = ap (lacks_name name) (left_none seen rs h)
+    lacks_left name seen (p ∷ ps) rs h none =
+        by_step (left_next seen p ps rs h) (λ ts k. lacks_left name (names_behind p seen) ps ts k (not_lacked name p ps none).1)
+      where
+        by_step : LeftOf new (next_led seen p) rs (LeftFrom (names_behind p seen) ps) →
+            ((ts : List Place) → LeftFrom (names_behind p seen) ps ts → lacks_name name ts ≡ true) → lacks_name name rs ≡ true
+        by_step (stays q rest k same unled others) more =
+            ap (lacks_name name) k
+            ∙ not_named name q rest (ap (λ (r : Place). bytes_eq name r.name) same ∙ (not_lacked name p ps none).0) (more rest others)
+        by_step (becomes q rest text k same leads n others) more =
+            ap (lacks_name name) k
+            ∙ not_named name q rest (ap (λ (r : Place). bytes_eq name r.name) same ∙ (not_lacked name p ps none).0) (more rest others)
+        by_step (gives l text leads n apart others) more = more rs others
+
+    module _ (old fewer : NewTexts) where
+      -- each place of a name with a text has it
+      abbrev pub HaveAll : List Place → Type 0
+      HaveAll rs = (name text : List ℕ) → fewer name ≡ Some text → HaveText text (places_under name rs)
+
+      have_rest : (q : Place) (rs : List Place) → HaveAll (q ∷ rs) → HaveAll rs
+      have_rest q rs h name text e = (text_over text name q rs (h name text e)).1
+
+      -- so where the places were pooled, those that are left are
+      pooled_left : (seen : List (List ℕ)) (ps rs : List Place) → LeftFrom seen ps rs → ArePooled old ps → HaveAll rs →
+          AllByRecursion (λ p. (text : List ℕ) → fewer p.name ≡ Some text → (t : List ℕ) × (old p.name ≡ Some t)) ps → ArePooled fewer rs
+      pooled_left seen [] rs h pooled have olds = subst (ArePooled fewer) (sym (left_none seen rs h)) tt
+      pooled_left seen (p ∷ ps) rs h pooled have olds =
+          by_step (left_next seen p ps rs h) (λ ts k a. pooled_left (names_behind p seen) ps ts k pooled.1 a olds.1)
+        where
+          first : (q : Place) (rest : List Place) → bare q ≡ bare p ⊎ ((t : List ℕ) × (bare q ≡ bare (record p { text = t }))) → HaveAll (q ∷ rest) →
+              LeftFrom (names_behind p seen) ps rest → (text : List ℕ) → fewer q.name ≡ Some text →
+              (q.text ≡ text) × ((q.depth == 0) ≡ true → lacks_name q.name rest ≡ true)
+          first q rest same all_here others text e = by_same same
+            where
+              own : q.text ≡ text
+              own = (text_over text q.name q rest (all_here q.name text e)).0 (same_bytes q.name)
+
+              behind : (q.name ≡ p.name) → (q.depth ≡ p.depth) → (q.depth == 0) ≡ true → lacks_name q.name rest ≡ true
+              behind n d zero =
+                  let had = olds.0 text (ap fewer (sym n) ∙ e) in
+                  let none : lacks_name p.name ps ≡ true = (pooled.0 had.0 had.1).1 (ap (λ (k : ℕ). k == 0) (sym d) ∙ zero) in
+                  lacks_left q.name (names_behind p seen) ps rest others (ap (λ (m : List ℕ). lacks_name m ps) n ∙ none)
+
+              by_same : bare q ≡ bare p ⊎ ((t : List ℕ) × (bare q ≡ bare (record p { text = t }))) →
+                  (q.text ≡ text) × ((q.depth == 0) ≡ true → lacks_name q.name rest ≡ true)
+              by_same (inl k) = (own, behind (ap (λ (r : Place). r.name) k) (ap (λ (r : Place). r.depth) k))
+              by_same (inr k) = (own, behind (ap (λ (r : Place). r.name) k.1) (ap (λ (r : Place). r.depth) k.1))
+
+          by_step : LeftOf new (next_led seen p) rs (LeftFrom (names_behind p seen) ps) →
+              ((ts : List Place) → LeftFrom (names_behind p seen) ps ts → HaveAll ts → ArePooled fewer ts) → ArePooled fewer rs
+          by_step (stays q rest k same unled others) more =
+              let here : HaveAll (q ∷ rest) = subst HaveAll k have in
+              subst (ArePooled fewer) (sym k) (first q rest (inl same) here others, more rest others (have_rest q rest here))
+          by_step (becomes q rest text k same leads n others) more =
+              let here : HaveAll (q ∷ rest) = subst HaveAll k have in
+              subst (ArePooled fewer) (sym k) (first q rest (inr (text, same)) here others, more rest others (have_rest q rest here))
+          by_step (gives l text leads n apart others) more = more rs others have
+
+      pub all_pooled : ArePooled old all → HaveAll qs →
+          AllByRecursion (λ p. (text : List ℕ) → fewer p.name ≡ Some text → (t : List ℕ) × (old p.name ≡ Some t)) all → ArePooled fewer qs
+      all_pooled = pooled_left [] all qs left
