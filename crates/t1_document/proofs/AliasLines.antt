@@ -9,12 +9,14 @@ use Rattle.t1_grammar.specs.Grammar.{first}
 use Rattle.t1_font.specs.Words.{is_regular, all_regular}
 use Rattle.t1_font.specs.Rewriting.{parted}
 use Rattle.t1_font.specs.Tags.{name_marker, name_in}
+use Rattle.t1_document.specs.declared.marks.Mark.{Mark}
 use Rattle.t1_document.specs.Lines.{closes, lf_comes, ends_line, into_first, lines_of}
 use Rattle.t1_document.specs.Marks.{mark_of, has_mark}
 use Rattle.t1_document.specs.Documents.{Place, document_of}
 use Rattle.t1_document.specs.Laws.{Spells}
 use Rattle.t1_document.specs.Families.{alias_line}
-use Rattle.t1_document.proofs.Retold.{IsLine}
+use Rattle.t1_document.proofs.Breaks.{mark_starts}
+use Rattle.t1_document.proofs.Retold.{IsLine, slash_or_percent}
 use Rattle.t1_document.proofs.Spelled.{places_spell}
 
 -- ---- names
@@ -107,8 +109,11 @@ whole_line (b ∷ bs) h =
     ]
 
 slash_no_mark : (inner : List ℕ) → mark_of (47 ∷ inner) ≡ None
-unfolding mark_of
-slash_no_mark inner = refl
+slash_no_mark inner = by_mark (mark_of (47 ∷ inner)) refl
+  where
+    by_mark : (o : Option Mark) → mark_of (47 ∷ inner) ≡ o → o ≡ None
+    by_mark None e = refl
+    by_mark (Some m) e = let starts = mark_starts (47 ∷ inner) m e in absurd (slash_or_percent inner starts.0 starts.1)
 
 regroup : (a b c d e f : List ℕ) → a ++ (b ++ (c ++ (d ++ (e ++ f)))) ≡ (a ++ (b ++ (c ++ (d ++ e)))) ++ f
 regroup a b c d e f = simp append_assoc

@@ -11,7 +11,7 @@ use Rattle.t1_document.specs.Stretches.{stretches, mark_lines}
 use Rattle.t1_document.specs.Documents.{Place, Document, document_bytes, document_of}
 use Rattle.t1_document.specs.Rewriting.{NewTexts, can_stand, is_seen, Fate, Stays, Becomes, Gives, fated}
 use Rattle.t1_document.specs.Joins.{Outcomes, AreOutcomes, new_texts, places_under, PooledBy}
-use Rattle.t1_document.specs.Families.{family, first_place, has_several, can_lead, leader_by, leader_in, if_leads, led_by, Led, names_behind, led_from, led, with_member, members_of, members, alias_line, fate_under, fate_led, led_fate, aliased}
+use Rattle.t1_document.specs.Families.{family, first_place, has_several, can_lead, leader_by, leader_in, if_leads, led_by, Led, names_behind, led_from, with_leaders, with_member, members_of, members, alias_line, fate_under, fate_led, led_fate, aliased}
 use Rattle.t1_document.specs.FamilyLaws.{AreOfFamilies, AliasedBy, AliasedIsRead, AliasedMarksStay, AliasedOthersStay, AliasesDraw, OneAliased, OneByFamilies}
 use Rattle.t1_document.proofs.Retold.{Fits, fated_by, AllFit}
 use Rattle.t1_document.proofs.Rewritten.{document_is, lines_stay, fated_is, fated_written}
@@ -26,11 +26,11 @@ use Rattle.t1_document.proofs.AliasLines.{IsRegular, places_named, alias_is_line
 -- a place that is found is one of those that were sought, and passes the test
 first_holds : (P : Place → Type 0) (test : Place → Bool) (ps : List Place) → AllByRecursion P ps → (p : Place) → first_place test ps ≡ Some p → P p
 first_holds P test [] h p e = absurd (none-some p e)
-first_holds P test (q ∷ ps) h p e = by_test (test q) e
+first_holds P test (q ∷ ps) h p e = by_test (test q) e (first_holds P test ps h.1 p)
   where
-    by_test : (b : Bool) → cond b (Some q) (first_place test ps) ≡ Some p → P p
-    by_test true k = subst P (same_Some q p k) h.0
-    by_test false k = first_holds P test ps h.1 p k
+    by_test : (b : Bool) → cond b (Some q) (first_place test ps) ≡ Some p → (first_place test ps ≡ Some p → P p) → P p
+    by_test true k more = subst P (same_Some q p k) h.0
+    by_test false k more = more k
 
 -- what holds of the names of places holds of the leaders among them
 leader_holds : (Q : List ℕ → Type 0) (several : List ℕ → Bool) (ps : List Place) → AllByRecursion (λ p. Q p.name) ps → (name leader : List ℕ) →
@@ -42,7 +42,7 @@ leader_holds Q several ps h name leader e = by_place (first_place (can_lead seve
     by_place (Some p) f k = subst Q (same_Some p.name leader k) (first_holds (λ q. Q q.name) (can_lead several name) ps h p f)
 
 -- who leads a place is a leader
-led_is : (several : List ℕ → Bool) (leader : List ℕ → Option (List ℕ)) (was_seen : List ℕ → Bool) (name l : List ℕ) →
+pub led_is : (several : List ℕ → Bool) (leader : List ℕ → Option (List ℕ)) (was_seen : List ℕ → Bool) (name l : List ℕ) →
     led_by several leader was_seen name ≡ Some l → leader (family name) ≡ Some l
 led_is several leader was_seen name l e = by_several (several name) e
   where
@@ -93,21 +93,21 @@ HoldsUnder P x = (l : List ℕ) → x.leader ≡ Some l → P (record x.place { 
 
 each_member : (P : Place → Type 0) (xs : List Led) → AllByRecursion P (members_of xs) → AllByRecursion (HoldsUnder P) xs
 each_member P [] h = tt
-each_member P (x ∷ xs) h = by_leader x.leader refl h
+each_member P (x ∷ xs) h = by_leader x.leader refl h (each_member P xs)
   where
-    by_leader : (o : Option (List ℕ)) → x.leader ≡ o → AllByRecursion P (with_member x.place o (members_of xs)) → AllByRecursion (HoldsUnder P) (x ∷ xs)
-    by_leader None e k = ((λ l f. absurd (none-some l (sym e ∙ f))), each_member P xs k)
-    by_leader (Some m) e k =
-        ((λ l f. subst (λ (n : List ℕ). P (record x.place { name = n })) (same_Some m l (sym e ∙ f)) k.0), each_member P xs k.1)
+    by_leader : (o : Option (List ℕ)) → x.leader ≡ o → AllByRecursion P (with_member x.place o (members_of xs)) →
+        (AllByRecursion P (members_of xs) → AllByRecursion (HoldsUnder P) xs) → AllByRecursion (HoldsUnder P) (x ∷ xs)
+    by_leader None e k more = ((λ l f. absurd (none-some l (sym e ∙ f))), more k)
+    by_leader (Some m) e k more = ((λ l f. subst (λ (n : List ℕ). P (record x.place { name = n })) (same_Some m l (sym e ∙ f)) k.0), more k.1)
 
 -- and the other way round
 from_members : (P : Place → Type 0) (xs : List Led) → AllByRecursion (HoldsUnder P) xs → AllByRecursion P (members_of xs)
 from_members P [] h = tt
-from_members P (x ∷ xs) h = by_leader x.leader refl
+from_members P (x ∷ xs) h = by_leader x.leader refl (from_members P xs h.1)
   where
-    by_leader : (o : Option (List ℕ)) → x.leader ≡ o → AllByRecursion P (with_member x.place o (members_of xs))
-    by_leader None e = from_members P xs h.1
-    by_leader (Some m) e = (h.0 m e, from_members P xs h.1)
+    by_leader : (o : Option (List ℕ)) → x.leader ≡ o → AllByRecursion P (members_of xs) → AllByRecursion P (with_member x.place o (members_of xs))
+    by_leader None e more = more
+    by_leader (Some m) e more = (h.0 m e, more)
 
 -- ---- what becomes of places fits
 
@@ -150,7 +150,7 @@ all_fit new (x ∷ xs) h = (led_fits new x h.0, all_fit new xs h.1)
 
 -- what becomes of the places of a document
 abbrev pub fates_of : NewTexts → Document → List Fate
-fates_of new d = map (λ x. x.1) (map (led_fate new) (led d.places))
+fates_of new d = map (λ x. x.1) (map (led_fate new) (with_leaders d.places))
 
 module _ (text : List ℕ) (outcomes : Outcomes) (are : AreOfFamilies text outcomes) where
   abbrev d : Document
@@ -159,21 +159,21 @@ module _ (text : List ℕ) (outcomes : Outcomes) (are : AreOfFamilies text outco
   abbrev new : NewTexts
   new = new_texts outcomes
 
-  same_places : map (λ x. x.0) (map (led_fate new) (led d.places)) ≡ d.places
+  same_places : map (λ x. x.0) (map (led_fate new) (with_leaders d.places)) ≡ d.places
   same_places = led_places (has_several d.places) (leader_in d.places) new [] d.places
 
   -- the document by its fates
   aliased_is : aliased new d ≡ fated_by (fates_of new d) d.places d.last
-  aliased_is = fated_is (map (led_fate new) (led d.places)) d.last ∙ ap (λ (ps : List Place). fated_by (fates_of new d) ps d.last) same_places
+  aliased_is = fated_is (map (led_fate new) (with_leaders d.places)) d.last ∙ ap (λ (ps : List Place). fated_by (fates_of new d) ps d.last) same_places
 
   each_fits : AllFit (fates_of new d) d.places
   each_fits =
       subst (λ (ps : List Place). AllFit (fates_of new d) ps) same_places
-      (all_fit new (led d.places)
-      (all_fitted new (led d.places)
+      (all_fit new (with_leaders d.places)
+      (all_fitted new (with_leaders d.places)
       (led_holds IsRegular d.places (places_named text) [] d.places (places_named text))
       (each_led Own (has_several d.places) (leader_in d.places) [] d.places (own_texts_stand text))
-      (each_member (May new) (led d.places) (all_may_have (members d.places) outcomes are))))
+      (each_member (May new) (with_leaders d.places) (all_may_have (members d.places) outcomes are))))
 
   is_read : document_of (document_bytes (aliased new d)) ≡ aliased new d
   is_read = ap (λ (x : Document). document_of (document_bytes x)) aliased_is ∙ (document_is (fates_of new d) text each_fits ∙ sym aliased_is)
@@ -189,7 +189,7 @@ pub aliased_marks_stay : AliasedMarksStay
 aliased_marks_stay text outcomes are = marks_stay text outcomes are
 
 pub aliased_others_stay : AliasedOthersStay
-aliased_others_stay text outcomes = fated_written (map (led_fate (new_texts outcomes)) (led (document_of text).places)) (document_of text).last
+aliased_others_stay text outcomes = fated_written (map (led_fate (new_texts outcomes)) (with_leaders (document_of text).places)) (document_of text).last
 
 -- ---- glyphs
 
@@ -211,8 +211,8 @@ aliases_draw text bytes outcomes are leader new e =
     let sound = places_sound text bytes in
     let names = names_bytes ps sound in
     let all : AllByRecursion IsSound (members ps) =
-    from_members IsSound (led ps)
-    (members_sound (led ps) (led_holds AreBytes ps names [] ps names) (each_led IsSound (has_several ps) (leader_in ps) [] ps sound)) in
+    from_members IsSound (with_leaders ps)
+    (members_sound (with_leaders ps) (led_holds AreBytes ps names [] ps names) (each_led IsSound (has_several ps) (leader_in ps) [] ps sound)) in
     come_to leader (places_under leader (members ps)) (sound_under leader (members ps) all) (outcomes leader) new (are leader) e
 
 -- ---- one result

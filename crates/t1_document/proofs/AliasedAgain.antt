@@ -10,7 +10,7 @@ use Rattle.t1_document.specs.declared.joins.Outcome.{Outcome}
 use Rattle.t1_document.specs.Documents.{Place, Document, document_bytes, document_of}
 use Rattle.t1_document.specs.Rewriting.{NewTexts, is_refused, standing, rewritten, ArePooled}
 use Rattle.t1_document.specs.Joins.{Outcomes, AreOutcomes, places_under, new_texts, text_of, ComeTo, OfPlaces, PooledBy}
-use Rattle.t1_document.specs.Families.{has_several, leader_in, led, led_fate, members, aliased}
+use Rattle.t1_document.specs.Families.{has_several, leader_in, with_leaders, led_fate, members, aliased}
 use Rattle.t1_document.specs.FamilyLaws.{AliasedBy, FamiliesAgain}
 use Rattle.t1_document.proofs.PlaceLemmas.{document_text}
 use Rattle.t1_document.proofs.Rewritten.{where_stands}
@@ -19,7 +19,8 @@ use Rattle.t1_document.proofs.OneOutcome.{same_text, one_text_for}
 use Rattle.t1_document.proofs.Bare.{to_bare}
 use Rattle.t1_document.proofs.Again.{HaveText, have_same, one_had, among, from_names, pooled_have, pooled_by_fewer, WerePooled, were_pooled, pooled_keeps}
 use Rattle.t1_document.proofs.Aliased.{aliased_is_read}
-use Rattle.t1_document.proofs.LeftPlaces.{LeftFrom, left_of, settled_have, have_settled, text_bare, settled_left, several_left, members_stay, all_members_have, aliased_stays, HaveAll, all_pooled}
+use Rattle.t1_document.proofs.SettledNames.{text_bare, settled_have, have_settled}
+use Rattle.t1_document.proofs.LeftPlaces.{LeftFrom, left_of, settled_left, several_left, members_stay, all_members_have, aliased_stays, HaveAll, all_pooled}
 
 -- places of one text get it
 gets_own : (name text : List ℕ) (p : Place) (ps : List Place) → HaveText text (p ∷ ps) → (o : Option Outcome) → ComeTo name (p ∷ ps) o →
@@ -37,22 +38,22 @@ module _ (old all qs : List Place) (a : Outcomes) (are_old : AreOutcomes old a) 
   abbrev gets : NewTexts
   gets = new_texts k
 
-  -- a name that had no new text has several texts, or no place
+  -- places of one text got it
+  got_own : (name text : List ℕ) → got name ≡ None → (p : Place) (ps us : List Place) → map bare (p ∷ ps) ≡ map bare us → us ≡ places_under name old →
+      HaveText text us → ⊥
+  got_own name text none p ps [] e f h = absurd cc
+  got_own name text none p ps (u ∷ us) e f h =
+      none-some u.text (sym none ∙ gets_own name text u us h (a name) (subst (λ (rs : List Place). ComeTo name rs (a name)) (sym f) (are_old name)))
+
+  -- so a settled name that had no new text has no place
   no_text : (name : List ℕ) → got name ≡ None → has_several all name ≡ false → places_under name all ≡ []
-  no_text name none s = by_places (places_under name all) refl
+  no_text name none s = by_places (places_under name all) refl (settled_have all name s)
     where
-      had = settled_have all name s
-
-      by_old : (p : Place) (ps us : List Place) → map bare (p ∷ ps) ≡ map bare us → us ≡ places_under name old → HaveText had.0 us → ⊥
-      by_old p ps [] e f h = absurd cc
-      by_old p ps (u ∷ us) e f h =
-          none-some u.text (sym none ∙ gets_own name had.0 u us h (a name) (subst (λ (rs : List Place). ComeTo name rs (a name)) (sym f) (are_old name)))
-
-      by_places : (ps : List Place) → places_under name all ≡ ps → ps ≡ []
-      by_places [] e = refl
-      by_places (p ∷ ps) e =
+      by_places : (ps : List Place) → places_under name all ≡ ps → (text : List ℕ) × HaveText text (places_under name all) → ps ≡ []
+      by_places [] e had = refl
+      by_places (p ∷ ps) e had =
           let same : map bare (p ∷ ps) ≡ map bare (places_under name old) = ap (map bare) (sym e) ∙ were.kept name none in
-          absurd (by_old p ps (places_under name old) same refl
+          absurd (got_own name had.0 none p ps (places_under name old) same refl
           (text_bare had.0 (places_under name old) (p ∷ ps) (sym same) (subst (HaveText had.0) e had.1)))
 
   -- a name that gets a text has one text
@@ -114,7 +115,7 @@ families_again text a b (before, before_by, first) (between, between_by, second)
     let new = new_texts first.0 in
     let read : e ≡ aliased new (document_of before) = ap document_of first.2 ∙ aliased_is_read before first.0 first.1 in
     let left : LeftFrom all new [] all e.places =
-    subst (λ (x : Document). LeftFrom all new [] all x.places) (sym read) (left_of new (led all) (document_of before).last) in
+    subst (λ (x : Document). LeftFrom all new [] all x.places) (sym read) (left_of new (with_leaders all) (document_of before).last) in
     let gets = new_texts between_by.0 in
     let pooled : ArePooled gets e.places =
     left_pooled d.places all e.places before_by.0 before_by.1 (were_pooled text before before_by) new left between_by.0 between_by.1 in

@@ -10,140 +10,12 @@ use Rattle.std.proofs.lemmas.Slice.Eq.{bytes_eq-Decides}
 use Rattle.t1_document.specs.Documents.{Place, Document, behind_bytes, prepended}
 use Rattle.t1_document.specs.Rewriting.{NewTexts, is_seen, Stays, Becomes, Gives, at_fate, fated, lacks_name, ArePooled}
 use Rattle.t1_document.specs.Joins.{places_under}
-use Rattle.t1_document.specs.Families.{family, first_place, first_text, is_text, differs, has_other, has_several, can_lead, leader_by, leader_in, if_leads, led_by, Led, names_behind, led_from, led, with_member, members_of, members, aliased, alias_line, fate_under, fate_led, led_fate}
-use Rattle.t1_document.proofs.WriteLoop.{same_test}
+use Rattle.t1_document.specs.Families.{family, first_place, first_text, is_text, differs, has_other, has_several, can_lead, leader_by, leader_in, if_leads, led_by, Led, names_behind, led_from, with_leaders, with_member, members_of, members, aliased, alias_line, fate_under, fate_led, led_fate}
+use Rattle.t1_document.proofs.SettledNames.{skipped, both_under, text_under, text_over, text_bare, settled_have, have_settled}
 use Rattle.t1_document.proofs.Rewritten.{same_bytes}
 use Rattle.t1_document.proofs.Pooled.{bare, other_text, not_named, not_lacked}
 use Rattle.t1_document.proofs.Again.{HaveText}
 use Rattle.t1_document.proofs.Aliased.{led_is}
-
--- ---- places of a name
-
--- a place of another name is left out
-skipped : (name : List ℕ) (p : Place) (ps : List Place) → bytes_eq p.name name ≡ false → places_under name (p ∷ ps) ≡ places_under name ps
-skipped name p ps e = cond-false (bytes_eq p.name name) (p ∷ places_under name ps) (places_under name ps) e
-
-one_under : (name : List ℕ) (p : Place) (ps : List Place) → map bare (places_under name (p ∷ ps))
-    ≡ cond (bytes_eq (bare p).name name) (bare p ∷ map bare (places_under name ps)) (map bare (places_under name ps))
-one_under name p ps = by_test (bytes_eq p.name name)
-  where
-    by_test : (b : Bool) → map bare (cond b (p ∷ places_under name ps) (places_under name ps))
-        ≡ cond b (bare p ∷ map bare (places_under name ps)) (map bare (places_under name ps))
-    by_test true = refl
-    by_test false = refl
-
--- a place more, of either list
-both_under : (name : List ℕ) (q p : Place) (qs ps : List Place) → bare q ≡ bare p → map bare (places_under name qs) ≡ map bare (places_under name ps) →
-    map bare (places_under name (q ∷ qs)) ≡ map bare (places_under name (p ∷ ps))
-both_under name q p qs ps e h =
-    one_under name q qs
-    ∙ (ap (λ (r : Place). cond (bytes_eq r.name name) (r ∷ map bare (places_under name qs)) (map bare (places_under name qs))) e
-    ∙ (ap (λ (rs : List Place). cond (bytes_eq p.name name) (bare p ∷ rs) rs) h ∙ sym (one_under name p ps)))
-
--- a place more of one text
-text_under : (text name : List ℕ) (q : Place) (qs : List Place) → (bytes_eq q.name name ≡ true → q.text ≡ text) → HaveText text (places_under name qs) →
-    HaveText text (places_under name (q ∷ qs))
-text_under text name q qs h more = by_test (bytes_eq q.name name) refl
-  where
-    by_test : (b : Bool) → bytes_eq q.name name ≡ b → HaveText text (cond b (q ∷ places_under name qs) (places_under name qs))
-    by_test true e = (h e, more)
-    by_test false e = more
-
--- the text of the first of these, and of the others
-text_over : (text name : List ℕ) (q : Place) (qs : List Place) → HaveText text (places_under name (q ∷ qs)) →
-    (bytes_eq q.name name ≡ true → q.text ≡ text) × HaveText text (places_under name qs)
-text_over text name q qs h = by_test (bytes_eq q.name name) refl h
-  where
-    by_test : (b : Bool) → bytes_eq q.name name ≡ b → HaveText text (cond b (q ∷ places_under name qs) (places_under name qs)) →
-        (bytes_eq q.name name ≡ true → q.text ≡ text) × HaveText text (places_under name qs)
-    by_test true e k = ((λ f. k.0), k.1)
-    by_test false e k = ((λ f. absurd (true≢false (sym f ∙ e))), k)
-
--- places that are the same but for the bytes before them have the same text
-text_bare : (text : List ℕ) (ps qs : List Place) → map bare ps ≡ map bare qs → HaveText text qs → HaveText text ps
-text_bare text ps qs e h = from_bare ps (subst (λ (rs : List Place). HaveText text rs) (sym e) (to_bare qs h))
-  where
-    to_bare : (rs : List Place) → HaveText text rs → HaveText text (map bare rs)
-    to_bare [] k = tt
-    to_bare (r ∷ rs) k = (k.0, to_bare rs k.1)
-
-    from_bare : (rs : List Place) → HaveText text (map bare rs) → HaveText text rs
-    from_bare [] k = tt
-    from_bare (r ∷ rs) k = (k.0, from_bare rs k.1)
-
--- ---- settled names
-
--- where no place of a name has another text than the first, all have one text
-pub settled_have : (ps : List Place) (name : List ℕ) → has_several ps name ≡ false → (text : List ℕ) × HaveText text (places_under name ps)
-settled_have ps name h = by_first (first_text ps name) refl
-  where
-    module _ (text : List ℕ) (right : (p : Place) → bytes_eq p.name name ≡ true → differs (first_text ps) p ≡ false → p.text ≡ text) where
-      all_have : (rest : List Place) → has_other (first_text ps) rest name ≡ false → HaveText text (places_under name rest)
-      all_have [] k = tt
-      all_have (p ∷ rest) k =
-          let parts = or_parts (bytes_eq name p.name && differs (first_text ps) p) (has_other (first_text ps) rest name) k in
-          text_under text name p rest
-          (λ same. right p same (ap (λ (b : Bool). b && differs (first_text ps) p) (sym (same_test name p.name ∙ same)) ∙ parts.0))
-          (all_have rest parts.1)
-
-    not_so : (b : Bool) → not b ≡ false → b ≡ true
-    not_so true k = refl
-    not_so false k = absurd (true≢false k)
-
-    by_first : (o : Option (List ℕ)) → first_text ps name ≡ o → (text : List ℕ) × HaveText text (places_under name ps)
-    by_first None e = ([], all_have [] (λ p same k.
-        absurd (true≢false (sym (ap (λ (o : Option (List ℕ)). not (is_text o p.text)) (ap (first_text ps) ((bytes_eq-Decides p.name name).0 same) ∙ e)) ∙ k)))
-        ps h)
-    by_first (Some text) e = (text, all_have text (λ p same k.
-        let first : first_text ps p.name ≡ Some text = ap (first_text ps) ((bytes_eq-Decides p.name name).0 same) ∙ e in
-        sym ((bytes_eq-Decides text p.text).0 (ap (λ (o : Option (List ℕ)). is_text o p.text) (sym first) ∙ not_so (is_text (first_text ps p.name) p.text) k)))
-        ps h)
-
--- no place of these has the name
-abbrev NoneNamed : List ℕ → List Place → Type 0
-NoneNamed name ps = AllByRecursion (λ p. bytes_eq p.name name ≡ false) ps
-
--- the first text of places of one text is that, or there are none
-first_had : (text name : List ℕ) (ps : List Place) → HaveText text (places_under name ps) → (first_text ps name ≡ Some text) ⊎ NoneNamed name ps
-first_had text name [] h = inr tt
-first_had text name (q ∷ qs) h = by_test (bytes_eq q.name name) refl (text_over text name q qs h) (first_had text name qs (text_over text name q qs h).1)
-  where
-    by_test : (b : Bool) → bytes_eq q.name name ≡ b → (bytes_eq q.name name ≡ true → q.text ≡ text) × HaveText text (places_under name qs) →
-        (first_text qs name ≡ Some text) ⊎ NoneNamed name qs →
-        (option_map (λ p. p.text) (cond b (Some q) (first_place (λ p. bytes_eq p.name name) qs)) ≡ Some text) ⊎ NoneNamed name (q ∷ qs)
-    by_test true e over rest = inl (ap (λ (t : List ℕ). Some t) (over.0 e))
-    by_test false e over (inl f) = inl f
-    by_test false e over (inr f) = inr (e, f)
-
--- where all have one text, none has another
-pub have_settled : (text name : List ℕ) (ps : List Place) → HaveText text (places_under name ps) → has_several ps name ≡ false
-have_settled text name ps h = elim (first_had text name ps h) [
-  | inl e ↦ by_first e ps h
-  | inr none ↦ by_none ps none
-]
-  where
-    -- a place of another name has no other text of this one
-    other_name : (q : Place) → bytes_eq q.name name ≡ false → (bytes_eq name q.name && differs (first_text ps) q) ≡ false
-    other_name q e = ap (λ (b : Bool). b && differs (first_text ps) q) (same_test name q.name ∙ e)
-
-    by_none : (rest : List Place) → NoneNamed name rest → has_other (first_text ps) rest name ≡ false
-    by_none [] k = refl
-    by_none (q ∷ rest) k = ap (λ (b : Bool). b || has_other (first_text ps) rest name) (other_name q k.0) ∙ by_none rest k.1
-
-    by_first : first_text ps name ≡ Some text → (rest : List Place) → HaveText text (places_under name rest) →
-        has_other (first_text ps) rest name ≡ false
-    by_first e [] k = refl
-    by_first e (q ∷ rest) k =
-        let over = text_over text name q rest k in
-        ap (λ (b : Bool). b || has_other (first_text ps) rest name) (elim (cases_Bool (bytes_eq q.name name)) [
-          | inl same ↦
-              let first : first_text ps q.name ≡ Some text = ap (first_text ps) ((bytes_eq-Decides q.name name).0 same) ∙ e in
-              ap (λ (b : Bool). b && differs (first_text ps) q) (same_test name q.name ∙ same)
-              ∙ (ap (λ (o : Option (List ℕ)). not (is_text o q.text)) first
-              ∙ ap not ((bytes_eq-Decides text q.text).1 (sym (over.0 same))))
-          | inr apart ↦ other_name q apart
-        ])
-        ∙ by_first e rest over.1
 
 -- ---- what is left
 
@@ -181,28 +53,25 @@ left_behind new (x ∷ xs) b (q ∷ qs) last (gives l text leads n apart others)
 pub left_of : (new : NewTexts) (xs : List Led) (last : List ℕ) → Left new xs (fated (map (led_fate new) xs) last).places
 unfolding fated
 left_of new [] last = refl
-left_of new (x ∷ xs) last = by_leader x.leader refl (left_of new xs last)
+left_of new (x ∷ xs) last = by_leader (fated (map (led_fate new) xs) last) x.leader refl (left_of new xs last)
   where
-    d : Document
-    d = fated (map (led_fate new) xs) last
-
-    by_name : (l text : List ℕ) → x.leader ≡ Some l → new l ≡ Some text → (b : Bool) → bytes_eq x.place.name l ≡ b → Left new xs d.places →
+    by_name : (d : Document) (l text : List ℕ) → x.leader ≡ Some l → new l ≡ Some text → (b : Bool) → bytes_eq x.place.name l ≡ b → Left new xs d.places →
         Left new (x ∷ xs) (at_fate (cond b (Becomes text) (Gives (alias_line x.place.name l))) x.place d).places
-    by_name l text e f true k others =
+    by_name d l text e f true k others =
         let same : x.place.name ≡ l = (bytes_eq-Decides x.place.name l).0 k in
         becomes (record x.place { text = text }) d.places text refl refl (e ∙ ap (λ (n : List ℕ). Some n) (sym same)) (ap new same ∙ f) others
-    by_name l text e f false k others =
+    by_name d l text e f false k others =
         gives l text e f k (left_behind new xs (x.place.before ++ alias_line x.place.name l) d.places d.last others)
 
-    by_new : (l : List ℕ) → x.leader ≡ Some l → (o : Option (List ℕ)) → new l ≡ o → Left new xs d.places →
+    by_new : (d : Document) (l : List ℕ) → x.leader ≡ Some l → (o : Option (List ℕ)) → new l ≡ o → Left new xs d.places →
         Left new (x ∷ xs) (at_fate (fate_under x.place.name l o) x.place d).places
-    by_new l e None f others =
+    by_new d l e None f others =
         stays x.place d.places refl refl (λ m k. ap new (sym (same_Some l m (sym e ∙ k))) ∙ f) others
-    by_new l e (Some text) f others = by_name l text e f (bytes_eq x.place.name l) refl others
+    by_new d l e (Some text) f others = by_name d l text e f (bytes_eq x.place.name l) refl others
 
-    by_leader : (o : Option (List ℕ)) → x.leader ≡ o → Left new xs d.places → Left new (x ∷ xs) (at_fate (fate_led new x.place.name o) x.place d).places
-    by_leader None e others = stays x.place d.places refl refl (λ m k. absurd (none-some m (sym e ∙ k))) others
-    by_leader (Some l) e others = by_new l e (new l) refl others
+    by_leader : (d : Document) (o : Option (List ℕ)) → x.leader ≡ o → Left new xs d.places → Left new (x ∷ xs) (at_fate (fate_led new x.place.name o) x.place d).places
+    by_leader d None e others = stays x.place d.places refl refl (λ m k. absurd (none-some m (sym e ∙ k))) others
+    by_leader d (Some l) e others = by_new d l e (new l) refl others
 
 -- ---- leaders of places
 
@@ -258,7 +127,7 @@ module _ (all : List Place) (new : NewTexts) where
   ]
 
   -- their places are left
-  several_left : (name : List ℕ) → several name ≡ true → (seen : List (List ℕ)) (ps qs : List Place) → LeftFrom seen ps qs →
+  pub several_left : (name : List ℕ) → several name ≡ true → (seen : List (List ℕ)) (ps qs : List Place) → LeftFrom seen ps qs →
       map bare (places_under name qs) ≡ map bare (places_under name ps)
   several_left name s seen [] qs h = ap (λ (rs : List Place). map bare (places_under name rs)) (left_none seen qs h)
   several_left name s seen (p ∷ ps) qs h = by_step (left_next seen p ps qs h) (λ rs k. several_left name s (names_behind p seen) ps rs k)
@@ -332,7 +201,7 @@ module _ (all : List Place) (new : NewTexts) where
         by_step (gives l text leads n apart others) more = more qs others
 
     -- so those of one text have one text
-    settled_left : (own_text : List ℕ) (seen : List (List ℕ)) (ps qs : List Place) → HaveText own_text (places_under name ps) → LeftFrom seen ps qs →
+    pub settled_left : (own_text : List ℕ) (seen : List (List ℕ)) (ps qs : List Place) → HaveText own_text (places_under name ps) → LeftFrom seen ps qs →
         (text : List ℕ) × HaveText text (places_under name qs)
     settled_left own_text seen ps qs had h = by_leader (leader (family name)) refl
       where
@@ -376,6 +245,10 @@ module _ (all : List Place) (new : NewTexts) where
     is_member members p e =
         (bytes_eq-Decides (family p.name) members).0 (and_parts ((p.depth == 0) && not (several p.name)) (bytes_eq (family p.name) members) e).1
 
+    -- the leader where a place can lead, or those behind it
+    abbrev found : List ℕ → Bool → Place → List Place → Option (List ℕ)
+    found members b q ts = option_map (λ r. r.name) (cond b (Some q) (first_place (can_lead several members) ts))
+
     -- the leaders of a family are the same among those that are left
     leaders_left : (members : List ℕ) (seen : List (List ℕ)) (ps rs : List Place) → LeftFrom seen ps rs → leader_by several ps members ≡ leader members →
         leader_by several rs members ≡ leader_by several ps members
@@ -383,43 +256,35 @@ module _ (all : List Place) (new : NewTexts) where
     leaders_left members seen (p ∷ ps) rs h g =
         by_test (can_lead several members p) refl (left_next seen p ps rs h) (λ ts k f. leaders_left members (names_behind p seen) ps ts k f)
       where
-        found : Bool → Place → List Place → Option (List ℕ)
-        found b q ts = option_map (λ r. r.name) (cond b (Some q) (first_place (can_lead several members) ts))
-
-        here : (q : Place) (ts : List Place) → bare q ≡ bare p ⊎ ((t : List ℕ) × (bare q ≡ bare (record p { text = t }))) →
-            can_lead several members q ≡ can_lead several members p
-        here q ts (inl e) = ap (can_lead several members) e
-        here q ts (inr e) = ap (can_lead several members) e.1
-
         by_test : (b : Bool) → can_lead several members p ≡ b → LeftOf new (next_led seen p) rs (LeftFrom (names_behind p seen) ps) →
             ((ts : List Place) → LeftFrom (names_behind p seen) ps ts → leader_by several ps members ≡ leader members →
             leader_by several ts members ≡ leader_by several ps members) → leader_by several rs members ≡ leader_by several (p ∷ ps) members
         by_test true e (stays q rest k same unled others) more =
             ap (λ (ts : List Place). leader_by several ts members) k
-            ∙ (ap (λ (b : Bool). found b q rest) (ap (can_lead several members) same ∙ e)
-            ∙ (ap (λ (r : Place). Some r.name) same ∙ ap (λ (b : Bool). found b p ps) (sym e)))
+            ∙ (ap (λ (b : Bool). found members b q rest) (ap (can_lead several members) same ∙ e)
+            ∙ (ap (λ (r : Place). Some r.name) same ∙ ap (λ (b : Bool). found members b p ps) (sym e)))
         by_test true e (becomes q rest text k same leads n others) more =
             ap (λ (ts : List Place). leader_by several ts members) k
-            ∙ (ap (λ (b : Bool). found b q rest) (ap (can_lead several members) same ∙ e)
-            ∙ (ap (λ (r : Place). Some r.name) same ∙ ap (λ (b : Bool). found b p ps) (sym e)))
+            ∙ (ap (λ (b : Bool). found members b q rest) (ap (can_lead several members) same ∙ e)
+            ∙ (ap (λ (r : Place). Some r.name) same ∙ ap (λ (b : Bool). found members b p ps) (sym e)))
         by_test true e (gives l text leads n apart others) more =
-            let own : Some p.name ≡ leader members = ap (λ (b : Bool). found b p ps) (sym e) ∙ g in
+            let own : Some p.name ≡ leader members = ap (λ (b : Bool). found members b p ps) (sym e) ∙ g in
             let its : leader (family p.name) ≡ Some l = led_is several leader (is_seen seen) p.name l leads in
             let same : p.name ≡ l = same_Some p.name l (own ∙ (ap leader (sym (is_member members p e)) ∙ its)) in
             absurd (true≢false (sym ((bytes_eq-Decides p.name l).1 same) ∙ apart))
         by_test false e (stays q rest k same unled others) more =
-            let f : leader_by several ps members ≡ leader members = ap (λ (b : Bool). found b p ps) (sym e) ∙ g in
+            let f : leader_by several ps members ≡ leader members = ap (λ (b : Bool). found members b p ps) (sym e) ∙ g in
             ap (λ (ts : List Place). leader_by several ts members) k
-            ∙ (ap (λ (b : Bool). found b q rest) (ap (can_lead several members) same ∙ e)
-            ∙ (more rest others f ∙ ap (λ (b : Bool). found b p ps) (sym e)))
+            ∙ (ap (λ (b : Bool). found members b q rest) (ap (can_lead several members) same ∙ e)
+            ∙ (more rest others f ∙ ap (λ (b : Bool). found members b p ps) (sym e)))
         by_test false e (becomes q rest text k same leads n others) more =
-            let f : leader_by several ps members ≡ leader members = ap (λ (b : Bool). found b p ps) (sym e) ∙ g in
+            let f : leader_by several ps members ≡ leader members = ap (λ (b : Bool). found members b p ps) (sym e) ∙ g in
             ap (λ (ts : List Place). leader_by several ts members) k
-            ∙ (ap (λ (b : Bool). found b q rest) (ap (can_lead several members) same ∙ e)
-            ∙ (more rest others f ∙ ap (λ (b : Bool). found b p ps) (sym e)))
+            ∙ (ap (λ (b : Bool). found members b q rest) (ap (can_lead several members) same ∙ e)
+            ∙ (more rest others f ∙ ap (λ (b : Bool). found members b p ps) (sym e)))
         by_test false e (gives l text leads n apart others) more =
-            let f : leader_by several ps members ≡ leader members = ap (λ (b : Bool). found b p ps) (sym e) ∙ g in
-            more rs others f ∙ ap (λ (b : Bool). found b p ps) (sym e)
+            let f : leader_by several ps members ≡ leader members = ap (λ (b : Bool). found members b p ps) (sym e) ∙ g in
+            more rs others f ∙ ap (λ (b : Bool). found members b p ps) (sym e)
 
     pub leaders_same : (members : List ℕ) → leader_in qs members ≡ leader members
     leaders_same members =
@@ -438,12 +303,12 @@ module _ (all : List Place) (new : NewTexts) where
       where
         passes : (ps : List Place) (p : Place) → first_place (can_lead several members) ps ≡ Some p → can_lead several members p ≡ true
         passes [] p k = absurd (none-some p k)
-        passes (q ∷ ps) p k = by_test (can_lead several members q) refl k
+        passes (q ∷ ps) p k = by_test (can_lead several members q) refl k (passes ps p)
           where
             by_test : (b : Bool) → can_lead several members q ≡ b → cond b (Some q) (first_place (can_lead several members) ps) ≡ Some p →
-                can_lead several members p ≡ true
-            by_test true f m = subst (λ (r : Place). can_lead several members r ≡ true) (same_Some q p m) f
-            by_test false f m = passes ps p m
+                (first_place (can_lead several members) ps ≡ Some p → can_lead several members p ≡ true) → can_lead several members p ≡ true
+            by_test true f m more = subst (λ (r : Place). can_lead several members r ≡ true) (same_Some q p m) f
+            by_test false f m more = more m
 
         by_place : (o : Option Place) → first_place (can_lead several members) all ≡ o → option_map (λ p. p.name) o ≡ Some l → leader (family l) ≡ Some l
         by_place None f k = absurd (none-some l k)
@@ -463,7 +328,7 @@ module _ (all : List Place) (new : NewTexts) where
         by_leader (Some l) e = ap (λ (b : Bool). cond (bytes_eq name l || b) (Some l) None) (alike l (leads_family (family name) l e))
 
     -- behind a place that is left
-    alike_behind : (seen other : List (List ℕ)) (q p : Place) → bare q ≡ bare p ⊎ ((t : List ℕ) × (bare q ≡ bare (record p { text = t }))) →
+    alike_behind : (seen other : List (List ℕ)) (q p : Place) → (bare q ≡ bare p) ⊎ ((t : List ℕ) × (bare q ≡ bare (record p { text = t }))) →
         SeenAlike seen other → SeenAlike (names_behind p seen) (names_behind q other)
     alike_behind seen other q p same alike l e = by_same same
       where
@@ -471,7 +336,7 @@ module _ (all : List Place) (new : NewTexts) where
         one n true = ap (λ (b : Bool). bytes_eq l n || b) (alike l e)
         one n false = alike l e
 
-        by_same : bare q ≡ bare p ⊎ ((t : List ℕ) × (bare q ≡ bare (record p { text = t }))) → is_seen (names_behind q other) l ≡ is_seen (names_behind p seen) l
+        by_same : (bare q ≡ bare p) ⊎ ((t : List ℕ) × (bare q ≡ bare (record p { text = t }))) → is_seen (names_behind q other) l ≡ is_seen (names_behind p seen) l
         by_same (inl k) = ap (λ (r : Place). is_seen (names_behind r other) l) k ∙ one p.name (p.depth == 0)
         by_same (inr k) = ap (λ (r : Place). is_seen (names_behind r other) l) k.1 ∙ one p.name (p.depth == 0)
 
@@ -556,6 +421,10 @@ module _ (all : List Place) (new : NewTexts) where
     both_members name q p (Some l) rs ps same h =
         both_under name (record q { name = l }) (record p { name = l }) rs ps (ap (λ (r : Place). record r { name = l }) same) h
 
+    -- those of these places that take part, behind these names
+    abbrev taking : List (List ℕ) → List Place → List Place
+    taking us ts = members_of (led_from several leader us ts)
+
     -- where the leader has no new text, the same places take part
     members_from : (name : List ℕ) → new name ≡ None → (seen other : List (List ℕ)) (ps rs : List Place) → SeenAlike seen other → LeftFrom seen ps rs →
         map bare (places_under name (members_of (led_from several leader other rs)))
@@ -566,20 +435,13 @@ module _ (all : List Place) (new : NewTexts) where
     members_from name none seen other (p ∷ ps) rs alike h =
         by_step h (λ us ts a k. members_from name none (names_behind p seen) us ps ts a k)
       where
-        abbrev taking : List (List ℕ) → List Place → List Place
-        taking us ts = members_of (led_from several leader us ts)
-
-        abbrev behind : List Place
-        behind = taking (names_behind p seen) ps
-
-        abbrev own : Option (List ℕ)
-        own = led_by several leader (is_seen seen) p.name
-
         by_step : LeftOf new (next_led seen p) rs (LeftFrom (names_behind p seen) ps) →
             ((us : List (List ℕ)) (ts : List Place) → SeenAlike (names_behind p seen) us → LeftFrom (names_behind p seen) ps ts →
-            map bare (places_under name (taking us ts)) ≡ map bare (places_under name behind)) →
-            map bare (places_under name (taking other rs)) ≡ map bare (places_under name (with_member p own behind))
+            map bare (places_under name (taking us ts)) ≡ map bare (places_under name (taking (names_behind p seen) ps))) →
+            map bare (places_under name (taking other rs)) ≡ map bare (places_under name (with_member p (led_by several leader (is_seen seen) p.name) (taking (names_behind p seen) ps)))
         by_step (stays q rest k same unled others) more =
+            let own = led_by several leader (is_seen seen) p.name in
+            let behind = taking (names_behind p seen) ps in
             let its : led_by several leader (is_seen other) q.name ≡ own =
             ap (λ (r : Place). led_by several leader (is_seen other) r.name) same ∙ led_alike seen other alike p.name in
             let left_behind = taking (names_behind q other) rest in
@@ -587,6 +449,8 @@ module _ (all : List Place) (new : NewTexts) where
             ∙ (ap (λ (o : Option (List ℕ)). map bare (places_under name (with_member q o left_behind))) its
             ∙ both_members name q p own left_behind behind same (more (names_behind q other) rest (alike_behind seen other q p (inl same) alike) others))
         by_step (becomes q rest text k same leads n others) more =
+            let own = led_by several leader (is_seen seen) p.name in
+            let behind = taking (names_behind p seen) ps in
             let its : led_by several leader (is_seen other) q.name ≡ Some p.name =
             ap (λ (r : Place). led_by several leader (is_seen other) r.name) same ∙ (led_alike seen other alike p.name ∙ leads) in
             let left_behind = taking (names_behind q other) rest in
@@ -595,7 +459,8 @@ module _ (all : List Place) (new : NewTexts) where
             ∙ (more (names_behind q other) rest (alike_behind seen other q p (inr (text, same)) alike) others
             ∙ ap (map bare) (sym (member_apart name none p own p.name text behind leads n))))
         by_step (gives l text leads n apart others) more =
-            more other rs (alike_without seen other p l leads apart alike) others ∙ ap (map bare) (sym (member_apart name none p own l text behind leads n))
+            more other rs (alike_without seen other p l leads apart alike) others
+            ∙ ap (map bare) (sym (member_apart name none p (led_by several leader (is_seen seen) p.name) l text (taking (names_behind p seen) ps) leads n))
 
     pub members_stay : (name : List ℕ) → new name ≡ None →
         map bare (places_under name (members qs)) ≡ map bare (places_under name (members all))
@@ -621,7 +486,7 @@ module _ (all : List Place) (new : NewTexts) where
             ]) more
 
     pub all_members_have : (name text : List ℕ) → new name ≡ Some text → HaveText text (places_under name (members qs))
-    all_members_have = members_have (led qs) all_kept
+    all_members_have = members_have (with_leaders qs) all_kept
 
     -- ---- they stay
 
@@ -629,10 +494,7 @@ module _ (all : List Place) (new : NewTexts) where
       kept_stays : (y : Led) (d : Document) → IsKept y → at_fate (led_fate more y).1 y.place d ≡ record { places = y.place ∷ d.places; last = d.last }
       kept_stays y d h = by_leader y.leader refl
         where
-          abbrev whole : Document
-          whole = record { places = y.place ∷ d.places; last = d.last }
-
-          by_new : (l : List ℕ) → y.leader ≡ Some l → (o : Option (List ℕ)) → more l ≡ o → at_fate (fate_under y.place.name l o) y.place d ≡ whole
+          by_new : (l : List ℕ) → y.leader ≡ Some l → (o : Option (List ℕ)) → more l ≡ o → at_fate (fate_under y.place.name l o) y.place d ≡ record { places = y.place ∷ d.places; last = d.last }
           by_new l e None f = refl
           by_new l e (Some text) f = elim (h l e) [
             | inl none ↦ absurd (none-some text (sym none ∙ inside l text f))
@@ -642,7 +504,7 @@ module _ (all : List Place) (new : NewTexts) where
                 ∙ ap (λ (t : List ℕ). record { places = record y.place { text = t } ∷ d.places; last = d.last }) same
           ]
 
-          by_leader : (o : Option (List ℕ)) → y.leader ≡ o → at_fate (fate_led more y.place.name o) y.place d ≡ whole
+          by_leader : (o : Option (List ℕ)) → y.leader ≡ o → at_fate (fate_led more y.place.name o) y.place d ≡ record { places = y.place ∷ d.places; last = d.last }
           by_leader None e = refl
           by_leader (Some l) e = by_new l e (more l) refl
 
@@ -662,7 +524,7 @@ module _ (all : List Place) (new : NewTexts) where
       -- a document whose families have one font each stays
       pub aliased_stays : aliased more (record { places = qs; last = last }) ≡ record { places = qs; last = last }
       aliased_stays =
-          all_stay (led qs) all_kept
+          all_stay (with_leaders qs) all_kept
           ∙ ap (λ (ps : List Place). record { places = ps; last = last }) (led_whole (has_several qs) (leader_in qs) [] qs)
 
     -- ---- pooled
@@ -698,7 +560,7 @@ module _ (all : List Place) (new : NewTexts) where
       pooled_left seen (p ∷ ps) rs h pooled have olds =
           by_step (left_next seen p ps rs h) (λ ts k a. pooled_left (names_behind p seen) ps ts k pooled.1 a olds.1)
         where
-          first : (q : Place) (rest : List Place) → bare q ≡ bare p ⊎ ((t : List ℕ) × (bare q ≡ bare (record p { text = t }))) → HaveAll (q ∷ rest) →
+          first : (q : Place) (rest : List Place) → (bare q ≡ bare p) ⊎ ((t : List ℕ) × (bare q ≡ bare (record p { text = t }))) → HaveAll (q ∷ rest) →
               LeftFrom (names_behind p seen) ps rest → (text : List ℕ) → fewer q.name ≡ Some text →
               (q.text ≡ text) × ((q.depth == 0) ≡ true → lacks_name q.name rest ≡ true)
           first q rest same all_here others text e = by_same same
@@ -712,7 +574,7 @@ module _ (all : List Place) (new : NewTexts) where
                   let none : lacks_name p.name ps ≡ true = (pooled.0 had.0 had.1).1 (ap (λ (k : ℕ). k == 0) (sym d) ∙ zero) in
                   lacks_left q.name (names_behind p seen) ps rest others (ap (λ (m : List ℕ). lacks_name m ps) n ∙ none)
 
-              by_same : bare q ≡ bare p ⊎ ((t : List ℕ) × (bare q ≡ bare (record p { text = t }))) →
+              by_same : (bare q ≡ bare p) ⊎ ((t : List ℕ) × (bare q ≡ bare (record p { text = t }))) →
                   (q.text ≡ text) × ((q.depth == 0) ≡ true → lacks_name q.name rest ≡ true)
               by_same (inl k) = (own, behind (ap (λ (r : Place). r.name) k) (ap (λ (r : Place). r.depth) k))
               by_same (inr k) = (own, behind (ap (λ (r : Place). r.name) k.1) (ap (λ (r : Place). r.depth) k.1))

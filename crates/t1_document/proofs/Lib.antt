@@ -30,5 +30,6 @@ pub mod AnyOrder
 pub mod AliasLines
 pub mod FamilyLoops
 pub mod Aliased
+pub mod SettledNames
 pub mod LeftPlaces
 pub mod AliasedAgain

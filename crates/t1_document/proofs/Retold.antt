@@ -1,5 +1,5 @@
 -- A document whose places become something else, by its stretches.
-use Rattle.std.proofs.Common.{◌≡◌, ℕ, Bool, true, false, cond, List, [], ◌∷◌, ◌++◌, Option, Some, None, refl, sym, ap, subst, ◌∙◌, ◌⊎◌, inl, inr, append_assoc}
+use Rattle.std.proofs.Common.{◌≡◌, ℕ, Bool, true, false, cond, List, [], ◌∷◌, ◌++◌, Option, Some, None, refl, sym, ap, subst, ◌∙◌, ◌⊎◌, inl, inr, append_assoc, arith}
 use Rattle.std.specs.Prelude.{◌==◌, ◌&&◌, ◌||◌, not}
 use Rattle.std.specs.Str.{bytes_eq}
 use Rattle.std.specs.Option.{option_map}
@@ -158,10 +158,22 @@ place_becomes o s next p text e h =
     ∙ (ap (option_map (placed o (record s { text = text ++ p.rest }))) (stands_font text p h)
     ∙ ap (λ (q : Place). Some (record { before = q.before; kind = q.kind; depth = q.depth; name = p.name; text = text; rest = p.rest })) (sym i.is))
 
--- no font text is a line that begins with `/`
+-- a text that begins with `/` doesn't begin with `%`
+pub slash_or_percent : (own inner : List ℕ) → 47 ∷ own ≡ 37 ∷ inner → ⊥
+slash_or_percent own inner e = omega (arith, heads 47 37 own inner e)
+  where
+    heads : (a b : ℕ) (xs ys : List ℕ) → a ∷ xs ≡ b ∷ ys → a ≡ b
+    heads a b xs ys k = cc
+
+-- so it begins with no font text
 no_font_in_line : (inner : List ℕ) → font_in (47 ∷ inner) ≡ None
-unfolding font_in font_shape
-no_font_in_line inner = refl
+no_font_in_line inner = by_font (font_in (47 ∷ inner)) refl
+  where
+    by_font : (o : Option FontText) → font_in (47 ∷ inner) ≡ o → o ≡ None
+    by_font None e = refl
+    by_font (Some f) e =
+        let stands = font_stands (47 ∷ inner) f e in
+        absurd (slash_or_percent inner (stands.inner ++ f.rest) (stands.whole ∙ ap (λ (t : List ℕ). t ++ f.rest) stands.starts))
 
 given_no_font : (bytes : List ℕ) → (bytes ≡ []) ⊎ IsLine bytes → font_in bytes ≡ None
 given_no_font bytes (inl e) = ap font_in e ∙ no_font

@@ -81,8 +81,8 @@ led_from several leader seen (p ∷ ps) =
     record { place = p; leader = led_by several leader (is_seen seen) p.name } ∷ led_from several leader (names_behind p seen) ps
 
 -- places, each with its leader
-abbrev pub led : List Place → List Led
-led ps = led_from (has_several ps) (leader_in ps) [] ps
+abbrev pub with_leaders : List Place → List Led
+with_leaders ps = led_from (has_several ps) (leader_in ps) [] ps
 
 -- before others, a place under the name of this leader
 abbrev pub with_member : Place → Option (List ℕ) → List Place → List Place
@@ -96,7 +96,7 @@ members_of (x ∷ xs) = with_member x.place x.leader (members_of xs)
 
 -- the places that take part, each under the name of its leader
 abbrev pub members : List Place → List Place
-members ps = members_of (led ps)
+members ps = members_of (with_leaders ps)
 
 -- ---- what becomes of them
 
@@ -120,4 +120,4 @@ led_fate new x = (x.place, fate_led new x.place.name x.leader)
 
 -- a document in which the families have the new texts of their leaders
 abbrev pub aliased : NewTexts → Document → Document
-aliased new d = fated (map (led_fate new) (led d.places)) d.last
+aliased new d = fated (map (led_fate new) (with_leaders d.places)) d.last

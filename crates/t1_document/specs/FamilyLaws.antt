@@ -8,7 +8,7 @@ use Rattle.t1_document.specs.Stretches.{stretches, mark_lines}
 use Rattle.t1_document.specs.Documents.{document_bytes, document_of}
 use Rattle.t1_document.specs.Rewriting.{fated_bytes}
 use Rattle.t1_document.specs.Joins.{Outcomes, AreOutcomes, places_under, new_texts, PooledBy}
-use Rattle.t1_document.specs.Families.{led, members, led_fate, aliased}
+use Rattle.t1_document.specs.Families.{with_leaders, members, led_fate, aliased}
 use Rattle.t1_document.specs.JoinLaws.{FontStaysIn}
 
 -- the outcomes are those of the families of a text, each under the name of its leader
@@ -37,7 +37,7 @@ AliasedMarksStay = (text : List ℕ) (outcomes : Outcomes) → AreOfFamilies tex
 abbrev pub AliasedOthersStay : Type 0
 AliasedOthersStay = (text : List ℕ) (outcomes : Outcomes) →
     document_bytes (aliased (new_texts outcomes) (document_of text))
-    ≡ fated_bytes (map (led_fate (new_texts outcomes)) (led (document_of text).places)) (document_of text).last
+    ≡ fated_bytes (map (led_fate (new_texts outcomes)) (with_leaders (document_of text).places)) (document_of text).last
 
 -- what the places of a leader get is read as a font in which the font of each place under that leader stays
 abbrev pub AliasesDraw : Type 0

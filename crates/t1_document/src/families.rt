@@ -7,7 +7,7 @@ ghost use Rattle.t1_document.specs.Rewriting.{fate_bytes, fated_bytes};
 ghost use Rattle.t1_document.specs.Joins.{new_texts};
 ghost use Rattle.t1_document.specs.Groups.{outcome_in};
 ghost use Rattle.t1_document.specs.Texts.{text_in, has_text, Sees};
-ghost use Rattle.t1_document.specs.Families.{family, first_text, differs, has_other, leader_by, led_by, names_behind, led_from, led, members_of, members, alias_line, fate_under, fate_led, led_fate, aliased};
+ghost use Rattle.t1_document.specs.Families.{family, first_text, differs, has_other, leader_by, led_by, names_behind, led_from, with_leaders, members_of, members, alias_line, fate_under, fate_led, led_fate, aliased};
 ghost use Rattle.t1_document.specs.Views.{place_view, document_view, led_view};
 
 use crate::documents::{Document, Place};
@@ -155,8 +155,8 @@ fn led_places<'a>(
 }
 
 /// Places, each with its leader.
-fn led<'a>(alloc: Global, places: &[Place<'a>]) -> Result<Vec<Led<'a>>, AllocError>
-    ensures { IfOk result (λ v. map led_view v.items ≡ led (map place_view places.now)) }
+fn with_leaders<'a>(alloc: Global, places: &[Place<'a>]) -> Result<Vec<Led<'a>>, AllocError>
+    ensures { IfOk result (λ v. map led_view v.items ≡ with_leaders (map place_view places.now)) }
 {
     let first = first_texts(alloc, places)?;
     let several = others(alloc, &first, places)?;
@@ -193,7 +193,7 @@ fn led_members<'a>(alloc: Global, leds: &[Led<'a>]) -> Result<Vec<Place<'a>>, Al
 pub fn members_of<'a>(alloc: Global, places: &[Place<'a>]) -> Result<Vec<Place<'a>>, AllocError>
     ensures { IfOk result (λ v. map place_view v.items ≡ members (map place_view places.now)) }
 {
-    let leds = led(alloc, places)?;
+    let leds = with_leaders(alloc, places)?;
     led_members(alloc, leds.as_slice())
 }
 
@@ -270,7 +270,7 @@ impl<'a> Document<'a> {
         ensures { IfOk result (λ v. v.items
             ≡ document_bytes (aliased (new_texts (outcome_in joins.now)) (document_view self.now))) }
     {
-        let leds = led(alloc, self.places.as_slice())?;
+        let leds = with_leaders(alloc, self.places.as_slice())?;
         write(alloc, leds.as_slice(), self.last, joins)
     }
 }
