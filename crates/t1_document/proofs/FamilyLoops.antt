@@ -13,7 +13,7 @@ use Rattle.t1_document.specs.declared.texts.Texts.{Texts}
 use Rattle.t1_document.specs.Documents.{Place}
 use Rattle.t1_document.specs.Rewriting.{NewTexts, is_seen, fate_bytes, fated_bytes}
 use Rattle.t1_document.specs.Texts.{text_in, has_text, Sees}
-use Rattle.t1_document.specs.Families.{Led, first_place, led_by, names_behind, led_from, led_fate}
+use Rattle.t1_document.specs.Families.{Led, first_place, first_text, has_other, has_several, leader_by, leader_in, led_by, names_behind, led_from, with_leaders, led_fate}
 use Rattle.t1_document.specs.Views.{place_view, led_view}
 
 -- ---- the first places that pass a test
@@ -63,6 +63,11 @@ lent_something : (o : Option (Bor (List ℕ))) (b : Bool) → is_some o ≡ not 
 lent_something None b e f = absurd (true≢false (sym (e ∙ ap not f)))
 lent_something (Some x) b e f = refl
 
+-- a text that was put under a name was put under one that is the same
+pub put_under : (t u : Texts) (name other text : List ℕ) → name ≡ other →
+    ((k : List ℕ) → text_in u k ≡ cond (bytes_eq name k) (Some text) (text_in t k)) → (k : List ℕ) → text_in u k ≡ cond (bytes_eq other k) (Some text) (text_in t k)
+put_under t u name other text is put k = put k ∙ ap (λ (n : List ℕ). cond (bytes_eq n k) (Some text) (text_in t k)) is
+
 module _ (test : Place → Bool) (key value : Place → List ℕ) where
   -- so many places have put their values
   abbrev pub Firsts : List CodePlace → ℕ → Texts → Type 0
@@ -98,6 +103,13 @@ module _ (test : Place → Bool) (key value : Place → List ℕ) where
         let parts = and_parts (test next) (bytes_eq (key next) k) both in
         ap (λ (n : List ℕ). is_some (text_in t n)) (sym ((bytes_eq-Decides (key next) k).0 parts.1))
         ∙ (ap is_some (sym got) ∙ lent_something o b none (fails parts.0)))
+        ∙ sym (one_more k)
+
+    -- nor does one that fails
+    pub first_fails : test next ≡ false → Firsts ps (i + 1) t
+    first_fails fails k =
+        kept_first (test next && bytes_eq (key next) k) (text_in t k) (value next) (λ both.
+        absurd (true≢false (sym (and_parts (test next) (bytes_eq (key next) k) both).0 ∙ fails)))
         ∙ sym (one_more k)
 
   -- in texts that are the same
@@ -176,3 +188,17 @@ module _ (new : NewTexts) (last : List ℕ) where
       let all : wrote ++ behind ≡ out ++ (x.place.before.now ++ (own ++ behind)) =
       ap (λ (t : List ℕ). t ++ behind) (back ∙ ap (λ (t : List ℕ). t ++ own) front) ∙ simp append_assoc in
       all ∙ (ap (λ (t : List ℕ). out ++ t) (sym (at_drop_more bytes_left xs i d lt)) ∙ w)
+
+-- ---- all of it
+
+-- the texts that were gathered are those of the definition
+pub led_so : (ps : List Place) (first several leaders : Texts) → ((name : List ℕ) → text_in first name ≡ first_text ps name) →
+    ((name : List ℕ) → has_text several name ≡ has_other (text_in first) ps name) →
+    ((name : List ℕ) → text_in leaders name ≡ leader_by (has_text several) ps name) →
+    led_from (has_text several) (text_in leaders) [] ps ≡ with_leaders ps
+led_so ps first several leaders f s l =
+    let same_first : text_in first ≡ first_text ps = λ i name. f name i in
+    let same_several : has_text several ≡ has_several ps = λ i name. (s name ∙ ap (λ (t : NewTexts). has_other t ps name) same_first) i in
+    let same_leaders : text_in leaders ≡ leader_in ps = λ i name. (l name ∙ ap (λ (t : List ℕ → Bool). leader_by t ps name) same_several) i in
+    ap (λ (t : List ℕ → Bool). led_from t (text_in leaders) [] ps) same_several
+    ∙ ap (λ (t : List ℕ → Option (List ℕ)). led_from (has_several ps) t [] ps) same_leaders
