@@ -11,7 +11,7 @@ use Rattle.t1_font.specs.Rewriting.{parted}
 use Rattle.t1_font.specs.Tags.{name_marker, name_in}
 use Rattle.t1_document.specs.declared.marks.Mark.{Mark}
 use Rattle.t1_document.specs.Lines.{closes, lf_comes, ends_line, into_first, lines_of}
-use Rattle.t1_document.specs.Marks.{mark_of, has_mark}
+use Rattle.t1_document.specs.Marks.{mark_of}
 use Rattle.t1_document.specs.Documents.{Place, document_of}
 use Rattle.t1_document.specs.Laws.{Spells}
 use Rattle.t1_document.specs.Families.{alias_line}

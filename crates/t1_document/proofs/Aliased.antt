@@ -1,6 +1,6 @@
 -- The laws of documents whose families have one font each.
-use Rattle.std.proofs.Common.{◌≡◌, ℕ, Bool, true, false, cond, refl, sym, ◌∙◌, ap, subst, List, [], ◌∷◌, map, inl, inr, Option, Some, None}
-use Rattle.std.specs.Prelude.{◌&&◌, ◌||◌, ◌==◌, not}
+use Rattle.std.proofs.Common.{◌≡◌, ℕ, Bool, true, false, cond, refl, sym, ◌∙◌, ap, subst, List, [], ◌∷◌, map, inr, Option, Some, None}
+use Rattle.std.specs.Prelude.{◌||◌}
 use Rattle.std.specs.List.{AllByRecursion}
 use Rattle.std.specs.Option.{option_and_then, option_map}
 use Rattle.std.specs.Str.{bytes_eq}
@@ -9,8 +9,8 @@ use Rattle.std.proofs.lemmas.Slice.Eq.{bytes_eq-Decides}
 use Rattle.t1_bytes.specs.Laws.{AreBytes}
 use Rattle.t1_document.specs.Stretches.{stretches, mark_lines}
 use Rattle.t1_document.specs.Documents.{Place, Document, document_bytes, document_of}
-use Rattle.t1_document.specs.Rewriting.{NewTexts, can_stand, is_seen, Fate, Stays, Becomes, Gives, fated}
-use Rattle.t1_document.specs.Joins.{Outcomes, AreOutcomes, new_texts, places_under, PooledBy}
+use Rattle.t1_document.specs.Rewriting.{NewTexts, is_seen, Fate, Becomes, Gives}
+use Rattle.t1_document.specs.Joins.{Outcomes, new_texts, places_under}
 use Rattle.t1_document.specs.Families.{family, first_place, has_several, can_lead, leader_by, leader_in, if_leads, led_by, Led, names_behind, led_from, with_leaders, with_member, members_of, members, alias_line, fate_under, fate_led, led_fate, aliased}
 use Rattle.t1_document.specs.FamilyLaws.{AreOfFamilies, AliasedBy, AliasedIsRead, AliasedMarksStay, AliasedOthersStay, AliasesDraw, OneAliased, OneByFamilies}
 use Rattle.t1_document.proofs.Retold.{Fits, fated_by, AllFit}

@@ -1,16 +1,15 @@
 -- What was pooled by families is pooled so to itself.
 use Rattle.std.proofs.Common.{◌≡◌, ℕ, Bool, true, false, refl, sym, ◌∙◌, ap, subst, List, [], ◌∷◌, map, inl, inr, Option, Some, None}
-use Rattle.std.specs.List.{AllByRecursion, list_all}
+use Rattle.std.specs.List.{AllByRecursion}
 use Rattle.std.specs.Option.{option_and_then}
-use Rattle.std.specs.Str.{bytes_eq}
-use Rattle.std.proofs.lemmas.Bool.{cases_Bool, true≢false}
+use Rattle.std.proofs.lemmas.Bool.{cases_Bool}
 use Rattle.std.proofs.lemmas.Option.{none-some}
 use Rattle.t1_document.specs.declared.rewriting.Way.TheVariants.{Pool}
 use Rattle.t1_document.specs.declared.joins.Outcome.{Outcome}
 use Rattle.t1_document.specs.Documents.{Place, Document, document_bytes, document_of}
 use Rattle.t1_document.specs.Rewriting.{NewTexts, is_refused, standing, rewritten, ArePooled}
-use Rattle.t1_document.specs.Joins.{Outcomes, AreOutcomes, places_under, new_texts, text_of, ComeTo, OfPlaces, PooledBy}
-use Rattle.t1_document.specs.Families.{has_several, leader_in, with_leaders, led_fate, members, aliased}
+use Rattle.t1_document.specs.Joins.{Outcomes, AreOutcomes, places_under, new_texts, text_of, ComeTo, OfPlaces}
+use Rattle.t1_document.specs.Families.{has_several, with_leaders, members, aliased}
 use Rattle.t1_document.specs.FamilyLaws.{AliasedBy, FamiliesAgain}
 use Rattle.t1_document.proofs.PlaceLemmas.{document_text}
 use Rattle.t1_document.proofs.Rewritten.{where_stands}

@@ -14,7 +14,7 @@ use Rattle.t1_document.specs.declared.documents.Place.{Place as CodePlace}
 use Rattle.t1_document.specs.declared.texts.Texts.{Texts}
 use Rattle.t1_document.specs.declared.rewriting.Way.{Way}
 use Rattle.t1_document.specs.Documents.{Place}
-use Rattle.t1_document.specs.Rewriting.{NewTexts, is_barred, is_refused, standing, is_seen, Fate, fate_by, fate_of, fate_bytes, seen_behind, written_from}
+use Rattle.t1_document.specs.Rewriting.{NewTexts, is_refused, standing, is_seen, Fate, fate_by, fate_of, fate_bytes, seen_behind, written_from}
 use Rattle.t1_document.specs.Texts.{text_in, has_text, Sees}
 use Rattle.t1_document.specs.Views.{place_view}
 

@@ -1,5 +1,5 @@
 -- The laws of families of names, each the contract of a function in `laws`.
-use Rattle.std.specs.Prelude.{◌≡◌, ℕ, List, map, Option, Some, Ok}
+use Rattle.std.specs.Prelude.{◌≡◌, ℕ, List, map, Some, Ok}
 use Rattle.std.specs.List.{AllByRecursion}
 use Rattle.t1_bytes.specs.Laws.{AreBytes}
 use Rattle.t1_font.specs.FontValue.{FontValue}
