@@ -239,11 +239,7 @@ fn pool(alloc: Global, tags: bool, documents: &[&[u8]]) -> Result<Pooled, Reason
 ///
 /// [`Reason::TooLong`] with the place of the first document that is over the file limit, and without a place if all together are;
 /// [`Reason::Memory`] if a growth was refused.
-pub fn pool_files(
-    alloc: Global,
-    tags: bool,
-    documents: &[&[u8]],
-) -> Result<Pooled, FilesRefusal>
+pub fn pool_files(alloc: Global, tags: bool, documents: &[&[u8]]) -> Result<Pooled, FilesRefusal>
     ensures text { IfOk result (λ p. OfFiles text_input (PoolsTo tags) (lent documents.now) (Ok p.text.items)) }
     ensures kept { IfOk result (λ p. TellsPooled tags (one_text (lent documents.now)) p.kept.items) }
     ensures refused { IfErr result (RefusesFiles text_input (PoolsTo tags) (lent documents.now)) }

@@ -11,7 +11,8 @@ use Rattle.t1_document.specs.Stretches.{stretches, mark_lines}
 use Rattle.t1_document.specs.Documents.{Place, Document, document_bytes, document_of}
 use Rattle.t1_document.specs.Rewriting.{NewTexts, is_seen, Fate, Becomes, Gives}
 use Rattle.t1_document.specs.Joins.{Outcomes, new_texts, places_under}
-use Rattle.t1_document.specs.Families.{family, first_place, has_several, can_lead, leader_by, leader_in, if_leads, led_by, Led, names_behind, led_from, with_leaders, with_member, members_of, members, alias_line, fate_under, fate_led, led_fate, aliased}
+use Rattle.t1_document.specs.Families.{family, first_place, has_several, can_lead, leader_by, leader_in, if_leads, led_by, Led, names_behind}
+use Rattle.t1_document.specs.Families.{led_from, with_leaders, with_member, members_of, members, alias_line, fate_under, fate_led, led_fate, aliased}
 use Rattle.t1_document.specs.FamilyLaws.{AreOfFamilies, AliasedBy, AliasedIsRead, AliasedMarksStay, AliasedOthersStay, AliasesDraw, OneAliased, OneByFamilies}
 use Rattle.t1_document.proofs.Retold.{Fits, fated_by, AllFit}
 use Rattle.t1_document.proofs.Rewritten.{document_is, lines_stay, fated_is, fated_written}

@@ -19,7 +19,8 @@ use Rattle.t1_document.proofs.Bare.{to_bare}
 use Rattle.t1_document.proofs.Again.{HaveText, have_same, one_had, among, from_names, pooled_have, pooled_by_fewer, WerePooled, were_pooled, pooled_keeps}
 use Rattle.t1_document.proofs.Aliased.{aliased_is_read}
 use Rattle.t1_document.proofs.SettledNames.{text_bare, settled_have, have_settled}
-use Rattle.t1_document.proofs.LeftPlaces.{LeftFrom, left_of, settled_left, several_left, members_stay, all_members_have, aliased_stays, HaveAll, all_pooled}
+use Rattle.t1_document.proofs.LeftPlaces.{LeftFrom, left_of, settled_left, several_left, members_stay, all_members_have, aliased_stays}
+use Rattle.t1_document.proofs.LeftPooled.{HaveAll, all_pooled}
 
 -- places of one text get it
 gets_own : (name text : List ℕ) (p : Place) (ps : List Place) → HaveText text (p ∷ ps) → (o : Option Outcome) → ComeTo name (p ∷ ps) o →
@@ -72,7 +73,7 @@ module _ (old all qs : List Place) (a : Outcomes) (are_old : AreOutcomes old a) 
           absurd (none-some text (sym f ∙ (sym is ∙ e)))
 
   -- and its places have the text that it gets
-  gets_have : HaveAll all new qs left got gets qs
+  gets_have : HaveAll gets qs
   gets_have name text e =
       let s = gets_settled name text e in
       let had = settled_have all name s in
@@ -104,7 +105,7 @@ module _ (old all qs : List Place) (a : Outcomes) (are_old : AreOutcomes old a) 
 
   -- so the places that are left are pooled
   left_pooled : ArePooled gets qs
-  left_pooled = all_pooled all new qs left got gets were.pooled gets_have got_too
+  left_pooled = all_pooled all new got gets qs left were.pooled gets_have got_too
 
 pub families_again : FamiliesAgain
 families_again text a b (before, before_by, first) (between, between_by, second) =

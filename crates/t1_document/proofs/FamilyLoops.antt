@@ -65,7 +65,8 @@ lent_something (Some x) b e f = refl
 
 -- a text that was put under a name was put under one that is the same
 pub put_under : (t u : Texts) (name other text : List ℕ) → name ≡ other →
-    ((k : List ℕ) → text_in u k ≡ cond (bytes_eq name k) (Some text) (text_in t k)) → (k : List ℕ) → text_in u k ≡ cond (bytes_eq other k) (Some text) (text_in t k)
+    ((k : List ℕ) → text_in u k ≡ cond (bytes_eq name k) (Some text) (text_in t k)) →
+    (k : List ℕ) → text_in u k ≡ cond (bytes_eq other k) (Some text) (text_in t k)
 put_under t u name other text is put k = put k ∙ ap (λ (n : List ℕ). cond (bytes_eq n k) (Some text) (text_in t k)) is
 
 module _ (test : Place → Bool) (key value : Place → List ℕ) where

@@ -10,7 +10,8 @@ use Rattle.std.proofs.lemmas.Slice.Eq.{bytes_eq-Decides}
 use Rattle.t1_document.specs.Documents.{Place, Document, behind_bytes}
 use Rattle.t1_document.specs.Rewriting.{NewTexts, is_seen, Becomes, Gives, at_fate, fated, lacks_name, ArePooled}
 use Rattle.t1_document.specs.Joins.{places_under}
-use Rattle.t1_document.specs.Families.{family, first_place, has_several, can_lead, leader_by, leader_in, if_leads, led_by, Led, names_behind, led_from, with_leaders, with_member, members_of, members, aliased, alias_line, fate_under, fate_led, led_fate}
+use Rattle.t1_document.specs.Families.{family, first_place, has_several, can_lead, leader_by, leader_in, if_leads, led_by, Led, names_behind}
+use Rattle.t1_document.specs.Families.{led_from, with_leaders, with_member, members_of, members, aliased, alias_line, fate_under, fate_led, led_fate}
 use Rattle.t1_document.proofs.SettledNames.{skipped, both_under, text_under, text_over, text_bare, settled_have, have_settled}
 use Rattle.t1_document.proofs.Rewritten.{same_bytes}
 use Rattle.t1_document.proofs.Pooled.{bare, other_text, not_named, not_lacked}
@@ -44,9 +45,11 @@ left_behind : (new : NewTexts) (xs : List Led) (b : List ℕ) (qs : List Place) 
 left_behind new xs b [] last h = h
 left_behind new [] b (q ∷ qs) last h = absurd cc
 left_behind new (x ∷ xs) b (q ∷ qs) last (stays p rest e same unled others) =
-    stays (record q { before = b ++ q.before }) qs refl (ap bare (first_of_same q p qs rest e) ∙ same) unled (subst (Left new xs) (sym (rest_of_same q p qs rest e)) others)
+    stays (record q { before = b ++ q.before }) qs refl (ap bare (first_of_same q p qs rest e) ∙ same) unled
+    (subst (Left new xs) (sym (rest_of_same q p qs rest e)) others)
 left_behind new (x ∷ xs) b (q ∷ qs) last (becomes p rest text e same leads n others) =
-    becomes (record q { before = b ++ q.before }) qs text refl (ap bare (first_of_same q p qs rest e) ∙ same) leads n (subst (Left new xs) (sym (rest_of_same q p qs rest e)) others)
+    becomes (record q { before = b ++ q.before }) qs text refl (ap bare (first_of_same q p qs rest e) ∙ same) leads n
+    (subst (Left new xs) (sym (rest_of_same q p qs rest e)) others)
 left_behind new (x ∷ xs) b (q ∷ qs) last (gives l text leads n apart others) = gives l text leads n apart (left_behind new xs b (q ∷ qs) last others)
 
 -- the places of the document that is written are these
@@ -69,7 +72,8 @@ left_of new (x ∷ xs) last = by_leader (fated (map (led_fate new) xs) last) x.l
         stays x.place d.places refl refl (λ m k. ap new (sym (same_Some l m (sym e ∙ k))) ∙ f) others
     by_new d l e (Some text) f others = by_name d l text e f (bytes_eq x.place.name l) refl others
 
-    by_leader : (d : Document) (o : Option (List ℕ)) → x.leader ≡ o → Left new xs d.places → Left new (x ∷ xs) (at_fate (fate_led new x.place.name o) x.place d).places
+    by_leader : (d : Document) (o : Option (List ℕ)) → x.leader ≡ o → Left new xs d.places →
+        Left new (x ∷ xs) (at_fate (fate_led new x.place.name o) x.place d).places
     by_leader d None e others = stays x.place d.places refl refl (λ m k. absurd (none-some m (sym e ∙ k))) others
     by_leader d (Some l) e others = by_new d l e (new l) refl others
 
@@ -104,16 +108,16 @@ module _ (all : List Place) (new : NewTexts) where
   LeftFrom seen ps qs = Left new (led_from several leader seen ps) qs
 
   -- the next place with its leader
-  abbrev next_led : List (List ℕ) → Place → Led
+  abbrev pub next_led : List (List ℕ) → Place → Led
   next_led seen p = record { place = p; leader = led_by several leader (is_seen seen) p.name }
 
   -- what is left of the next place, and of others
-  left_next : (seen : List (List ℕ)) (p : Place) (ps qs : List Place) → LeftFrom seen (p ∷ ps) qs →
+  pub left_next : (seen : List (List ℕ)) (p : Place) (ps qs : List Place) → LeftFrom seen (p ∷ ps) qs →
       LeftOf new (next_led seen p) qs (LeftFrom (names_behind p seen) ps)
   unfolding led_from
   left_next seen p ps qs h = h
 
-  left_none : (seen : List (List ℕ)) (qs : List Place) → LeftFrom seen [] qs → qs ≡ []
+  pub left_none : (seen : List (List ℕ)) (qs : List Place) → LeftFrom seen [] qs → qs ≡ []
   unfolding led_from
   left_none seen qs h = h
 
@@ -336,7 +340,8 @@ module _ (all : List Place) (new : NewTexts) where
         one n true = ap (λ (b : Bool). bytes_eq l n || b) (alike l e)
         one n false = alike l e
 
-        by_same : (bare q ≡ bare p) ⊎ ((t : List ℕ) × (bare q ≡ bare (record p { text = t }))) → is_seen (names_behind q other) l ≡ is_seen (names_behind p seen) l
+        by_same : (bare q ≡ bare p) ⊎ ((t : List ℕ) × (bare q ≡ bare (record p { text = t }))) →
+            is_seen (names_behind q other) l ≡ is_seen (names_behind p seen) l
         by_same (inl k) = ap (λ (r : Place). is_seen (names_behind r other) l) k ∙ one p.name (p.depth == 0)
         by_same (inr k) = ap (λ (r : Place). is_seen (names_behind r other) l) k.1 ∙ one p.name (p.depth == 0)
 
@@ -377,21 +382,21 @@ module _ (all : List Place) (new : NewTexts) where
         by_step (stays q rest k same unled others) more =
             subst (λ (ts : List Place). AllByRecursion IsKept (led_from several leader other ts)) (sym k) (
               (λ l e.
-              let led : led_by several leader (is_seen seen) p.name ≡ Some l =
-              sym (led_alike seen other alike p.name) ∙ (ap (λ (r : Place). led_by several leader (is_seen other) r.name) (sym same) ∙ e) in
-              inl (unled l led)),
+                  let led : led_by several leader (is_seen seen) p.name ≡ Some l =
+                  sym (led_alike seen other alike p.name) ∙ (ap (λ (r : Place). led_by several leader (is_seen other) r.name) (sym same) ∙ e) in
+                  inl (unled l led)),
               more (names_behind q other) rest (alike_behind seen other q p (inl same) alike) others,
             )
         by_step (becomes q rest text k same leads n others) more =
             subst (λ (ts : List Place). AllByRecursion IsKept (led_from several leader other ts)) (sym k) (
               (λ l e.
-              let led : led_by several leader (is_seen seen) p.name ≡ Some l =
-              sym (led_alike seen other alike p.name) ∙ (ap (λ (r : Place). led_by several leader (is_seen other) r.name) (sym same) ∙ e) in
-              let is : p.name ≡ l = same_Some p.name l (sym leads ∙ led) in
-              inr (
-                ap (λ (r : Place). r.name) same ∙ is,
-                ap new (sym is) ∙ (n ∙ ap (λ (r : Place). Some r.text) (sym same)),
-              )),
+                  let led : led_by several leader (is_seen seen) p.name ≡ Some l =
+                  sym (led_alike seen other alike p.name) ∙ (ap (λ (r : Place). led_by several leader (is_seen other) r.name) (sym same) ∙ e) in
+                  let is : p.name ≡ l = same_Some p.name l (sym leads ∙ led) in
+                  inr (
+                    ap (λ (r : Place). r.name) same ∙ is,
+                    ap new (sym is) ∙ (n ∙ ap (λ (r : Place). Some r.text) (sym same)),
+                  )),
               more (names_behind q other) rest (alike_behind seen other q p (inr (text, same)) alike) others,
             )
         by_step (gives l text leads n apart others) more =
@@ -438,7 +443,8 @@ module _ (all : List Place) (new : NewTexts) where
         by_step : LeftOf new (next_led seen p) rs (LeftFrom (names_behind p seen) ps) →
             ((us : List (List ℕ)) (ts : List Place) → SeenAlike (names_behind p seen) us → LeftFrom (names_behind p seen) ps ts →
             map bare (places_under name (taking us ts)) ≡ map bare (places_under name (taking (names_behind p seen) ps))) →
-            map bare (places_under name (taking other rs)) ≡ map bare (places_under name (with_member p (led_by several leader (is_seen seen) p.name) (taking (names_behind p seen) ps)))
+            map bare (places_under name (taking other rs))
+            ≡ map bare (places_under name (with_member p (led_by several leader (is_seen seen) p.name) (taking (names_behind p seen) ps)))
         by_step (stays q rest k same unled others) more =
             let own = led_by several leader (is_seen seen) p.name in
             let behind = taking (names_behind p seen) ps in
@@ -494,7 +500,8 @@ module _ (all : List Place) (new : NewTexts) where
       kept_stays : (y : Led) (d : Document) → IsKept y → at_fate (led_fate more y).1 y.place d ≡ record { places = y.place ∷ d.places; last = d.last }
       kept_stays y d h = by_leader y.leader refl
         where
-          by_new : (l : List ℕ) → y.leader ≡ Some l → (o : Option (List ℕ)) → more l ≡ o → at_fate (fate_under y.place.name l o) y.place d ≡ record { places = y.place ∷ d.places; last = d.last }
+          by_new : (l : List ℕ) → y.leader ≡ Some l → (o : Option (List ℕ)) → more l ≡ o →
+              at_fate (fate_under y.place.name l o) y.place d ≡ record { places = y.place ∷ d.places; last = d.last }
           by_new l e None f = refl
           by_new l e (Some text) f = elim (h l e) [
             | inl none ↦ absurd (none-some text (sym none ∙ inside l text f))
@@ -504,7 +511,8 @@ module _ (all : List Place) (new : NewTexts) where
                 ∙ ap (λ (t : List ℕ). record { places = record y.place { text = t } ∷ d.places; last = d.last }) same
           ]
 
-          by_leader : (o : Option (List ℕ)) → y.leader ≡ o → at_fate (fate_led more y.place.name o) y.place d ≡ record { places = y.place ∷ d.places; last = d.last }
+          by_leader : (o : Option (List ℕ)) → y.leader ≡ o →
+              at_fate (fate_led more y.place.name o) y.place d ≡ record { places = y.place ∷ d.places; last = d.last }
           by_leader None e = refl
           by_leader (Some l) e = by_new l e (more l) refl
 
@@ -526,69 +534,3 @@ module _ (all : List Place) (new : NewTexts) where
       aliased_stays =
           all_stay (with_leaders qs) all_kept
           ∙ ap (λ (ps : List Place). record { places = ps; last = last }) (led_whole (has_several qs) (leader_in qs) [] qs)
-
-    -- ---- pooled
-
-    -- what no place has, none that is left has
-    lacks_left : (name : List ℕ) (seen : List (List ℕ)) (ps rs : List Place) → LeftFrom seen ps rs → lacks_name name ps ≡ true → lacks_name name rs ≡ true
-    lacks_left name seen [] rs h none = ap (lacks_name name) (left_none seen rs h)
-    lacks_left name seen (p ∷ ps) rs h none =
-        by_step (left_next seen p ps rs h) (λ ts k. lacks_left name (names_behind p seen) ps ts k (not_lacked name p ps none).1)
-      where
-        by_step : LeftOf new (next_led seen p) rs (LeftFrom (names_behind p seen) ps) →
-            ((ts : List Place) → LeftFrom (names_behind p seen) ps ts → lacks_name name ts ≡ true) → lacks_name name rs ≡ true
-        by_step (stays q rest k same unled others) more =
-            ap (lacks_name name) k
-            ∙ not_named name q rest (ap (λ (r : Place). bytes_eq name r.name) same ∙ (not_lacked name p ps none).0) (more rest others)
-        by_step (becomes q rest text k same leads n others) more =
-            ap (lacks_name name) k
-            ∙ not_named name q rest (ap (λ (r : Place). bytes_eq name r.name) same ∙ (not_lacked name p ps none).0) (more rest others)
-        by_step (gives l text leads n apart others) more = more rs others
-
-    module _ (old fewer : NewTexts) where
-      -- each place of a name with a text has it
-      abbrev pub HaveAll : List Place → Type 0
-      HaveAll rs = (name text : List ℕ) → fewer name ≡ Some text → HaveText text (places_under name rs)
-
-      have_rest : (q : Place) (rs : List Place) → HaveAll (q ∷ rs) → HaveAll rs
-      have_rest q rs h name text e = (text_over text name q rs (h name text e)).1
-
-      -- so where the places were pooled, those that are left are
-      pooled_left : (seen : List (List ℕ)) (ps rs : List Place) → LeftFrom seen ps rs → ArePooled old ps → HaveAll rs →
-          AllByRecursion (λ p. (text : List ℕ) → fewer p.name ≡ Some text → (t : List ℕ) × (old p.name ≡ Some t)) ps → ArePooled fewer rs
-      pooled_left seen [] rs h pooled have olds = subst (ArePooled fewer) (sym (left_none seen rs h)) tt
-      pooled_left seen (p ∷ ps) rs h pooled have olds =
-          by_step (left_next seen p ps rs h) (λ ts k a. pooled_left (names_behind p seen) ps ts k pooled.1 a olds.1)
-        where
-          first : (q : Place) (rest : List Place) → (bare q ≡ bare p) ⊎ ((t : List ℕ) × (bare q ≡ bare (record p { text = t }))) → HaveAll (q ∷ rest) →
-              LeftFrom (names_behind p seen) ps rest → (text : List ℕ) → fewer q.name ≡ Some text →
-              (q.text ≡ text) × ((q.depth == 0) ≡ true → lacks_name q.name rest ≡ true)
-          first q rest same all_here others text e = by_same same
-            where
-              own : q.text ≡ text
-              own = (text_over text q.name q rest (all_here q.name text e)).0 (same_bytes q.name)
-
-              behind : (q.name ≡ p.name) → (q.depth ≡ p.depth) → (q.depth == 0) ≡ true → lacks_name q.name rest ≡ true
-              behind n d zero =
-                  let had = olds.0 text (ap fewer (sym n) ∙ e) in
-                  let none : lacks_name p.name ps ≡ true = (pooled.0 had.0 had.1).1 (ap (λ (k : ℕ). k == 0) (sym d) ∙ zero) in
-                  lacks_left q.name (names_behind p seen) ps rest others (ap (λ (m : List ℕ). lacks_name m ps) n ∙ none)
-
-              by_same : (bare q ≡ bare p) ⊎ ((t : List ℕ) × (bare q ≡ bare (record p { text = t }))) →
-                  (q.text ≡ text) × ((q.depth == 0) ≡ true → lacks_name q.name rest ≡ true)
-              by_same (inl k) = (own, behind (ap (λ (r : Place). r.name) k) (ap (λ (r : Place). r.depth) k))
-              by_same (inr k) = (own, behind (ap (λ (r : Place). r.name) k.1) (ap (λ (r : Place). r.depth) k.1))
-
-          by_step : LeftOf new (next_led seen p) rs (LeftFrom (names_behind p seen) ps) →
-              ((ts : List Place) → LeftFrom (names_behind p seen) ps ts → HaveAll ts → ArePooled fewer ts) → ArePooled fewer rs
-          by_step (stays q rest k same unled others) more =
-              let here : HaveAll (q ∷ rest) = subst HaveAll k have in
-              subst (ArePooled fewer) (sym k) (first q rest (inl same) here others, more rest others (have_rest q rest here))
-          by_step (becomes q rest text k same leads n others) more =
-              let here : HaveAll (q ∷ rest) = subst HaveAll k have in
-              subst (ArePooled fewer) (sym k) (first q rest (inr (text, same)) here others, more rest others (have_rest q rest here))
-          by_step (gives l text leads n apart others) more = more rs others have
-
-      pub all_pooled : ArePooled old all → HaveAll qs →
-          AllByRecursion (λ p. (text : List ℕ) → fewer p.name ≡ Some text → (t : List ℕ) × (old p.name ≡ Some t)) all → ArePooled fewer qs
-      all_pooled = pooled_left [] all qs left

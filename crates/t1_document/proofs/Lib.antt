@@ -32,4 +32,5 @@ pub mod FamilyLoops
 pub mod Aliased
 pub mod SettledNames
 pub mod LeftPlaces
+pub mod LeftPooled
 pub mod AliasedAgain

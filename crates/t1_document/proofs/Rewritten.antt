@@ -65,7 +65,8 @@ module _ (fs : List Fate) (text : List ℕ) where
   abbrev written_stretches : Stretches
   written_stretches = ((stretches text).0, retold none_open fs (stretches text).1)
 
-  document_written : AllFit fs (document_of text).places → fated_by fs (document_of text).places (document_of text).last ≡ document_of_stretches written_stretches
+  document_written : AllFit fs (document_of text).places → fated_by fs (document_of text).places (document_of text).last
+      ≡ document_of_stretches written_stretches
   unfolding document_of
   document_written all =
       let x = stretches text in

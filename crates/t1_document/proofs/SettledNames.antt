@@ -89,13 +89,20 @@ pub settled_have : (ps : List Place) (name : List ℕ) → has_several ps name �
 settled_have ps name h = by_first (first_text ps name) refl
   where
     by_first : (o : Option (List ℕ)) → first_text ps name ≡ o → (text : List ℕ) × HaveText text (places_under name ps)
-    by_first None e = ([], same_have (first_text ps) name [] (λ p same k.
-        absurd (true≢false (sym (ap (λ (o : Option (List ℕ)). not (is_text o p.text)) (ap (first_text ps) ((bytes_eq-Decides p.name name).0 same) ∙ e)) ∙ k)))
-        ps h)
-    by_first (Some text) e = (text, same_have (first_text ps) name text (λ p same k.
-        let first : first_text ps p.name ≡ Some text = ap (first_text ps) ((bytes_eq-Decides p.name name).0 same) ∙ e in
-        sym ((bytes_eq-Decides text p.text).0 (ap (λ (o : Option (List ℕ)). is_text o p.text) (sym first) ∙ not_so (is_text (first_text ps p.name) p.text) k)))
-        ps h)
+    by_first None e = (
+      [],
+      same_have (first_text ps) name [] (λ p same k.
+          absurd (true≢false (sym (ap (λ (o : Option (List ℕ)). not (is_text o p.text)) (ap (first_text ps) ((bytes_eq-Decides p.name name).0 same) ∙ e)) ∙ k)))
+          ps h,
+    )
+    by_first (Some text) e = (
+      text,
+      same_have (first_text ps) name text (λ p same k.
+          let first : first_text ps p.name ≡ Some text = ap (first_text ps) ((bytes_eq-Decides p.name name).0 same) ∙ e in
+          sym ((bytes_eq-Decides text p.text).0 (ap (λ (o : Option (List ℕ)). is_text o p.text) (sym first)
+          ∙ not_so (is_text (first_text ps p.name) p.text) k)))
+          ps h,
+    )
 
 -- no place of these has the name
 abbrev NoneNamed : List ℕ → List Place → Type 0

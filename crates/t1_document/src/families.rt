@@ -7,7 +7,8 @@ ghost use Rattle.t1_document.specs.Rewriting.{fate_bytes, fated_bytes};
 ghost use Rattle.t1_document.specs.Joins.{new_texts};
 ghost use Rattle.t1_document.specs.Groups.{outcome_in};
 ghost use Rattle.t1_document.specs.Texts.{text_in, has_text, Sees};
-ghost use Rattle.t1_document.specs.Families.{family, first_text, differs, has_other, leader_by, led_by, names_behind, led_from, with_leaders, members_of, members, alias_line, fate_under, fate_led, led_fate, aliased};
+ghost use Rattle.t1_document.specs.Families.{family, first_text, differs, has_other, leader_by, led_by, names_behind, led_from, with_leaders, members_of, members};
+ghost use Rattle.t1_document.specs.Families.{alias_line, fate_under, led_fate, aliased};
 ghost use Rattle.t1_document.specs.Views.{place_view, document_view, led_view};
 
 use crate::documents::{Document, Place};

@@ -17,12 +17,7 @@ fn aliased(alloc: Global, text: &[u8]) -> Result<(Vec<u8>, Vec<u8>), AllocError>
 }
 
 /// Whether a document comes to this.
-fn comes(
-    alloc: Global,
-    parts: &[&[u8]],
-    lines: &[u8],
-    want: &[&[u8]],
-) -> Result<bool, AllocError> {
+fn comes(alloc: Global, parts: &[&[u8]], lines: &[u8], want: &[&[u8]]) -> Result<bool, AllocError> {
     let text = joined(alloc, parts)?;
     let (told, aliased) = aliased(alloc, text.as_slice())?;
     let want = joined(alloc, want)?;
@@ -45,6 +40,8 @@ const M_IS_A: &[u8] = b"/MNOPQR+Tiny /ABCDEF+Tiny findfont definefont pop\n";
 
 const G_IS_BARE: &[u8] = b"/GHIJKL+Tiny /Tiny findfont definefont pop\n";
 
+const TWO_IS_A: &[u8] = b"/GHIJKL+MNOPQR+Tiny /ABCDEF+Tiny findfont definefont pop\n";
+
 const M_IS_G: &[u8] = b"/MNOPQR+Tiny /GHIJKL+Tiny findfont definefont pop\n";
 
 // meets members_of Ok at 0, 1, 2, 3 places
@@ -62,7 +59,10 @@ fn tags_of_a_family(rt: HostRuntime) -> Result<(), Fail> {
     let none = comes(alloc, &[b"%!\n"], b"", &[b"%!\n"])?;
     assert!(rt; none, "no place");
     let one = [BEGIN, a, END];
-    assert!(rt; comes(alloc, &one, b"ABCDEF+Tiny same\n", &one)?, "one place");
+    assert!(rt;
+        comes(alloc, &one, b"ABCDEF+Tiny same\n", &one)?,
+        "one place"
+    );
     let two = comes(
         alloc,
         &[BEGIN, a, END, b"x\n", BEGIN, g, END],
@@ -74,7 +74,9 @@ fn tags_of_a_family(rt: HostRuntime) -> Result<(), Fail> {
         alloc,
         &[BEGIN, a, END, BEGIN, g, END, BEGIN, m, END],
         b"ABCDEF+Tiny joined\n",
-        &[BEGIN, all, END, BEGIN, G_IS_A, BARE_END, BEGIN, M_IS_A, BARE_END],
+        &[
+            BEGIN, all, END, BEGIN, G_IS_A, BARE_END, BEGIN, M_IS_A, BARE_END,
+        ],
     )?;
     assert!(rt; three, "three names");
     let bare = comes(
@@ -106,7 +108,10 @@ fn families_in_documents_inside(rt: HostRuntime) -> Result<(), Fail> {
     )?;
     assert!(rt; behind, "behind the leader");
     let before = [INSIDE, BEGIN, g, END, BEHIND, BEGIN, a, END];
-    assert!(rt; comes(alloc, &before, b"ABCDEF+Tiny same\n", &before)?, "before it");
+    assert!(rt;
+        comes(alloc, &before, b"ABCDEF+Tiny same\n", &before)?,
+        "before it"
+    );
     let own = comes(
         alloc,
         &[INSIDE, BEGIN, a, END, BEHIND, BEGIN, a, END, BEGIN, g, END],
@@ -134,38 +139,52 @@ fn families_that_stay(rt: HostRuntime) -> Result<(), Fail> {
     let g = tagged(alloc, x.as_slice(), b"GHIJKL+")?;
     let all = tagged(alloc, whole.as_slice(), b"GHIJKL+")?;
     let m = tagged(alloc, whole.as_slice(), b"MNOPQR+")?;
-    let five = tagged(alloc, whole.as_slice(), b"GHIJK+")?;
-    let seven = tagged(alloc, whole.as_slice(), b"GHIJKLM+")?;
     let (a, o, g, m) = (a.as_slice(), o.as_slice(), g.as_slice(), m.as_slice());
+    let all = all.as_slice();
     let apart = [BEGIN, o, END, BEGIN, g, END];
     let line = b"ABCDEF+Tiny shells differ in head\n";
-    assert!(rt; comes(alloc, &apart, line, &apart)?, "fonts that don't rejoin");
+    assert!(rt;
+        comes(alloc, &apart, line, &apart)?,
+        "fonts that don't rejoin"
+    );
     let kept = comes(
         alloc,
         &[BEGIN, a, END, BEGIN, o, END, BEGIN, g, END, BEGIN, m, END],
         b"GHIJKL+Tiny joined\n",
         &[
-            BEGIN,
-            a,
-            END,
-            BEGIN,
-            o,
-            END,
-            BEGIN,
-            all.as_slice(),
-            END,
-            BEGIN,
-            M_IS_G,
-            BARE_END,
+            BEGIN, a, END, BEGIN, o, END, BEGIN, all, END, BEGIN, M_IS_G, BARE_END,
         ],
     )?;
     assert!(rt; kept, "a name that keeps its fonts");
+    Ok(())
+}
+
+// meets members_of Ok at 2 places
+// like members_of: Document::alias
+#[test]
+fn capitals_of_a_tag(rt: HostRuntime) -> Result<(), Fail> {
+    let alloc = rt.alloc();
+    let x = cut(alloc, b"X")?;
+    let whole = whole(alloc)?;
+    let a = tagged(alloc, x.as_slice(), b"ABCDEF+")?;
+    let five = tagged(alloc, whole.as_slice(), b"GHIJK+")?;
+    let seven = tagged(alloc, whole.as_slice(), b"GHIJKLM+")?;
+    let two = tagged(alloc, whole.as_slice(), b"GHIJKL+MNOPQR+")?;
+    let all = tagged(alloc, whole.as_slice(), b"ABCDEF+")?;
+    let a = a.as_slice();
     let lines = b"ABCDEF+Tiny same\nGHIJK+Tiny same\n";
     let short = [BEGIN, a, END, BEGIN, five.as_slice(), END];
     assert!(rt; comes(alloc, &short, lines, &short)?, "five capitals");
     let lines = b"ABCDEF+Tiny same\nGHIJKLM+Tiny same\n";
     let long = [BEGIN, a, END, BEGIN, seven.as_slice(), END];
     assert!(rt; comes(alloc, &long, lines, &long)?, "seven capitals");
+    let both = comes(
+        alloc,
+        &[BEGIN, a, END, BEGIN, two.as_slice(), END],
+        b"ABCDEF+Tiny joined\n",
+        &[BEGIN, all.as_slice(), END, BEGIN, TWO_IS_A, BARE_END],
+    )?;
+    assert!(rt; both, "two tags");
     Ok(())
 }
 
