@@ -221,11 +221,7 @@ pub extern "C" fn t1subset_pool(alloc: Global, documents: &[&[u8]], answer: &mut
 
 /// Makes of documents one text, in which each font stands once, and names that are equal without their tags have one font.
 #[unsafe(no_mangle)]
-pub extern "C" fn t1subset_pool_tags(
-    alloc: Global,
-    documents: &[&[u8]],
-    answer: &mut Answer,
-) -> u32
+pub extern "C" fn t1subset_pool_tags(alloc: Global, documents: &[&[u8]], answer: &mut Answer) -> u32
     ensures { GivesFiles text_input (PoolsTo true) (lent documents.now) result answer.new }
 {
     give_files(alloc, pooled(alloc, true, documents), answer)

@@ -218,7 +218,7 @@ fn many_tags(rt: HostRuntime) -> Result<(), Fail> {
     let whole = whole(alloc)?;
     let text = many(alloc, whole.as_slice(), 300)?;
     let (lines, aliased) = aliased(alloc, text.as_slice())?;
-    assert!(rt; lines.as_slice() == b"AAAAAA+Tiny joined\n");
+    assert!(rt; lines.as_slice() == b"AAAAAA+Tiny joined\n".as_slice());
     let one = many(alloc, whole.as_slice(), 1)?;
     let more = BEGIN.len() + G_IS_A.len() + BARE_END.len();
     assert!(rt; aliased.len() == one.len().saturating_add(more.saturating_mul(299)));
