@@ -178,6 +178,11 @@ uint32_t t1subset_join(const uint8_t *first, size_t first_size, const uint8_t *s
  * The only refusals are T1SUBSET_MEMORY and T1SUBSET_FILE_TOO_LONG, of a document, or of all together (input -1). */
 uint32_t t1subset_pool(const t1subset_bytes *documents, size_t count, t1subset_answer *answer);
 
+/* The same, where names that are equal without the tags that they begin with, six capitals and "+", also have one font: of these
+ * names the first that stands in no embedded document leads, and behind it each place of another has, in place of its font, the
+ * line "/NAME /LEADER findfont definefont pop". Names whose fonts don't rejoin under the leader's stay. */
+uint32_t t1subset_pool_tags(const t1subset_bytes *documents, size_t count, t1subset_answer *answer);
+
 /* Documents in which each place of a name has the joined font, so that any of them may be printed without the others.
  * answers points to count answers, one for each document, in their order; free each of them. If the call is refused, for
  * memory or since a document is too long, the first has the refusal and the others hold nothing. If count is 0, nothing is

@@ -126,6 +126,8 @@ def files():
     given["tested.font"] = given["one.cut"].replace(b"/FontName", TESTED + b"/FontName")
     given["one.ps"], given["two.ps"] = document(PARTS[0]), document(PARTS[1])
     given["other.ps"] = document(small_font(b"ABCDEF+Small", [STUB] * 5 + [UP], {b"B": 5}, b"/Encoding ISOLatin1Encoding def\n"))
+    given["tag.ps"] = document(small_font(b"GHIJKL+Small", [STUB] * 5 + [UP], {b"B": 5}))
+    given["tag.other.ps"] = document(small_font(b"GHIJKL+Small", [STUB] * 5 + [UP], {b"B": 5}, b"/Encoding ISOLatin1Encoding def\n"))
     given["nested.ps"] = given["one.ps"] + b"%%BeginDocument: a.eps\n" + given["two.ps"] + b"%%EndDocument\n"
     given["no.font"] = b"no font"
     given["no.listing"] = b"no listing"
@@ -351,6 +353,12 @@ def rows_of_pooled():
     yield Row(["pool", "one.ps", "two.ps", "one.ps"], 0, b"", b"", {"one.ps": both + empty})
     kept = given["one.ps"] + given["other.ps"]
     yield Row(["pool", "out", "one.ps", "other.ps"], 0, b"", b"kept ABCDEF+Small: shells differ in encoding\n", {"out": kept})
+    named = b"%!PS\n%%BeginFont: Small\n/GHIJKL+Small /ABCDEF+Small findfont definefont pop\n%%EndFont\nshowpage\n"
+    yield Row(["pool", "out", "one.ps", "tag.ps"], 0, b"", b"", {"out": given["one.ps"] + given["tag.ps"]})
+    yield Row(["pool", "--tags", "out", "one.ps", "tag.ps"], 0, b"", b"", {"out": both + named})
+    yield Row(["pool", "--tags", "out", "one.ps", "two.ps", "tag.ps"], 0, b"", b"", {"out": both + empty + named})
+    apart = given["one.ps"] + given["tag.other.ps"]
+    yield Row(["pool", "--tags", "out", "one.ps", "tag.other.ps"], 0, b"", b"kept ABCDEF+Small: shells differ in encoding\n", {"out": apart})
     yield Row(["pool", "out", "no.font", "one.ps"], 0, b"", b"", {"out": b"no font\n" + given["one.ps"]})
     yield Row(["pool", "old", "one.ps", "absent"], 3, b"", b"failed: read\n")
     yield Row(["pool", "no.folder/out", "one.ps"], 3, b"", b"failed: write\n")

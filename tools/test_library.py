@@ -70,6 +70,7 @@ def library_rows(given):
     program's own; so are its help and its version, files of names, `check` of several files, and the word that writes documents into a folder."""
     rows = [row for row in program_rows.all_rows(given) if row.status < 2 and row.out is not program_rows.SOME]
     rows = [row for row in rows if not OWN_OPTIONS.intersection(word.split("=")[0] for word in row.words if isinstance(word, str))]
+    rows = [row for row in rows if not (row.err and "--tags" in row.words)]
     rows = [row for row in rows if row.words[0] != "level" and (row.words[0] != "check" or len(row.words) == 2)]
     return [row for row in rows if not row.words[0].startswith("--")]
 

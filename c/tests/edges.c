@@ -65,6 +65,8 @@ static void no_documents(t1subset_bytes font) {
     EXPECT(t1subset_pool(NULL, 0, &answer), T1SUBSET_OK, -1, "");
     EXPECT(t1subset_pool(two + 1, 1, &answer), T1SUBSET_OK, -1, "");
     EXPECT(t1subset_pool(two, 2, &answer), T1SUBSET_OK, -1, (const char *) font.data);
+    EXPECT(t1subset_pool_tags(NULL, 0, &answer), T1SUBSET_OK, -1, "");
+    EXPECT(t1subset_pool_tags(two, 2, &answer), T1SUBSET_OK, -1, (const char *) font.data);
     EXPECT(t1subset_fonts(NULL, 0, &answer), T1SUBSET_OK, -1, "0 places, 0 names, 0 kept\n");
     EXPECT(t1subset_fonts(two, 2, &answer), T1SUBSET_OK, -1, "0 places, 0 names, 0 kept\n");
     EXPECT(t1subset_extract(NULL, 0, NULL, 0, &answer), T1SUBSET_NO_FONT, -1, "no font ");
@@ -133,6 +135,7 @@ static void too_long(t1subset_bytes font) {
     EXPECT(t1subset_join(NULL, 0, data, TOO_LONG, &answer), T1SUBSET_FILE_TOO_LONG, 1, "file too long");
     EXPECT(t1subset_pool(two, 2, &answer), T1SUBSET_FILE_TOO_LONG, 1, "file too long");
     EXPECT(t1subset_pool(together, 2, &answer), T1SUBSET_FILE_TOO_LONG, -1, "file too long");
+    EXPECT(t1subset_pool_tags(two, 2, &answer), T1SUBSET_FILE_TOO_LONG, 1, "file too long");
     EXPECT(t1subset_fonts(two, 2, &answer), T1SUBSET_FILE_TOO_LONG, 1, "file too long");
     EXPECT(t1subset_extract(NULL, 0, two, 2, &answer), T1SUBSET_FILE_TOO_LONG, 1, "file too long");
     levels(font, data);

@@ -46,6 +46,7 @@ static uint32_t subset_codes(t1subset_answer *to) {
     return t1subset_subset_codes(font.data, font.size, names, 2, (const uint8_t *) "AB", 2, T1SUBSET_PFA, to);
 }
 static uint32_t pool(t1subset_answer *to) { return t1subset_pool(documents, 2, to); }
+static uint32_t pool_tags(t1subset_answer *to) { return t1subset_pool_tags(documents, 2, to); }
 static uint32_t fonts(t1subset_answer *to) { return t1subset_fonts(documents, 2, to); }
 static uint32_t extract(t1subset_answer *to) { return t1subset_extract((const uint8_t *) "Tiny", 4, documents, 2, to); }
 /* Two documents with one font: if the second has another answer than the first, or holds something where the first is refused,
@@ -79,7 +80,7 @@ static const struct {
     {"convert", convert, T1SUBSET_OK}, {"mend", mend, T1SUBSET_OK}, {"mends", mends, T1SUBSET_OK}, {"subset", subset, T1SUBSET_OK},
     {"subset of codes", subset_codes, T1SUBSET_OK},
     {"merge", merge, T1SUBSET_OK}, {"rejoin", rejoin, T1SUBSET_OK}, {"diff", diff, T1SUBSET_OK}, {"join", join, T1SUBSET_OK},
-    {"pool", pool, T1SUBSET_OK}, {"level", level, T1SUBSET_OK}, {"fonts", fonts, T1SUBSET_OK}, {"extract", extract, T1SUBSET_OK},
+    {"pool", pool, T1SUBSET_OK}, {"pool_tags", pool_tags, T1SUBSET_OK}, {"level", level, T1SUBSET_OK}, {"fonts", fonts, T1SUBSET_OK}, {"extract", extract, T1SUBSET_OK},
     {"extract of no font", no_place, T1SUBSET_NO_FONT},
     {"subset of no glyph", no_glyph, T1SUBSET_NO_GLYPH}, {"subset of no code", no_code, T1SUBSET_NO_CODE},
     {"merge of no font", no_font, T1SUBSET_NO_EEXEC},

@@ -152,16 +152,19 @@ def join(first: BytesLike, second: BytesLike) -> bytes:
     return _call(library.t1subset_join, *_file(first), *_file(second))
 
 
-def pool(documents: Iterable[BytesLike]) -> bytes:
+def pool(documents: Iterable[BytesLike], *, tags: bool = False) -> bytes:
     """PostScript documents, one behind the other, with each font once. Where a font may stand says the man page
     t1subset(1), under `pool`. What a first place defines has to be in force at the later ones: a `restore` between them
-    would take it away. The fonts of a name that don't rejoin stay: `fonts` says why.
+    would take it away. The fonts of a name that don't rejoin stay: `fonts` says why. With `tags` names that are equal without
+    the tags that they begin with, six capitals and `+`, also have one font, if it can be made: behind the first such name, a
+    place of another has the line `/NAME /FIRST findfont definefont pop`.
 
     >>> document = b"%!PS\\n%%BeginFont: Tiny\\n" + font + b"%%EndFont\\nshowpage\\n"
     >>> pool([document, document]) == document + b"%!PS\\n%%BeginFont: Tiny\\n%%EndFont\\nshowpage\\n"
     True
     """
-    return _call(library.t1subset_pool, *_files(_several(documents, "documents")))
+    call = library.t1subset_pool_tags if tags else library.t1subset_pool
+    return _call(call, *_files(_several(documents, "documents")))
 
 
 def level(documents: Iterable[BytesLike]) -> List[bytes]:

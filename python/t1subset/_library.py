@@ -46,6 +46,7 @@ _CALLS: Dict[str, List[Any]] = {
     "t1subset_diff": _FILE + _FILE,
     "t1subset_join": _FILE + _FILE,
     "t1subset_pool": _LIST,
+    "t1subset_pool_tags": _LIST,
     "t1subset_level": _LIST,
     "t1subset_fonts": _LIST,
     "t1subset_extract": _FILE + _LIST,

@@ -30,6 +30,15 @@ class Documents(unittest.TestCase):
         self.assertEqual(t1subset.pool([b"%!PS", b"showpage"]), b"%!PS\nshowpage")
         self.assertEqual(t1subset.pool([]), b"")
 
+    def test_pooled_by_families(self) -> None:
+        first, second = SOME.replace(b"/FontName /", b"/FontName /ABCDEF+"), OTHER.replace(b"/FontName /", b"/FontName /GHIJKL+")
+        named = document(b"/GHIJKL+Tiny /ABCDEF+Tiny findfont definefont pop\n", b"Tiny")
+        both = BOTH.replace(b"/FontName /", b"/FontName /ABCDEF+")
+        self.assertEqual(t1subset.pool([first, second]), first + second)
+        self.assertEqual(t1subset.pool([first, second], tags=True), both + named)
+        self.assertEqual(t1subset.pool([SOME, OTHER], tags=True), BOTH + BARE)
+        self.assertEqual(t1subset.pool([], tags=True), b"")
+
     def test_levelled(self) -> None:
         self.assertEqual(t1subset.level([SOME, b"", OTHER]), [BOTH, b"", BOTH])
         self.assertEqual(t1subset.level([SOME] * 100 + [WHOLE]), [WHOLE] * 101)

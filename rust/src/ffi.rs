@@ -76,6 +76,7 @@ extern "C" {
         answer: *mut Answer,
     ) -> u32;
     fn t1subset_pool(documents: *const Given<'_>, count: usize, answer: *mut Answer) -> u32;
+    fn t1subset_pool_tags(documents: *const Given<'_>, count: usize, answer: *mut Answer) -> u32;
     fn t1subset_level(documents: *const Given<'_>, count: usize, answers: *mut Answer) -> u32;
     fn t1subset_fonts(documents: *const Given<'_>, count: usize, answer: *mut Answer) -> u32;
     fn t1subset_extract(
@@ -225,6 +226,12 @@ pub(crate) fn pool(documents: &[&[u8]]) -> Result<Vec<u8>, Refused> {
     let documents = given(documents);
     // SAFETY: as in `merge`.
     call(|answer| unsafe { t1subset_pool(documents.as_ptr(), documents.len(), answer) })
+}
+
+pub(crate) fn pool_tags(documents: &[&[u8]]) -> Result<Vec<u8>, Refused> {
+    let documents = given(documents);
+    // SAFETY: as in `merge`.
+    call(|answer| unsafe { t1subset_pool_tags(documents.as_ptr(), documents.len(), answer) })
 }
 
 pub(crate) fn level(documents: &[&[u8]]) -> Result<Vec<Vec<u8>>, Refused> {

@@ -272,6 +272,12 @@ pub fn pool<D: AsRef<[u8]>>(documents: &[D]) -> Result<Vec<u8>, Refused> {
     ffi::pool(&slices(documents))
 }
 
+/// The same, where names that are equal without the tags that they begin with, six capitals and `+`, also have one font, if it can
+/// be made: behind the first such name, a place of another has the line `/NAME /FIRST findfont definefont pop`.
+pub fn pool_tags<D: AsRef<[u8]>>(documents: &[D]) -> Result<Vec<u8>, Refused> {
+    ffi::pool_tags(&slices(documents))
+}
+
 /// The documents, in each of which each place of a name has the joined font, so that any of them may be printed without
 /// the others.
 pub fn level<D: AsRef<[u8]>>(documents: &[D]) -> Result<Vec<Vec<u8>>, Refused> {

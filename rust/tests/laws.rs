@@ -5,7 +5,8 @@ mod common;
 use common::{document, each_font, example, made, some_names, EMPTY, STUB};
 use std::thread;
 use t1subset::{
-    check, convert, diff, extract, fonts, join, level, list, list_full, mend, mends, merge, pool, rejoin, show, subset,
+    check, convert, diff, extract, fonts, join, level, list, list_full, mend, mends, merge, pool, pool_tags, rejoin, show,
+    subset,
 };
 use t1subset::{subset_codes, Form};
 
@@ -128,6 +129,21 @@ fn fonts_of_documents_join() {
     let places = fonts(&[&one[..], b"", &other]).unwrap();
     let places: Vec<_> = places.iter().map(|it| (it.document, it.offset, it.glyphs, it.depth, &it.reason)).collect();
     assert_eq!(places, [(0, 23, 2, 0, &None), (2, 23, 2, 0, &None)]);
+}
+
+#[test]
+fn fonts_of_families_join() {
+    let font = example("tiny.pfa");
+    let cut = |names: &[&str], tag: &str| {
+        let text = String::from_utf8(subset(&font, names, Form::Pfa).unwrap()).unwrap();
+        document("Tiny", text.replace("/FontName /", &format!("/FontName /{tag}")).as_bytes())
+    };
+    let (one, other, both) = (cut(&["X"], "ABCDEF+"), cut(&["Y"], "GHIJKL+"), cut(&["X", "Y"], "ABCDEF+"));
+    let named = document("Tiny", b"/GHIJKL+Tiny /ABCDEF+Tiny findfont definefont pop\n");
+    assert!(pool(&[&one, &other]).unwrap() == [&one[..], &other].concat());
+    assert!(pool_tags(&[&one, &other]).unwrap() == [&both[..], &named].concat());
+    let none: [&[u8]; 0] = [];
+    assert_eq!(pool_tags(&none), Ok(Vec::new()));
 }
 
 #[test]

@@ -11,12 +11,16 @@ use crate::labels::{lent, place_labels};
 use std::alloc::Global;
 use t1_cmd::{FilesRefusal, Pooled, Reason, list_fonts, pool_files};
 
-/// Documents, one behind the other, with each font once.
-pub(crate) fn pooled(alloc: Global, documents: &[&[u8]]) -> Result<Vec<u8>, FilesRefusal>
-    ensures text { IfOk result (λ text. OfFiles text_input PoolsTo (lent documents.now) (Ok text.items)) }
-    ensures refused { IfErr result (RefusesFiles text_input PoolsTo (lent documents.now)) }
+/// Documents, one behind the other, with each font once: one for each name, or also one for names that are equal without their tags.
+pub(crate) fn pooled(
+    alloc: Global,
+    tags: bool,
+    documents: &[&[u8]],
+) -> Result<Vec<u8>, FilesRefusal>
+    ensures text { IfOk result (λ text. OfFiles text_input (PoolsTo tags) (lent documents.now) (Ok text.items)) }
+    ensures refused { IfErr result (RefusesFiles text_input (PoolsTo tags) (lent documents.now)) }
 {
-    match pool_files(alloc, documents) {
+    match pool_files(alloc, tags, documents) {
         Ok(pooled) => {
             let Pooled { text, .. } = pooled;
             Ok(text)

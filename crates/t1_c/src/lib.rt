@@ -13,7 +13,7 @@ mod numbers;
 #[cfg(test)]
 mod tests;
 
-ghost use Rattle.std.specs.Prelude.{◌≡◌, ◌∷◌, [], length};
+ghost use Rattle.std.specs.Prelude.{◌≡◌, ◌∷◌, [], false, length, true};
 ghost use Rattle.t1_subset.specs.NameSets.{lent};
 ghost use Rattle.t1_cmd.specs.CheckText.{check_answer};
 ghost use Rattle.t1_cmd.specs.ListText.{list_answer};
@@ -223,9 +223,17 @@ pub extern "C" fn t1subset_join(
 /// Makes of documents one text, in which each font stands once.
 #[unsafe(no_mangle)]
 pub extern "C" fn t1subset_pool(alloc: Global, documents: &[&[u8]], answer: &mut Answer) -> u32
-    ensures { GivesFiles text_input PoolsTo (lent documents.now) result answer.new }
+    ensures { GivesFiles text_input (PoolsTo false) (lent documents.now) result answer.new }
 {
-    give_files(alloc, pooled(alloc, documents), answer)
+    give_files(alloc, pooled(alloc, false, documents), answer)
+}
+
+/// Makes of documents one text, in which each font stands once, and names that are equal without their tags have one font.
+#[unsafe(no_mangle)]
+pub extern "C" fn t1subset_pool_tags(alloc: Global, documents: &[&[u8]], answer: &mut Answer) -> u32
+    ensures { GivesFiles text_input (PoolsTo true) (lent documents.now) result answer.new }
+{
+    give_files(alloc, pooled(alloc, true, documents), answer)
 }
 
 /// Makes documents in which each place of a name has the joined font, each in an answer of its own. C calls it as

@@ -1,5 +1,5 @@
 -- Documents within the file limit, and the words about them.
-use Rattle.std.proofs.Common.{◌≡◌, ◌<◌, ◌≤◌, ℕ, arith, sym, ◌∙◌, List, length, Ok, Err}
+use Rattle.std.proofs.Common.{◌≡◌, ◌<◌, ◌≤◌, ℕ, Bool, arith, sym, ◌∙◌, List, length, Ok, Err}
 use Rattle.std.specs.Prelude.{nat_lt}
 use Rattle.std.proofs.lemmas.Bool.{cond-true, cond-false, lt-ltb, le-ltb}
 use Rattle.std.proofs.lemmas.Option.{none-some}
@@ -22,17 +22,17 @@ fits text le = cond-false (nat_lt file_limit (length text)) _ _ (le-ltb file_lim
 
 -- ---- what has a text is refused for want of memory alone
 
-pub pools_apart : (ds : List (List ℕ)) (text : List ℕ) (r : Reason) → PoolsTo ds (Ok text) → PoolsTo ds (Err r) → r ≡ Memory
-pools_apart ds text TooLong h k = absurd (omega (arith, h.0, k))
-pools_apart ds text Memory h k = absurd k
-pools_apart ds text (ListReason f) h k = absurd k
-pools_apart ds text (JoinReason f) h k = absurd k
-pools_apart ds text (Font f) h k = absurd k
-pools_apart ds text (NoGlyph n) h k = absurd k
-pools_apart ds text (NoCode code) h k = absurd k
-pools_apart ds text (NoFont n) h k = absurd k
-pools_apart ds text (Lacks g q) h k = absurd k
-pools_apart ds text (Merge e) h k = absurd k
+pub pools_apart : (tags : Bool) (ds : List (List ℕ)) (text : List ℕ) (r : Reason) → PoolsTo tags ds (Ok text) → PoolsTo tags ds (Err r) → r ≡ Memory
+pools_apart tags ds text TooLong h k = absurd (omega (arith, h.0, k))
+pools_apart tags ds text Memory h k = absurd k
+pools_apart tags ds text (ListReason f) h k = absurd k
+pools_apart tags ds text (JoinReason f) h k = absurd k
+pools_apart tags ds text (Font f) h k = absurd k
+pools_apart tags ds text (NoGlyph n) h k = absurd k
+pools_apart tags ds text (NoCode code) h k = absurd k
+pools_apart tags ds text (NoFont n) h k = absurd k
+pools_apart tags ds text (Lacks g q) h k = absurd k
+pools_apart tags ds text (Merge e) h k = absurd k
 
 pub lists_apart : (labels ds : List (List ℕ)) (text : List ℕ) (r : Reason) → ListsTo labels ds (Ok text) → ListsTo labels ds (Err r) → r ≡ Memory
 lists_apart labels ds text r h k = absurd k

@@ -1,13 +1,15 @@
 -- What the engines over documents read and write.
-use Rattle.std.specs.Prelude.{◌≡◌, ℕ, ◌≤◌, ◌<◌, List, [], ◌∷◌, ◌++◌, length, codes, Option, Some, Result, Ok, Err}
+use Rattle.std.specs.Prelude.{◌≡◌, ℕ, Bool, true, false, ◌≤◌, ◌<◌, List, [], ◌∷◌, ◌++◌, length, codes, Option, Some, Result, Ok, Err}
 use Rattle.std.specs.List.{flat_map}
 use Rattle.t1_bytes.specs.Limits.{file_limit}
 use Rattle.t1_join.specs.Shown.{shown}
 use Rattle.t1_document.specs.declared.joins.Outcome.{Outcome}
 use Rattle.t1_document.specs.declared.joins.Outcome.TheVariants.{Stays}
 use Rattle.t1_document.specs.Lines.{one_text}
-use Rattle.t1_document.specs.Documents.{Place}
+use Rattle.t1_document.specs.Documents.{Place, document_of}
 use Rattle.t1_document.specs.Joins.{Outcomes, AreOutcomes, PooledBy, kept_text, names_from}
+use Rattle.t1_document.specs.Families.{members}
+use Rattle.t1_document.specs.FamilyLaws.{PooledByFamilies}
 use Rattle.t1_cmd.specs.declared.faults.Reason.{Reason}
 use Rattle.t1_cmd.specs.declared.faults.Reason.TheVariants.{TooLong}
 use Rattle.t1_cmd.specs.Answers.{within_limit}
@@ -18,11 +20,16 @@ text_input = within_limit (λ bytes. Ok bytes)
 
 -- ---- pooled
 
+-- a text with each font once: one font for each name, or also one for names that are equal without their tags
+abbrev pub PooledAs : Bool → List ℕ → List ℕ → Type 0
+PooledAs false text out = PooledBy text out
+PooledAs true text out = PooledByFamilies text out
+
 -- documents one behind the other with each font once, if they are together within the file limit
-abbrev pub PoolsTo : List (List ℕ) → Result (List ℕ) Reason → Type 0
-PoolsTo documents (Ok out) = (length (one_text documents) ≤ file_limit) × PooledBy (one_text documents) out
-PoolsTo documents (Err TooLong) = file_limit < length (one_text documents)
-PoolsTo documents (Err r) = ⊥
+abbrev pub PoolsTo : Bool → List (List ℕ) → Result (List ℕ) Reason → Type 0
+PoolsTo tags documents (Ok out) = (length (one_text documents) ≤ file_limit) × PooledAs tags (one_text documents) out
+PoolsTo tags documents (Err TooLong) = file_limit < length (one_text documents)
+PoolsTo tags documents (Err r) = ⊥
 
 -- ---- what is told of names that keep their fonts
 
@@ -38,3 +45,9 @@ kept_lines outcomes ps = flat_map (λ name. kept_line name (outcomes name)) (nam
 -- these are the lines of the names that keep their fonts among places
 abbrev pub TellsKept : List Place → List ℕ → Type 0
 TellsKept ps lines = (outcomes : Outcomes) × AreOutcomes ps outcomes × (lines ≡ kept_lines outcomes ps)
+
+-- these are the lines of the names of a text that keep their fonts, and of the leaders of families that do, if families are joined
+abbrev pub TellsPooled : Bool → List ℕ → List ℕ → Type 0
+TellsPooled false text lines = TellsKept (document_of text).places lines
+TellsPooled true text lines = (pooled names families : List ℕ) × PooledBy text pooled × TellsKept (document_of text).places names
+    × TellsKept (members (document_of pooled).places) families × (lines ≡ names ++ families)

@@ -1,5 +1,5 @@
 //! The engines over documents: each font once, or one font at each place of a name.
-ghost use Rattle.std.specs.Prelude.{◌≡◌, ◌+◌, ◌≤◌, ◌++◌, ◌∷◌, [], map, length, Ok, OnOk, IfOk, IfErr, IfSome};
+ghost use Rattle.std.specs.Prelude.{Bool, ◌≡◌, ◌+◌, ◌≤◌, ◌++◌, ◌∷◌, [], map, length, Ok, OnOk, IfOk, IfErr, IfSome};
 ghost use Rattle.std.specs.List.{flat_map};
 ghost use Rattle.std.specs.Option.{option_copied};
 ghost use Rattle.t1_bytes.specs.Limits.{file_limit};
@@ -15,8 +15,10 @@ ghost use Rattle.t1_cmd.specs.Files.{values_from, IsUnread, OfFiles, RefusesFile
 ghost use Rattle.t1_cmd.specs.Runs.{ended, InputEnds, RunEnds, Succeeds};
 ghost use Rattle.t1_cmd.specs.Answers.{MayRefuse};
 ghost use Rattle.t1_cmd.specs.Mergers.{inputs_of, InTurns, InputsStop};
-ghost use Rattle.t1_cmd.specs.Documents.{text_input, PoolsTo, kept_line, kept_lines, TellsKept};
+ghost use Rattle.t1_cmd.specs.Documents.{text_input, PooledAs, PoolsTo, kept_line, kept_lines, TellsKept, TellsPooled};
 ghost use Rattle.t1_document.specs.Joins.{PooledBy};
+ghost use Rattle.t1_document.specs.Families.{members};
+ghost use Rattle.t1_document.specs.FamilyLaws.{AliasedBy};
 
 use crate::counting::Counted;
 use crate::faults::{FilesRefusal, Reason, RunFault};
@@ -27,7 +29,7 @@ use std::alloc::{AllocError, Global};
 use std::io::{Read, Write};
 use t1_bytes::FILE_LIMIT;
 use t1_document::{
-    Joins, Kept, Outcome, Place, join_fonts, names_of, push_document, read_document,
+    Joins, Kept, Outcome, Place, join_fonts, members_of, names_of, push_document, read_document,
 };
 
 // ---- reading
@@ -161,7 +163,7 @@ pub struct Pooled {
 fn one_text(alloc: Global, documents: &[&[u8]]) -> Result<Vec<u8>, Reason>
     ensures text { IfOk result (λ t. t.items ≡ one_text (lent documents.now)) }
     ensures short { IfOk result (λ t. length t.items ≤ file_limit) }
-    ensures refused { IfErr result (MayRefuse (PoolsTo (lent documents.now))) }
+    ensures refused { IfErr result (λ e. (tags : Bool) → MayRefuse (PoolsTo tags (lent documents.now)) e) }
 {
     let mut text = Vec::new(alloc);
     'documents: for document in documents {
@@ -173,8 +175,8 @@ fn one_text(alloc: Global, documents: &[&[u8]]) -> Result<Vec<u8>, Reason>
     Ok(text)
 }
 
-// A text with each font once.
-fn pool_text(alloc: Global, text: &[u8]) -> Result<Pooled, AllocError>
+// A text with one font for each name.
+fn pool_names(alloc: Global, text: &[u8]) -> Result<Pooled, AllocError>
     ensures text { IfOk result (λ p. PooledBy text.now p.text.items) }
     ensures kept { IfOk result (λ p. TellsKept (document_of text.now).places p.kept.items) }
 {
@@ -186,36 +188,67 @@ fn pool_text(alloc: Global, text: &[u8]) -> Result<Pooled, AllocError>
     Ok(Pooled { text, kept })
 }
 
+// A text with one font for each family, and the lines of those that keep their fonts.
+fn pool_families(alloc: Global, text: &[u8]) -> Result<Pooled, AllocError>
+    ensures text { IfOk result (λ p. AliasedBy text.now p.text.items) }
+    ensures kept { IfOk result (λ p. TellsKept (members (document_of text.now).places) p.kept.items) }
+{
+    let document = read_document(alloc, text)?;
+    let members = members_of(alloc, document.places.as_slice())?;
+    let joins = join_fonts(alloc, members.as_slice())?;
+    let kept = kept_lines(alloc, members.as_slice(), &joins)?;
+    let text = document.alias(alloc, &joins)?;
+    Ok(Pooled { text, kept })
+}
+
+// A text with each font once: one for each name, or also one for names that are equal without their tags.
+fn pool_text(alloc: Global, tags: bool, text: &[u8]) -> Result<Pooled, AllocError>
+    ensures text { IfOk result (λ p. PooledAs tags text.now p.text.items) }
+    ensures kept { IfOk result (λ p. TellsPooled tags text.now p.kept.items) }
+{
+    let pooled = pool_names(alloc, text)?;
+    if !tags {
+        return Ok(pooled);
+    }
+    let families = pool_families(alloc, pooled.text.as_slice())?;
+    let mut kept = pooled.kept;
+    kept.extend_from_slice(families.kept.as_slice())?;
+    Ok(Pooled {
+        text: families.text,
+        kept,
+    })
+}
+
 // Documents as one text, with each font once.
-fn pool(alloc: Global, documents: &[&[u8]]) -> Result<Pooled, Reason>
-    ensures text { IfOk result (λ p. PoolsTo (lent documents.now) (Ok p.text.items)) }
-    ensures kept { IfOk result (λ p. TellsKept (document_of (one_text (lent documents.now))).places p.kept.items) }
-    ensures refused { IfErr result (MayRefuse (PoolsTo (lent documents.now))) }
+fn pool(alloc: Global, tags: bool, documents: &[&[u8]]) -> Result<Pooled, Reason>
+    ensures text { IfOk result (λ p. PoolsTo tags (lent documents.now) (Ok p.text.items)) }
+    ensures kept { IfOk result (λ p. TellsPooled tags (one_text (lent documents.now)) p.kept.items) }
+    ensures refused { IfErr result (MayRefuse (PoolsTo tags (lent documents.now))) }
 {
     let text = match one_text(alloc, documents) {
         Ok(text) => text,
         Err(reason) => return Err(reason),
     };
-    Ok(pool_text(alloc, text.as_slice())?)
+    Ok(pool_text(alloc, tags, text.as_slice())?)
 }
 
 /// Documents in memory, one behind the other, with each font once, and a line for each name that keeps its fonts, as [`run_pool`]
-/// has them.
+/// has them; with `tags` names that are equal without their tags have one font.
 ///
 /// # Errors
 ///
 /// [`Reason::TooLong`] with the place of the first document that is over the file limit, and without a place if all together are;
 /// [`Reason::Memory`] if a growth was refused.
-pub fn pool_files(alloc: Global, documents: &[&[u8]]) -> Result<Pooled, FilesRefusal>
-    ensures text { IfOk result (λ p. OfFiles text_input PoolsTo (lent documents.now) (Ok p.text.items)) }
-    ensures kept { IfOk result (λ p. TellsKept (document_of (one_text (lent documents.now))).places p.kept.items) }
-    ensures refused { IfErr result (RefusesFiles text_input PoolsTo (lent documents.now)) }
+pub fn pool_files(alloc: Global, tags: bool, documents: &[&[u8]]) -> Result<Pooled, FilesRefusal>
+    ensures text { IfOk result (λ p. OfFiles text_input (PoolsTo tags) (lent documents.now) (Ok p.text.items)) }
+    ensures kept { IfOk result (λ p. TellsPooled tags (one_text (lent documents.now)) p.kept.items) }
+    ensures refused { IfErr result (RefusesFiles text_input (PoolsTo tags) (lent documents.now)) }
 {
     match each_fits(documents) {
         Ok(()) => {}
         Err(refusal) => return Err(refusal),
     }
-    match pool(alloc, documents) {
+    match pool(alloc, tags, documents) {
         Ok(pooled) => Ok(pooled),
         Err(reason) => Err(FilesRefusal {
             place: None,
@@ -227,13 +260,14 @@ pub fn pool_files(alloc: Global, documents: &[&[u8]]) -> Result<Pooled, FilesRef
 // Writes the documents that readers have one behind the other, with each font once.
 fn write_pooled<R: Read, W: Write>(
     alloc: Global,
+    tags: bool,
     readers: &mut [Counted<R>],
     writer: &mut Counted<W>,
 ) -> Result<Vec<u8>, RunFault>
-    ensures ends { RunEnds text_input PoolsTo W.contents
+    ensures ends { RunEnds text_input (PoolsTo tags) W.contents
         (inputs_of R.remaining readers.old readers.new) writer.old writer.new (ended result) }
     ensures told { IfOk result (λ lines. IfSome (values_of text_input (inputs_of R.remaining readers.old readers.new))
-        (λ documents. TellsKept (document_of (one_text documents)).places lines.items)) }
+        (λ documents. TellsPooled tags (one_text documents) lines.items)) }
     ensures turns { InTurns readers.old readers.new }
 {
     let texts = match read_texts(alloc, readers) {
@@ -241,7 +275,7 @@ fn write_pooled<R: Read, W: Write>(
         Err(fault) => return Err(fault),
     };
     let documents = lent(alloc, texts.as_slice())?;
-    let pooled = match pool(alloc, documents.as_slice()) {
+    let pooled = match pool(alloc, tags, documents.as_slice()) {
         Ok(pooled) => pooled,
         Err(reason) => return Err(RunFault::Refused(reason)),
     };
@@ -253,7 +287,9 @@ fn write_pooled<R: Read, W: Write>(
 
 /// Writes documents one behind the other, with each font once, and answers a line for each name that keeps its fonts.
 ///
-/// An LF stands between two documents where no line ends there. The places of fonts are those of
+/// An LF stands between two documents where no line ends there. With `tags` names that are equal without their tags, which are one
+/// family, also have one font ([`members_of`](t1_document::members_of), [`Document::alias`](t1_document::Document::alias)), and a
+/// line is answered for the leader of each family that keeps its fonts. The places of fonts are those of
 /// [`read_document`](t1_document::read_document), and what becomes of them is told by [`join_fonts`](t1_document::join_fonts) and
 /// [`Document::pool`](t1_document::Document::pool).
 ///
@@ -261,16 +297,17 @@ fn write_pooled<R: Read, W: Write>(
 /// limit. Nothing else is refused but for want of memory.
 pub fn run_pool<R: Read, W: Write>(
     alloc: Global,
+    tags: bool,
     readers: &mut [Counted<R>],
     writer: &mut Counted<W>,
 ) -> Result<Vec<u8>, RunFault>
-    ensures ends { RunEnds text_input PoolsTo W.contents
+    ensures ends { RunEnds text_input (PoolsTo tags) W.contents
         (inputs_of R.remaining readers.old readers.new) writer.old writer.new (ended result) }
-    ensures succeeds { Succeeds text_input PoolsTo
+    ensures succeeds { Succeeds text_input (PoolsTo tags)
         (inputs_of R.remaining readers.old readers.new) writer.old writer.new (ended result) }
     ensures told { IfOk result (λ lines. IfSome (values_of text_input (inputs_of R.remaining readers.old readers.new))
-        (λ documents. TellsKept (document_of (one_text documents)).places lines.items)) }
+        (λ documents. TellsPooled tags (one_text documents) lines.items)) }
     ensures turns { InTurns readers.old readers.new }
 {
-    write_pooled(alloc, readers, writer)
+    write_pooled(alloc, tags, readers, writer)
 }

@@ -16,9 +16,10 @@ use Rattle.t1_document.specs.declared.joins.Outcome.{Outcome}
 use Rattle.t1_document.specs.declared.joins.Outcome.TheVariants.{Same, Joined, Stays}
 use Rattle.t1_document.specs.Documents.{Place, Document, document_bytes, document_of}
 use Rattle.t1_document.specs.Rewriting.{NewTexts, can_stand, is_barred, is_refused, standing, rewritten, levelled, with_new, renewed, ArePooled}
-use Rattle.t1_document.specs.Joins.{Outcomes, AreOutcomes, places_of_all, places_under, fonts_of, new_texts, text_of, ComeTo, OfPlaces, OfFonts, IsSame, LevelsTo}
+use Rattle.t1_document.specs.Joins.{Outcomes, AreOutcomes, places_of_all, places_under, fonts_of, new_texts, text_of, ComeTo, OfPlaces, OfFonts, IsSame, PooledBy, LevelsTo}
 use Rattle.t1_document.specs.Laws.{HasNew, NoneRefused}
 use Rattle.t1_document.specs.JoinLaws.{NewTextsStand, PooledAgain, LevelledAgain}
+use Rattle.t1_document.proofs.PlaceLemmas.{document_text}
 use Rattle.t1_document.proofs.OwnTexts.{Own, own_texts_stand, own_texts_stay}
 use Rattle.t1_document.proofs.Rewritten.{same_bytes, where_stands, rewritten_is_read, level_renews}
 use Rattle.t1_document.proofs.Pooled.{bare, pools_all, kept_left, pooled_stays}
@@ -41,17 +42,8 @@ each_document : (P : Place → Type 0) (documents : List (List ℕ)) → AllByRe
 each_document P [] h = tt
 each_document P (d ∷ ds) h = let parts = all_parts P (document_of d).places (places_of_all ds) h in (parts.0, each_document P ds parts.1)
 
--- what holds of places holds of those of a name
-all_under : (P : Place → Type 0) (name : List ℕ) (ps : List Place) → AllByRecursion P ps → AllByRecursion P (places_under name ps)
-all_under P name [] h = tt
-all_under P name (p ∷ ps) h = by_test (bytes_eq p.name name) (all_under P name ps h.1)
-  where
-    by_test : (b : Bool) → AllByRecursion P (places_under name ps) → AllByRecursion P (cond b (p ∷ places_under name ps) (places_under name ps))
-    by_test true more = (h.0, more)
-    by_test false more = more
-
 -- what holds of the places of each name holds of each place and its name
-from_names : (P : List ℕ → Place → Type 0) (ps : List Place) → ((name : List ℕ) → AllByRecursion (P name) (places_under name ps)) →
+pub from_names : (P : List ℕ → Place → Type 0) (ps : List Place) → ((name : List ℕ) → AllByRecursion (P name) (places_under name ps)) →
     AllByRecursion (λ p. P p.name p) ps
 from_names P [] h = tt
 from_names P (p ∷ ps) h = (
@@ -70,24 +62,27 @@ own_of_all : (documents : List (List ℕ)) → AllByRecursion Own (places_of_all
 own_of_all [] = tt
 own_of_all (d ∷ ds) = all_append Own (document_of d).places (places_of_all ds) (own_texts_stand d) (own_of_all ds)
 
+-- a place that can have its own text can have this one
+abbrev pub MayHave : List ℕ → Place → Type 0
+MayHave text p = Own p → can_stand text p ≡ true
+
 -- a text that places have can stand at each
-same_stand : (text : List ℕ) (ps : List Place) → list_all (λ q. bytes_eq text q.text) ps ≡ true → AllByRecursion Own ps →
-    AllByRecursion (λ p. can_stand text p ≡ true) ps
-same_stand text [] h own = tt
-same_stand text (p ∷ ps) h own =
+same_stand : (text : List ℕ) (ps : List Place) → list_all (λ q. bytes_eq text q.text) ps ≡ true → AllByRecursion (MayHave text) ps
+same_stand text [] h = tt
+same_stand text (p ∷ ps) h =
     let parts = and_parts (bytes_eq text p.text) (list_all (λ q. bytes_eq text q.text) ps) h in (
-      subst (λ (t : List ℕ). can_stand t p ≡ true) (sym ((bytes_eq-Decides text p.text).0 parts.0)) own.0,
-      same_stand text ps parts.1 own.1,
+      λ own. subst (λ (t : List ℕ). can_stand t p ≡ true) (sym ((bytes_eq-Decides text p.text).0 parts.0)) own,
+      same_stand text ps parts.1,
     )
 
-listed_stand : (text : List ℕ) (ps : List Place) → list_all (can_stand text) ps ≡ true → AllByRecursion (λ p. can_stand text p ≡ true) ps
+listed_stand : (text : List ℕ) (ps : List Place) → list_all (can_stand text) ps ≡ true → AllByRecursion (MayHave text) ps
 listed_stand text [] h = tt
 listed_stand text (p ∷ ps) h =
-    let parts = and_parts (can_stand text p) (list_all (can_stand text) ps) h in (parts.0, listed_stand text ps parts.1)
+    let parts = and_parts (can_stand text p) (list_all (can_stand text) ps) h in ((λ own. parts.0), listed_stand text ps parts.1)
 
-module _ (name : List ℕ) (p : Place) (ps : List Place) (own : AllByRecursion Own (p ∷ ps)) where
+module _ (name : List ℕ) (p : Place) (ps : List Place) where
   abbrev Stand : List ℕ → Type 0
-  Stand text = AllByRecursion (λ q. can_stand text q ≡ true) (p ∷ ps)
+  Stand text = AllByRecursion (MayHave text) (p ∷ ps)
 
   of_fonts : (r : Result (List FontValue) ReadFault) (o : Outcome) (text : List ℕ) → OfFonts name (p ∷ ps) r o → text_of o ≡ Some text → Stand text
   of_fonts (Err fault) o text h e = absurd (none-some text (ap text_of (sym h) ∙ e))
@@ -97,30 +92,39 @@ module _ (name : List ℕ) (p : Place) (ps : List Place) (own : AllByRecursion O
 
   of_places : (b : Bool) → list_all (λ q. bytes_eq p.text q.text) ps ≡ b → (o : Outcome) (text : List ℕ) → OfPlaces name (p ∷ ps) p.text b o →
       text_of o ≡ Some text → Stand text
-  of_places true all o text h e =
-      subst Stand (same_Some p.text text (sym (same_text p.text o h) ∙ e)) (own.0, same_stand p.text ps all own.1)
+  of_places true all o text h e = subst Stand (same_Some p.text text (sym (same_text p.text o h) ∙ e)) ((λ own. own), same_stand p.text ps all)
   of_places false all o text h e = of_fonts (fonts_of (p ∷ ps)) o text h e
 
 -- what the places of a name get can stand at each
-stand_for : (name : List ℕ) (ps : List Place) (o : Option Outcome) → AllByRecursion Own ps → ComeTo name ps o →
-    AllByRecursion (λ p. (text : List ℕ) → option_and_then text_of o ≡ Some text → can_stand text p ≡ true) ps
-stand_for name [] o own h = tt
-stand_for name (p ∷ ps) None own h = absurd h
-stand_for name (p ∷ ps) (Some o) own h = each (p ∷ ps) (λ text e. of_places name p ps own (list_all (λ q. bytes_eq p.text q.text) ps) refl o text h e)
+stand_for : (name : List ℕ) (ps : List Place) (o : Option Outcome) → ComeTo name ps o →
+    AllByRecursion (λ p. (text : List ℕ) → option_and_then text_of o ≡ Some text → MayHave text p) ps
+stand_for name [] o h = tt
+stand_for name (p ∷ ps) None h = absurd h
+stand_for name (p ∷ ps) (Some o) h = each (p ∷ ps) (λ text e. of_places name p ps (list_all (λ q. bytes_eq p.text q.text) ps) refl o text h e)
   where
-    each : (qs : List Place) → ((text : List ℕ) → text_of o ≡ Some text → AllByRecursion (λ q. can_stand text q ≡ true) qs) →
-        AllByRecursion (λ q. (text : List ℕ) → text_of o ≡ Some text → can_stand text q ≡ true) qs
+    each : (qs : List Place) → ((text : List ℕ) → text_of o ≡ Some text → AllByRecursion (MayHave text) qs) →
+        AllByRecursion (λ q. (text : List ℕ) → text_of o ≡ Some text → MayHave text q) qs
     each [] k = tt
     each (q ∷ qs) k = (λ text e. (k text e).0, each qs (λ text e. (k text e).1))
+
+-- each place may have the new text of its name
+pub all_may_have : (ps : List Place) (outcomes : Outcomes) → AreOutcomes ps outcomes →
+    AllByRecursion (λ p. (text : List ℕ) → new_texts outcomes p.name ≡ Some text → MayHave text p) ps
+all_may_have ps outcomes are =
+    from_names (λ name p. (text : List ℕ) → new_texts outcomes name ≡ Some text → MayHave text p) ps
+    (λ name. stand_for name (places_under name ps) (outcomes name) (are name))
 
 -- a place that can have the new text of its name
 abbrev pub CanHave : NewTexts → Place → Type 0
 CanHave new p = (text : List ℕ) → new p.name ≡ Some text → can_stand text p ≡ true
 
 all_can_have : (ps : List Place) (outcomes : Outcomes) → AllByRecursion Own ps → AreOutcomes ps outcomes → AllByRecursion (CanHave (new_texts outcomes)) ps
-all_can_have ps outcomes own are =
-    from_names (λ name p. (text : List ℕ) → new_texts outcomes name ≡ Some text → can_stand text p ≡ true) ps
-    (λ name. stand_for name (places_under name ps) (outcomes name) (all_under Own name ps own) (are name))
+all_can_have ps outcomes own are = each ps own (all_may_have ps outcomes are)
+  where
+    each : (qs : List Place) → AllByRecursion Own qs → AllByRecursion (λ p. (text : List ℕ) → new_texts outcomes p.name ≡ Some text → MayHave text p) qs →
+        AllByRecursion (CanHave (new_texts outcomes)) qs
+    each [] own h = tt
+    each (q ∷ qs) own h = (λ text e. h.0 text e own.0, each qs own.1 h.1)
 
 unrefused : (new : NewTexts) (ps : List Place) → AllByRecursion (CanHave new) ps → (name : List ℕ) → is_refused new ps name ≡ false
 unrefused new [] h name = refl
@@ -159,7 +163,7 @@ have_same text other (p ∷ ps) e h =
     ap (λ (b : Bool). b && list_all (λ q. bytes_eq text q.text) ps) ((bytes_eq-Decides text p.text).1 (e ∙ sym h.0)) ∙ have_same text other ps e h.1
 
 -- places of one text get no other
-one_had : (name t : List ℕ) (ps : List Place) → HaveText t ps → (o : Option Outcome) (text : List ℕ) → ComeTo name ps o →
+pub one_had : (name t : List ℕ) (ps : List Place) → HaveText t ps → (o : Option Outcome) (text : List ℕ) → ComeTo name ps o →
     option_and_then text_of o ≡ Some text → t ≡ text
 one_had name t [] all o text h e = absurd (none-some text (ap (option_and_then text_of) (sym h) ∙ e))
 one_had name t (p ∷ ps) all None text h e = absurd h
@@ -171,7 +175,7 @@ module _ (old left : List Place) (a b : Outcomes) (are_old : AreOutcomes old a) 
     (have : (name text : List ℕ) → new_texts a name ≡ Some text → HaveText text (places_under name left))
     (stay : (name : List ℕ) → new_texts a name ≡ None → map bare (places_under name left) ≡ map bare (places_under name old)) where
   -- where places got their new texts, and the others stayed, they get no other
-  among : (name text : List ℕ) → new_texts b name ≡ Some text → new_texts a name ≡ Some text
+  pub among : (name text : List ℕ) → new_texts b name ≡ Some text → new_texts a name ≡ Some text
   among name text e = by_old (new_texts a name) refl
     where
       by_old : (o : Option (List ℕ)) → new_texts a name ≡ o → new_texts a name ≡ Some text
@@ -185,7 +189,7 @@ module _ (old left : List Place) (a b : Outcomes) (are_old : AreOutcomes old a) 
 
 -- ---- pooled
 
-pooled_have : (new : NewTexts) (ps : List Place) → ArePooled new ps → (name text : List ℕ) → new name ≡ Some text → HaveText text (places_under name ps)
+pub pooled_have : (new : NewTexts) (ps : List Place) → ArePooled new ps → (name text : List ℕ) → new name ≡ Some text → HaveText text (places_under name ps)
 pooled_have new [] h name text e = tt
 pooled_have new (p ∷ ps) h name text e = by_test (bytes_eq p.name name) refl (pooled_have new ps h.1 name text e)
   where
@@ -194,31 +198,47 @@ pooled_have new (p ∷ ps) h name text e = by_test (bytes_eq p.name name) refl (
     by_test true k more = ((h.0 text (ap new ((bytes_eq-Decides p.name name).0 k) ∙ e)).0, more)
     by_test false k more = more
 
-pooled_by_fewer : (new fewer : NewTexts) → ((name text : List ℕ) → fewer name ≡ Some text → new name ≡ Some text) → (ps : List Place) → ArePooled new ps →
+pub pooled_by_fewer : (new fewer : NewTexts) → ((name text : List ℕ) → fewer name ≡ Some text → new name ≡ Some text) → (ps : List Place) → ArePooled new ps →
     ArePooled fewer ps
 pooled_by_fewer new fewer inside [] h = tt
 pooled_by_fewer new fewer inside (p ∷ ps) h = (λ text e. h.0 text (inside p.name text e), pooled_by_fewer new fewer inside ps h.1)
+
+-- Places of a text that was pooled with these outcomes: each has the new text of its name, and behind one at depth 0 is no other of that name; those of names
+-- without a new text are as they were.
+pub record WerePooled (old : List Place) (outcomes : Outcomes) (ps : List Place) : Type 0 where
+  pub pooled : ArePooled (new_texts outcomes) ps
+  pub kept : (name : List ℕ) → new_texts outcomes name ≡ None → map bare (places_under name ps) ≡ map bare (places_under name old)
+
+pub were_pooled : (text a : List ℕ) (h : PooledBy text a) → WerePooled (document_of text).places h.0 (document_of a).places
+were_pooled text a h =
+    let new = new_texts h.0 in
+    let d = document_of text in
+    let left = rewritten Pool new d in
+    let read : document_of a ≡ left = ap document_of h.2 ∙ rewritten_is_read Pool new text in
+    let stand : standing new d.places ≡ new = all_standing new d.places (unrefused new d.places (all_can_have d.places h.0 (own_texts_stand text) h.1)) in
+    let left_are : WerePooled d.places h.0 left.places = record {
+      pooled = subst (λ (n : NewTexts). ArePooled n left.places) stand (pools_all new d);
+      kept = λ name e. kept_left d.last name (standing new d.places) [] d.places (ap (λ (n : NewTexts). n name) stand ∙ e);
+    } in
+    subst (λ (x : Document). WerePooled d.places h.0 x.places) (sym read) left_are
+
+-- places that are pooled so stay, with texts that they have
+pub pooled_keeps : (new : NewTexts) (d : Document) → ArePooled (standing new d.places) d.places → rewritten Pool new d ≡ d
+pooled_keeps new d all =
+    pooled_stays d.last (standing new d.places) (standing new d.places) (λ name. refl) [] d.places all (λ name t s e. absurd (true≢false (sym s)))
 
 pub pooled_again : PooledAgain
 pooled_again text a b h k =
     let new = new_texts h.0 in
     let more = new_texts k.0 in
     let d = document_of text in
-    let left = rewritten Pool new d in
-    let read : document_of a ≡ left = ap document_of h.2 ∙ rewritten_is_read Pool new text in
-    let stand : standing new d.places ≡ new = all_standing new d.places (unrefused new d.places (all_can_have d.places h.0 (own_texts_stand text) h.1)) in
-    let all : ArePooled new left.places = subst (λ (n : NewTexts). ArePooled n left.places) stand (pools_all new d) in
-    let are : AreOutcomes left.places k.0 = subst (λ (x : Document). AreOutcomes x.places k.0) read k.1 in
-    let stays : (name : List ℕ) → new name ≡ None → map bare (places_under name left.places) ≡ map bare (places_under name d.places) =
-    λ name e. kept_left d.last name (standing new d.places) [] d.places (ap (λ (n : NewTexts). n name) stand ∙ e) in
+    let left = document_of a in
+    let were = were_pooled text a h in
     let fewer : NewTexts = standing more left.places in
     let inside : (name t : List ℕ) → fewer name ≡ Some t → new name ≡ Some t =
-    λ name t e. among d.places left.places h.0 k.0 h.1 are (pooled_have new left.places all) stays name t
+    λ name t e. among d.places left.places h.0 k.0 h.1 k.1 (pooled_have new left.places were.pooled) were.kept name t
     (where_stands (is_refused more left.places name) (more name) t e).1 in
-    let again : rewritten Pool more left ≡ left =
-    pooled_stays left.last fewer fewer (λ name. refl) [] left.places (pooled_by_fewer new fewer inside left.places all)
-    (λ name t s e. absurd (true≢false (sym s))) in
-    k.2 ∙ (ap (λ (x : Document). document_bytes (rewritten Pool more x)) read ∙ (ap document_bytes again ∙ sym h.2))
+    k.2 ∙ (ap document_bytes (pooled_keeps more left (pooled_by_fewer new fewer inside left.places were.pooled)) ∙ document_text a)
 
 -- ---- levelled
 

@@ -43,7 +43,7 @@ use Rattle.t1_document.proofs.Exchanges.{Exchanged, exchanged_first, in_each_ord
 use Rattle.t1_document.proofs.Drawn.{shells_are_fonts, each_filled, each_named}
 use Rattle.t1_document.proofs.OneOutcome.{one_text_for}
 use Rattle.t1_document.proofs.Again.{HaveText, have_same}
-use Rattle.t1_document.proofs.NewTextsDraw.{IsUnder, AreFonts, all_sound, sound_under, fonts_read, fonts_sound, name_of_bytes}
+use Rattle.t1_document.proofs.NewTextsDraw.{IsUnder, AreFonts, all_sound, sound_under, fonts_read, fonts_sound}
 
 -- ---- tests and counts
 
@@ -260,7 +260,7 @@ fonts_are (p ∷ ps) (f ∷ fs) h = λ k. listed (sym h.0 k) ++ fonts_are ps fs 
 spelled_fonts : (name : List ℕ) (ps : List Place) → AllByRecursion (IsUnder name) ps → fonts_of ps ≡ Ok (all_fonts ps)
 spelled_fonts name [] u = refl
 spelled_fonts name (p ∷ ps) u =
-    let e = u.0.0.1.spelled in
+    let e = u.0.0.spelled in
     (λ k. with_font (e k) (spelled_fonts name ps u.1 k)) ∙ ap (λ (r : Result FontValue ReadFault). Ok (listed r ++ all_fonts ps)) (sym e)
 
 -- ---- what a name gets
@@ -310,7 +310,7 @@ module _ (name : List ℕ) (p q : Place) (ps qs : List Place) (moved : IsPermuta
       let gs = all_fonts (q ∷ qs) in
       let fonts_moved : IsPermutation fs gs = subst (λ (l : List FontValue). IsPermutation l gs) (sym (fonts_are (p ∷ ps) fs are))
       (flat_in_order (λ r. listed (read_font_widely r.text)) (p ∷ ps) (q ∷ qs) moved) in
-      let bytes : AreBytes name = subst AreBytes u.0.1 (name_of_bytes p u.0.0) in
+      let bytes : AreBytes name = subst AreBytes u.0.1 u.0.0.name in
       let there = rejoin_in_order name fs gs h.0.0 bytes (fonts_sound name (p ∷ ps) fs u are) fonts_moved h.0.1 in
       let stand : list_all (can_stand x.items) (q ∷ qs) ≡ true = sym (list_all_in_order (can_stand x.items) (p ∷ ps) (q ∷ qs) moved) ∙ h.1 in (
         Joined x,

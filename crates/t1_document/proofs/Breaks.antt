@@ -27,6 +27,12 @@ breaks-same (c ∷ []) (a ∷ us) [] h = absurd h
 breaks-same (c ∷ []) (a ∷ us) (b ∷ bs) h = rw h refl
 breaks-same (c ∷ d ∷ x) a b h = breaks-same (d ∷ x) a b h
 
+-- so it does before `%` and before `/`
+pub breaks-slash : (x a b : List ℕ) → breaks x (37 ∷ a) ≡ breaks x (47 ∷ b)
+breaks-slash [] a b = refl
+breaks-slash (c ∷ []) a b = refl
+breaks-slash (c ∷ d ∷ x) a b = breaks-slash (d ∷ x) a b
+
 -- the same text before both
 pub same-append : (t a b : List ℕ) → SameStart a b → SameStart (t ++ a) (t ++ b)
 same-append [] a b h = h

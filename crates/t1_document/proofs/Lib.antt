@@ -27,3 +27,10 @@ pub mod Again
 pub mod Together
 pub mod Exchanges
 pub mod AnyOrder
+pub mod AliasLines
+pub mod FamilyLoops
+pub mod Aliased
+pub mod SettledNames
+pub mod LeftPlaces
+pub mod LeftPooled
+pub mod AliasedAgain

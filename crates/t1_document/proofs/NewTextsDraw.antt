@@ -36,9 +36,12 @@ use Rattle.t1_document.proofs.Drawn.{name_bytes, rejoined_stay, stays_in_itself}
 
 -- ---- places of documents
 
--- a place whose text is bytes and spells a font
-abbrev pub IsSound : Place → Type 0
-IsSound p = AreBytes p.text × Spells p
+-- a place whose name and text are bytes, and whose text spells a font
+pub record IsSound (p : Place) : Type 0 where
+  pub name : AreBytes p.name
+  pub text : AreBytes p.text
+  pub font : FontValue
+  pub spelled : read_font_widely p.text ≡ Ok font
 
 places_bytes : (ps : List Place) (last : List ℕ) → AreBytes (flat_map place_bytes ps ++ last) → AllByRecursion (λ p. AreBytes p.text) ps
 places_bytes [] last h = tt
@@ -49,11 +52,17 @@ places_bytes (p ∷ ps) last h =
     let behind : AreBytes rest = bytes_right (place_bytes p) rest all in
     (bytes_left p.text p.rest (bytes_right p.before (p.text ++ p.rest) own), places_bytes ps [] (subst AreBytes (sym (append-nil rest)) behind))
 
+-- the name of a font in bytes is bytes
+sound : (p : Place) → AreBytes p.text → Spells p → IsSound p
+sound p b s =
+    let font = read_is_font wide p.text s.font b s.spelled in
+    record { name = name_bytes s.font.shell.head p.name (has_bytes s.font font).texts.head s.named; text = b; font = s.font; spelled = s.spelled }
+
 both : (ps : List Place) → AllByRecursion (λ p. AreBytes p.text) ps → AllByRecursion Spells ps → AllByRecursion IsSound ps
 both [] b s = tt
-both (p ∷ ps) b s = ((b.0, s.0), both ps b.1 s.1)
+both (p ∷ ps) b s = (sound p b.0 s.0, both ps b.1 s.1)
 
-places_sound : (text : List ℕ) → AreBytes text → AllByRecursion IsSound (document_of text).places
+pub places_sound : (text : List ℕ) → AreBytes text → AllByRecursion IsSound (document_of text).places
 places_sound text h =
     let d = document_of text in
     both d.places (places_bytes d.places d.last (subst AreBytes (sym (document_text text)) h)) (places_spell text)
@@ -116,19 +125,13 @@ pub fonts_sound : (name : List ℕ) (ps : List Place) (fs : List FontValue) → 
 fonts_sound name [] [] u r = tt
 fonts_sound name [] (f ∷ fs) u r = absurd r
 fonts_sound name (p ∷ ps) [] u r = absurd r
-fonts_sound name (p ∷ ps) (f ∷ fs) u r = (read_is_font wide p.text f u.0.0.0 r.0, fonts_sound name ps fs u.1 r.1)
+fonts_sound name (p ∷ ps) (f ∷ fs) u r = (read_is_font wide p.text f u.0.0.text r.0, fonts_sound name ps fs u.1 r.1)
 
 fonts_stay : (j : FontValue) (ps : List Place) (fs : List FontValue) → AreFonts ps fs → AllByRecursion (λ f. StaysIn f j) fs → AllByRecursion (FontStaysIn j) ps
 fonts_stay j [] [] r s = tt
 fonts_stay j [] (f ∷ fs) r s = absurd r
 fonts_stay j (p ∷ ps) [] r s = absurd r
 fonts_stay j (p ∷ ps) (f ∷ fs) r s = ((f, r.0, s.0), fonts_stay j ps fs r.1 s.1)
-
--- the name of a place is bytes
-pub name_of_bytes : (p : Place) → IsSound p → AreBytes p.name
-name_of_bytes p h =
-    let font = read_is_font wide p.text h.1.font h.0 h.1.spelled in
-    name_bytes h.1.font.shell.head p.name (has_bytes h.1.font font).texts.head h.1.named
 
 -- a text that can stand at a place begins no segment
 stands_plain : (text : List ℕ) (p : Place) → can_stand text p ≡ true → starts_segment text ≡ false
@@ -155,7 +158,7 @@ of_evened name p ps fs u r (Same t) text h e = absurd h
 of_evened name p ps fs u r (Stays why) text h e = absurd (none-some text e)
 of_evened name p ps fs u r (Joined t) text h e =
     let j = h.0.0 in
-    let bytes : AreBytes name = subst AreBytes u.0.1 (name_of_bytes p u.0.0) in
+    let bytes : AreBytes name = subst AreBytes u.0.1 u.0.0.name in
     let stay = rejoined_stay name fs j bytes (fonts_sound name (p ∷ ps) fs u r) h.0.1 in
     let same : text ≡ canon_text j = sym (same_Some t.items text e) ∙ h.0.2 in
     let stands : can_stand (canon_text j) p ≡ true =
@@ -173,9 +176,9 @@ of_same p ps s all (Joined t) text h e = absurd h
 of_same p ps s all (Stays why) text h e = absurd h
 of_same p ps s all (Same t) text h e =
     let same : text ≡ p.text = sym (same_Some t.now text e) ∙ h in (
-      s.1.font,
-      ap read_font_widely same ∙ s.1.spelled,
-      ((s.1.font, s.1.spelled, stays_in_itself s.1.font), stay_of_text s.1.font p.text s.1.spelled ps all),
+      s.font,
+      ap read_font_widely same ∙ s.spelled,
+      ((s.font, s.spelled, stays_in_itself s.font), stay_of_text s.font p.text s.spelled ps all),
     )
 
 of_places : (name : List ℕ) (p : Place) (ps : List Place) → AllByRecursion (IsUnder name) (p ∷ ps) → (b : Bool) →
@@ -184,7 +187,7 @@ of_places : (name : List ℕ) (p : Place) (ps : List Place) → AllByRecursion (
 of_places name p ps u true all o text h e = of_same p ps u.0.0 all o text h e
 of_places name p ps u false all o text h e = of_fonts name p ps u (fonts_of (p ∷ ps)) refl o text h e
 
-come_to : (name : List ℕ) (ps : List Place) → AllByRecursion (IsUnder name) ps → (o : Option Outcome) (text : List ℕ) → ComeTo name ps o →
+pub come_to : (name : List ℕ) (ps : List Place) → AllByRecursion (IsUnder name) ps → (o : Option Outcome) (text : List ℕ) → ComeTo name ps o →
     option_and_then text_of o ≡ Some text → IsGood ps text
 come_to name ps u None text h e = absurd (none-some text e)
 come_to name [] u (Some o) text h e = absurd (none-some o (sym h))

@@ -12,8 +12,8 @@ use Rattle.t1_document.specs.Documents.{Place, Document, document_bytes, behind_
 use Rattle.t1_document.specs.Rewriting.{NewTexts, can_stand, is_barred, is_refused, standing, Fate, Stays, Becomes, Goes, is_seen, fate_of, seen_behind, at_fate}
 use Rattle.t1_document.specs.Rewriting.{rewritten_from, rewritten, pooled, lacks_name, ArePooled}
 use Rattle.t1_document.specs.Joins.{places_under}
-use Rattle.t1_document.proofs.Retold.{AllStand, not_true}
-use Rattle.t1_document.proofs.Rewritten.{standing_stands, where_stands, same_bytes, rewritten_is_read}
+use Rattle.t1_document.proofs.Retold.{not_true}
+use Rattle.t1_document.proofs.Rewritten.{AllStand, standing_stands, where_stands, same_bytes, rewritten_is_read}
 
 -- a place without the bytes before it
 abbrev pub bare : Place → Place
@@ -35,11 +35,11 @@ pooled_behind new b (p ∷ ps) last all = all
 
 -- ---- a name that was seen
 
-not_named : (name : List ℕ) (p : Place) (ps : List Place) → bytes_eq name p.name ≡ false → lacks_name name ps ≡ true → lacks_name name (p ∷ ps) ≡ true
+pub not_named : (name : List ℕ) (p : Place) (ps : List Place) → bytes_eq name p.name ≡ false → lacks_name name ps ≡ true → lacks_name name (p ∷ ps) ≡ true
 not_named name p ps e h = rw e h
 
 -- two names of which one has a text and the other has none differ
-other_text : (new : NewTexts) (name other text : List ℕ) → new name ≡ Some text → new other ≡ None → bytes_eq name other ≡ false
+pub other_text : (new : NewTexts) (name other text : List ℕ) → new name ≡ Some text → new other ≡ None → bytes_eq name other ≡ false
 other_text new name other text e h = elim (cases_Bool (bytes_eq name other)) [
   | inl same ↦ absurd (none-some text (sym h ∙ (ap new (sym ((bytes_eq-Decides name other).0 same)) ∙ e)))
   | inr apart ↦ apart
@@ -111,7 +111,7 @@ module _ (last : List ℕ) where
       by_turn (goes t k s) others =
           let d = rewritten_from Pool new seen ps last in
           ap (λ (d : Document). lacks_name name d.places) (step new seen p ps Goes (fate_goes new seen p t k s))
-          ∙ (lacks_behind name p.before d.places d.last ∙ others seen h e)
+          ∙ (lacks_behind name (p.before ++ []) d.places d.last ∙ others seen h e)
       by_turn (becomes t k s) others =
           let next = seen_behind (Becomes t) p seen in
           ap (λ (d : Document). lacks_name name d.places) (step new seen p ps (Becomes t) (fate_becomes new seen p t k s))
@@ -131,7 +131,7 @@ module _ (last : List ℕ) where
       by_turn (goes t k s) others =
           let d = rewritten_from Pool new seen ps last in
           subst (λ (d : Document). ArePooled new d.places) (sym (step new seen p ps Goes (fate_goes new seen p t k s)))
-          (pooled_behind new p.before d.places d.last (others seen))
+          (pooled_behind new (p.before ++ []) d.places d.last (others seen))
       by_turn (becomes t k s) others =
           subst (λ (d : Document). ArePooled new d.places) (sym (step new seen p ps (Becomes t) (fate_becomes new seen p t k s))) (
             (λ text e. (
@@ -184,7 +184,7 @@ module _ (last : List ℕ) where
         by_turn (goes t k s) others =
             let d = rewritten_from Pool new seen ps last in
             ap (λ (d : Document). map bare (places_under name d.places)) (step new seen p ps Goes (fate_goes new seen p t k s))
-            ∙ (under_behind p.before d.places d.last
+            ∙ (under_behind (p.before ++ []) d.places d.last
             ∙ (others seen ∙ ap (map bare) (sym (not_under p ps (other_text new p.name name t k e)))))
         by_turn (becomes t k s) others =
             let next = seen_behind (Becomes t) p seen in
@@ -237,7 +237,7 @@ module _ (last : List ℕ) (all new : NewTexts) (among : (name text : List ℕ) 
       by_turn (goes t k s) others =
           let d = rewritten_from Pool new seen ps last in
           ap (λ (d : Document). is_refused all d.places name) (step last new seen p ps Goes (fate_goes new seen p t k s))
-          ∙ (refused_behind all name p.before d.places d.last
+          ∙ (refused_behind all name (p.before ++ []) d.places d.last
           ∙ (others seen ∙ ap (λ (b : Bool). b || is_refused all ps name) (sym (not_barred p name t k (stand.0 t k)))))
       by_turn (becomes t k s) others =
           ap (λ (d : Document). is_refused all d.places name) (step last new seen p ps (Becomes t) (fate_becomes new seen p t k s))
@@ -245,7 +245,7 @@ module _ (last : List ℕ) (all new : NewTexts) (among : (name text : List ℕ) 
           (barred_new p name t (all p.name))
           ∙ ap (λ (b : Bool). (bytes_eq name p.name && is_barred (all p.name) p) || b) (others (seen_behind (Becomes t) p seen)))
 
-not_lacked : (name : List ℕ) (p : Place) (ps : List Place) → lacks_name name (p ∷ ps) ≡ true → (bytes_eq name p.name ≡ false) × (lacks_name name ps ≡ true)
+pub not_lacked : (name : List ℕ) (p : Place) (ps : List Place) → lacks_name name (p ∷ ps) ≡ true → (bytes_eq name p.name ≡ false) × (lacks_name name ps ≡ true)
 not_lacked name p ps h =
     let parts = or_parts (bytes_eq name p.name) (list_any (λ q. bytes_eq name q.name) ps) (not_true _ h) in
     (parts.0, ap not parts.1)

@@ -1,5 +1,5 @@
 -- The laws of rewriting.
-use Rattle.std.proofs.Common.{◌≡◌, ℕ, Bool, true, false, cond, List, [], ◌∷◌, ◌++◌, map, Option, Some, None, refl, sym, ap, ◌∙◌, append_assoc}
+use Rattle.std.proofs.Common.{◌≡◌, ℕ, Bool, true, false, cond, List, [], ◌∷◌, ◌++◌, map, Option, Some, None, refl, sym, ap, ◌∙◌, append_assoc, inl}
 use Rattle.std.specs.Prelude.{◌&&◌, ◌||◌, not}
 use Rattle.std.specs.Str.{bytes_eq}
 use Rattle.std.proofs.lemmas.Bool.{or_parts}
@@ -11,12 +11,12 @@ use Rattle.t1_document.specs.declared.rewriting.Way.{Way}
 use Rattle.t1_document.specs.declared.rewriting.Way.TheVariants.{Level}
 use Rattle.t1_document.specs.Stretches.{Stretch, Stretches, stretches, bytes_of, joined, mark_lines, AreThose}
 use Rattle.t1_document.specs.Documents.{Place, Document, document_bytes, place_bytes, none_open, open_behind, next_mark, place_at, prepended, document_from, document_of_stretches, document_of}
-use Rattle.t1_document.specs.Rewriting.{NewTexts, can_stand, is_barred, is_refused, standing, Fate, Stays, Becomes, Goes, fate_of, seen_behind, at_fate}
-use Rattle.t1_document.specs.Rewriting.{rewritten_from, rewritten, fate_bytes, written_from, levelled, with_new, renewed}
+use Rattle.t1_document.specs.Rewriting.{NewTexts, can_stand, is_barred, is_refused, standing, Fate, Stays, Becomes, Gives, Goes, is_pool, is_seen, fate_of, seen_behind, at_fate}
+use Rattle.t1_document.specs.Rewriting.{fated, fated_bytes, rewritten_from, rewritten, fate_bytes, written_from, levelled, with_new, renewed}
 use Rattle.t1_document.proofs.StretchLemmas.{stretches_those, stretches_again}
 use Rattle.t1_document.proofs.PlaceLemmas.{prepended_bytes, from_bytes}
 use Rattle.t1_document.proofs.Breaks.{breaks-same}
-use Rattle.t1_document.proofs.Retold.{AllStand, all_behind, told_at, seen_at, mark_same, line_same, retold, document_retold, start_same, are_retold, rewritten-prepended}
+use Rattle.t1_document.proofs.Retold.{Fits, fated_by, AllFit, all_behind, told_at, left_at, mark_same, line_same, retold, document_retold, start_same, are_retold, fated-prepended}
 
 -- ---- the new texts that stand
 
@@ -32,6 +32,11 @@ not_false false h = absurd cc
 pub where_stands : (refused : Bool) (o : Option (List ℕ)) (text : List ℕ) → cond refused None o ≡ Some text → (refused ≡ false) × (o ≡ Some text)
 where_stands true o text e = absurd (none-some text e)
 where_stands false o text e = (refl, e)
+
+-- each place can have the new text of its name
+abbrev pub AllStand : NewTexts → List Place → Type 0
+AllStand new [] = Unit {0}
+AllStand new (p ∷ ps) = ((text : List ℕ) → new p.name ≡ Some text → can_stand text p ≡ true) × AllStand new ps
 
 -- each can stand at all places of its name
 pub standing_stands : (new : NewTexts) (ps : List Place) → AllStand (standing new ps) ps
@@ -55,75 +60,115 @@ standing_stands new ps = each ps (λ name h. h)
 
 -- ---- what is written is read
 
-module _ (way : Way) (new : NewTexts) (text : List ℕ) where
+module _ (fs : List Fate) (text : List ℕ) where
   -- the stretches of what is written
   abbrev written_stretches : Stretches
-  written_stretches = ((stretches text).0, retold way new none_open [] (stretches text).1)
+  written_stretches = ((stretches text).0, retold none_open fs (stretches text).1)
 
-  document_written : AllStand new (document_of text).places →
-      rewritten_from way new [] (document_of text).places (document_of text).last ≡ document_of_stretches written_stretches
+  document_written : AllFit fs (document_of text).places → fated_by fs (document_of text).places (document_of text).last
+      ≡ document_of_stretches written_stretches
   unfolding document_of
   document_written all =
       let x = stretches text in
       let d = document_from none_open x.1 in
-      rewritten-prepended way new [] x.0 d
-      ∙ ap (prepended x.0) (sym (document_retold way new none_open [] x.1 (all_behind new x.0 d all)))
+      fated-prepended fs x.0 d
+      ∙ ap (prepended x.0) (sym (document_retold none_open fs x.1 (all_behind fs x.0 d all)))
 
-  stretches_written : AllStand new (document_of text).places → AreThose written_stretches
+  stretches_written : AllFit fs (document_of text).places → AreThose written_stretches
   unfolding document_of
   stretches_written all =
       let x = stretches text in
       let those = stretches_those text in
-      let same = start_same way new none_open [] x.1 those.each in
+      let same = start_same none_open fs x.1 those.each in
       record {
         unmarked = those.unmarked;
-        front_ends = sym (breaks-same x.0 (bytes_of x.1) (bytes_of (retold way new none_open [] x.1)) same) ∙ those.front_ends;
-        each = are_retold way new none_open [] x.1 those.each (all_behind new x.0 (document_from none_open x.1) all);
+        front_ends = sym (breaks-same x.0 (bytes_of x.1) (bytes_of (retold none_open fs x.1)) same) ∙ those.front_ends;
+        each = are_retold none_open fs x.1 those.each (all_behind fs x.0 (document_from none_open x.1) all);
       }
 
   bytes_written : (x : Stretches) → document_bytes (document_of_stretches x) ≡ joined x
   bytes_written x = prepended_bytes x.0 (document_from none_open x.1) ∙ ap (λ (t : List ℕ). x.0 ++ t) (from_bytes none_open x.1)
 
   -- the stretches of the bytes
-  pub stretches_are : AllStand new (document_of text).places →
-      stretches (document_bytes (rewritten_from way new [] (document_of text).places (document_of text).last)) ≡ written_stretches
+  pub stretches_are : AllFit fs (document_of text).places →
+      stretches (document_bytes (fated_by fs (document_of text).places (document_of text).last)) ≡ written_stretches
   stretches_are all =
       ap (λ (d : Document). stretches (document_bytes d)) (document_written all)
       ∙ (ap stretches (bytes_written written_stretches) ∙ stretches_again written_stretches (stretches_written all))
 
   -- the document of the bytes
-  pub document_is : AllStand new (document_of text).places →
-      document_of (document_bytes (rewritten_from way new [] (document_of text).places (document_of text).last))
-      ≡ rewritten_from way new [] (document_of text).places (document_of text).last
+  pub document_is : AllFit fs (document_of text).places →
+      document_of (document_bytes (fated_by fs (document_of text).places (document_of text).last))
+      ≡ fated_by fs (document_of text).places (document_of text).last
   unfolding document_of
   document_is all = ap document_of_stretches (stretches_are all) ∙ sym (document_written all)
+
+-- ---- its marks
+
+told_lines : (o : Open) (fs : List Fate) (ss : List Stretch) → mark_lines (retold o fs ss) ≡ mark_lines ss
+unfolding retold
+told_lines o fs [] = refl
+told_lines o fs (s ∷ ss) =
+    let q = place_at o s (next_mark ss) in
+    let rest = mark_lines (retold (open_behind o s.mark) (left_at fs q) ss) in
+    ap (λ (x : Mark). (x, (told_at fs q s).line) ∷ rest) (mark_same fs q s)
+    ∙ (ap (λ (l : List ℕ). (s.mark, l) ∷ rest) (line_same fs q s)
+    ∙ ap (λ (ls : List (Mark × List ℕ)). (s.mark, s.line) ∷ ls) (told_lines (open_behind o s.mark) (left_at fs q) ss))
+
+-- the marks stay, each in its line
+pub lines_stay : (fs : List Fate) (text : List ℕ) → AllFit fs (document_of text).places →
+    mark_lines (stretches (document_bytes (fated_by fs (document_of text).places (document_of text).last))).1 ≡ mark_lines (stretches text).1
+lines_stay fs text all = ap (λ (x : Stretches). mark_lines x.1) (stretches_are fs text all) ∙ told_lines none_open fs (stretches text).1
+
+-- ---- with new texts
+
+module _ (way : Way) (new : NewTexts) where
+  -- what becomes of places behind these names
+  abbrev fates_from : List (List ℕ) → List Place → List Fate
+  fates_from seen [] = []
+  fates_from seen (p ∷ ps) = fate_of way seen p (new p.name) ∷ fates_from (seen_behind (fate_of way seen p (new p.name)) p seen) ps
+
+  rewritten_fated : (seen : List (List ℕ)) (ps : List Place) (last : List ℕ) → rewritten_from way new seen ps last ≡ fated_by (fates_from seen ps) ps last
+  unfolding rewritten_from fated_by
+  rewritten_fated seen [] last = refl
+  rewritten_fated seen (p ∷ ps) last =
+      let f = fate_of way seen p (new p.name) in
+      ap (at_fate f p) (rewritten_fated (seen_behind f p seen) ps last)
+
+  goes_or_becomes : (p : Place) (text : List ℕ) (b : Bool) → can_stand text p ≡ true → Fits (cond b Goes (Becomes text)) p
+  goes_or_becomes p text true h = inl refl
+  goes_or_becomes p text false h = h
+
+  fate_fits : (seen : List (List ℕ)) (p : Place) (o : Option (List ℕ)) → ((text : List ℕ) → o ≡ Some text → can_stand text p ≡ true) →
+      Fits (fate_of way seen p o) p
+  fate_fits seen p None h = tt
+  fate_fits seen p (Some text) h = goes_or_becomes p text (is_pool way && is_seen seen p.name) (h text refl)
+
+  all_fit : (seen : List (List ℕ)) (ps : List Place) → AllStand new ps → AllFit (fates_from seen ps) ps
+  all_fit seen [] h = tt
+  all_fit seen (p ∷ ps) h = (
+    fate_fits seen p (new p.name) h.0,
+    all_fit (seen_behind (fate_of way seen p (new p.name)) p seen) ps h.1,
+  )
 
 -- what is written is read as it was meant
 pub rewritten_is_read : (way : Way) (new : NewTexts) (text : List ℕ) →
     document_of (document_bytes (rewritten way new (document_of text))) ≡ rewritten way new (document_of text)
 rewritten_is_read way new text =
-    let ps = (document_of text).places in
-    document_is way (standing new ps) text (standing_stands new ps)
+    let d = document_of text in
+    let stand = standing new d.places in
+    let is : rewritten way new d ≡ fated_by (fates_from way stand [] d.places) d.places d.last = rewritten_fated way stand [] d.places d.last in
+    ap (λ (x : Document). document_of (document_bytes x)) is
+    ∙ (document_is (fates_from way stand [] d.places) text (all_fit way stand [] d.places (standing_stands new d.places)) ∙ sym is)
 
--- ---- its marks
-
-told_lines : (way : Way) (new : NewTexts) (o : Open) (seen : List (List ℕ)) (ss : List Stretch) → mark_lines (retold way new o seen ss) ≡ mark_lines ss
-unfolding retold
-told_lines way new o seen [] = refl
-told_lines way new o seen (s ∷ ss) =
-    let q = place_at o s (next_mark ss) in
-    let rest = mark_lines (retold way new (open_behind o s.mark) (seen_at way new seen q) ss) in
-    ap (λ (x : Mark). (x, (told_at way new seen q s).line) ∷ rest) (mark_same way new seen q s)
-    ∙ (ap (λ (l : List ℕ). (s.mark, l) ∷ rest) (line_same way new seen q s)
-    ∙ ap (λ (ls : List (Mark × List ℕ)). (s.mark, s.line) ∷ ls) (told_lines way new (open_behind o s.mark) (seen_at way new seen q) ss))
-
--- the marks stay, each in its line
+-- the marks stay
 pub marks_stay : (way : Way) (new : NewTexts) (text : List ℕ) →
     mark_lines (stretches (document_bytes (rewritten way new (document_of text)))).1 ≡ mark_lines (stretches text).1
 marks_stay way new text =
-    let ps = (document_of text).places in
-    ap (λ (x : Stretches). mark_lines x.1) (stretches_are way (standing new ps) text (standing_stands new ps))
-    ∙ told_lines way (standing new ps) none_open [] (stretches text).1
+    let d = document_of text in
+    let stand = standing new d.places in
+    ap (λ (x : Document). mark_lines (stretches (document_bytes x)).1) (rewritten_fated way stand [] d.places d.last)
+    ∙ lines_stay (fates_from way stand [] d.places) text (all_fit way stand [] d.places (standing_stands new d.places))
 
 -- ---- its bytes
 
@@ -131,7 +176,20 @@ fate_written : (f : Fate) (p : Place) (d : Document) → document_bytes (at_fate
 fate_written Stays p d = append_assoc (place_bytes p) _ d.last ∙ append_assoc p.before (p.text ++ p.rest) (document_bytes d)
 fate_written (Becomes text) p d =
     append_assoc (p.before ++ (text ++ p.rest)) _ d.last ∙ append_assoc p.before (text ++ p.rest) (document_bytes d)
-fate_written Goes p d = prepended_bytes p.before d
+fate_written (Gives bytes) p d = prepended_bytes (p.before ++ bytes) d ∙ append_assoc p.before bytes (document_bytes d)
+
+-- the bytes of places with their fates are written place by place
+pub fated_written : (xs : List (Place × Fate)) (last : List ℕ) → document_bytes (fated xs last) ≡ fated_bytes xs last
+unfolding fated fated_bytes
+fated_written [] last = refl
+fated_written (x ∷ xs) last =
+    fate_written x.1 x.0 (fated xs last) ∙ ap (λ (t : List ℕ). x.0.before ++ (fate_bytes x.1 x.0 ++ t)) (fated_written xs last)
+
+-- places and fates, each list by itself
+pub fated_is : (xs : List (Place × Fate)) (last : List ℕ) → fated xs last ≡ fated_by (map (λ x. x.1) xs) (map (λ x. x.0) xs) last
+unfolding fated fated_by
+fated_is [] last = refl
+fated_is (x ∷ xs) last = ap (at_fate x.1 x.0) (fated_is xs last)
 
 -- the bytes are those that are written place by place
 pub written_is : (way : Way) (new : NewTexts) (seen : List (List ℕ)) (ps : List Place) (last : List ℕ) →

@@ -14,11 +14,11 @@ use Rattle.t1_document.specs.declared.documents.Place.{Place as CodePlace}
 use Rattle.t1_document.specs.declared.texts.Texts.{Texts}
 use Rattle.t1_document.specs.declared.rewriting.Way.{Way}
 use Rattle.t1_document.specs.Documents.{Place}
-use Rattle.t1_document.specs.Rewriting.{NewTexts, is_barred, is_refused, standing, is_seen, Fate, fate_by, fate_of, fate_bytes, seen_behind, written_from}
+use Rattle.t1_document.specs.Rewriting.{NewTexts, is_refused, standing, is_seen, Fate, fate_by, fate_of, fate_bytes, seen_behind, written_from}
 use Rattle.t1_document.specs.Texts.{text_in, has_text, Sees}
 use Rattle.t1_document.specs.Views.{place_view}
 
--- ---- names that are refused
+-- ---- names of places that pass a test
 
 pub same_test : (a b : List ℕ) → bytes_eq a b ≡ bytes_eq b a
 same_test a b = elim (cases_Bool (bytes_eq a b)) [
@@ -29,56 +29,61 @@ same_test a b = elim (cases_Bool (bytes_eq a b)) [
   ]
 ]
 
--- with one place more
-refused_more : (new : NewTexts) (places : List CodePlace) (i : ℕ) (d : CodePlace) → i < length places → (name : List ℕ) →
-    is_refused new (map place_view (take (i + 1) places)) name
-    ≡ (is_refused new (map place_view (take i places)) name
-    || (bytes_eq name (get_or places i d).name.now && is_barred (new (get_or places i d).name.now) (place_view (get_or places i d))))
-refused_more new places i d h name =
-    let test : Place → Bool = λ p. bytes_eq name p.name && is_barred (new p.name) p in
-    let p = place_view (get_or places i d) in
-    ap (λ (ps : List CodePlace). list_any test (map place_view ps)) (take_more places i d h)
-    ∙ (ap (list_any test) (map-append place_view (take i places) (get_or places i d ∷ []))
-    ∙ (list_any-append test (map place_view (take i places)) (p ∷ [])
-    ∙ ap (λ (b : Bool). list_any test (map place_view (take i places)) || b) (or-false (test p))))
-
--- these names are refused at these places
-abbrev pub Refuses : NewTexts → List Place → Texts → Type 0
-Refuses new ps r = (name : List ℕ) → has_text r name ≡ is_refused new ps name
-
--- a place that bars nothing adds no name
-pub refused_stays : (new : NewTexts) (places : List CodePlace) (i : ℕ) (d : CodePlace) (r : Texts) (b : Bool) → i < length places →
-    Refuses new (map place_view (take i places)) r → b ≡ is_barred (new (get_or places i d).name.now) (place_view (get_or places i d)) → b ≡ false →
-    Refuses new (map place_view (take (i + 1) places)) r
-refused_stays new places i d r b h k e stands name =
-    let p = get_or places i d in
-    k name
-    ∙ sym (refused_more new places i d h name
-    ∙ (ap (λ (t : Bool). is_refused new (map place_view (take i places)) name || (bytes_eq name p.name.now && t)) (sym e ∙ stands)
-    ∙ (ap (λ (t : Bool). is_refused new (map place_view (take i places)) name || t) (and-false (bytes_eq name p.name.now)) ∙ or-false _)))
+-- these names are those of places that pass a test
+abbrev pub Flags : (Place → Bool) → List Place → Texts → Type 0
+Flags test ps r = (name : List ℕ) → has_text r name ≡ list_any (λ p. bytes_eq name p.name && test p) ps
 
 put_more : (b : Bool) (v : List ℕ) (o : Option (List ℕ)) → is_some (cond b (Some v) o) ≡ (is_some o || b)
 put_more true v None = refl
 put_more true v (Some x) = refl
 put_more false v o = sym (or-false (is_some o))
 
--- a place that bars its new text adds its name
-pub refused_grows : (new : NewTexts) (places : List CodePlace) (i : ℕ) (d : CodePlace) (r s : Texts) (b : Bool) → i < length places →
-    Refuses new (map place_view (take i places)) r → b ≡ is_barred (new (get_or places i d).name.now) (place_view (get_or places i d)) → b ≡ true →
-    ((other : List ℕ) → text_in s other ≡ cond (bytes_eq (get_or places i d).name.now other) (Some (get_or places i d).name.now) (text_in r other)) →
-    Refuses new (map place_view (take (i + 1) places)) s
-refused_grows new places i d r s b h k e bars put name =
-    let p = get_or places i d in
-    ap is_some (put name)
-    ∙ (put_more (bytes_eq p.name.now name) p.name.now (text_in r name)
-    ∙ (ap (λ (t : Bool). t || bytes_eq p.name.now name) (k name)
-    ∙ sym (refused_more new places i d h name
-    ∙ (ap (λ (t : Bool). is_refused new (map place_view (take i places)) name || (bytes_eq name p.name.now && t)) (sym e ∙ bars)
-    ∙ ap (λ (t : Bool). is_refused new (map place_view (take i places)) name || t) (and-true (bytes_eq name p.name.now) ∙ same_test name p.name.now)))))
+module _ (test : Place → Bool) (places : List CodePlace) (i : ℕ) (d : CodePlace) (h : i < length places) where
+  -- one of the places so far passes, and has this name
+  abbrev flagged : List ℕ → Bool
+  flagged name = list_any (λ p. bytes_eq name p.name && test p) (map place_view (take i places))
 
--- in a text that is the same
-pub refused_same : (new : NewTexts) (ps : List Place) (r s : Texts) → s ≡ r → Refuses new ps r → Refuses new ps s
-refused_same new ps r s e k name = ap (λ (t : Texts). has_text t name) e ∙ k name
+  -- with one place more
+  flags_more : (name : List ℕ) → list_any (λ p. bytes_eq name p.name && test p) (map place_view (take (i + 1) places))
+      ≡ (flagged name || (bytes_eq name (get_or places i d).name.now && test (place_view (get_or places i d))))
+  flags_more name =
+      let own : Place → Bool = λ p. bytes_eq name p.name && test p in
+      let p = place_view (get_or places i d) in
+      ap (λ (ps : List CodePlace). list_any own (map place_view ps)) (take_more places i d h)
+      ∙ (ap (list_any own) (map-append place_view (take i places) (get_or places i d ∷ []))
+      ∙ (list_any-append own (map place_view (take i places)) (p ∷ [])
+      ∙ ap (λ (b : Bool). list_any own (map place_view (take i places)) || b) (or-false (own p))))
+
+  -- a place that fails adds no name
+  pub flags_stay : (r : Texts) (b : Bool) → Flags test (map place_view (take i places)) r → b ≡ test (place_view (get_or places i d)) → b ≡ false →
+      Flags test (map place_view (take (i + 1) places)) r
+  flags_stay r b k e fails name =
+      let p = get_or places i d in
+      k name
+      ∙ sym (flags_more name
+      ∙ (ap (λ (t : Bool). flagged name || (bytes_eq name p.name.now && t)) (sym e ∙ fails)
+      ∙ (ap (λ (t : Bool). flagged name || t) (and-false (bytes_eq name p.name.now)) ∙ or-false _)))
+
+  -- a place that passes adds its name
+  pub flags_grow : (r s : Texts) (b : Bool) → Flags test (map place_view (take i places)) r → b ≡ test (place_view (get_or places i d)) → b ≡ true →
+      ((other : List ℕ) → text_in s other ≡ cond (bytes_eq (get_or places i d).name.now other) (Some (get_or places i d).name.now) (text_in r other)) →
+      Flags test (map place_view (take (i + 1) places)) s
+  flags_grow r s b k e passes put name =
+      let p = get_or places i d in
+      ap is_some (put name)
+      ∙ (put_more (bytes_eq p.name.now name) p.name.now (text_in r name)
+      ∙ (ap (λ (t : Bool). t || bytes_eq p.name.now name) (k name)
+      ∙ sym (flags_more name
+      ∙ (ap (λ (t : Bool). flagged name || (bytes_eq name p.name.now && t)) (sym e ∙ passes)
+      ∙ ap (λ (t : Bool). flagged name || t) (and-true (bytes_eq name p.name.now) ∙ same_test name p.name.now)))))
+
+-- in texts that are the same
+pub flags_same : (test : Place → Bool) (ps : List Place) (r s : Texts) → s ≡ r → Flags test ps r → Flags test ps s
+flags_same test ps r s e k name = ap (λ (t : Texts). has_text t name) e ∙ k name
+
+-- these names are refused at these places
+abbrev pub Refuses : NewTexts → List Place → Texts → Type 0
+Refuses new ps r = (name : List ℕ) → has_text r name ≡ is_refused new ps name
 
 -- ---- places that are written
 

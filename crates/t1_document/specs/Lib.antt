@@ -10,3 +10,5 @@ pub mod Laws
 pub mod Joins
 pub mod Groups
 pub mod JoinLaws
+pub mod Families
+pub mod FamilyLaws

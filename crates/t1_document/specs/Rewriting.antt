@@ -39,11 +39,15 @@ standing new ps name = if is_refused new ps name then None else new name
 
 -- ---- what becomes of a place
 
--- it stays, it gets this font text, or its font text and its rest go
+-- it stays, it gets this font text, or its font text and its rest give way to these bytes
 pub data Fate : Type 0 where
   Stays : Fate
   Becomes : List ℕ → Fate
-  Goes : Fate
+  Gives : List ℕ → Fate
+
+-- its font text and its rest go
+abbrev pub Goes : Fate
+Goes = Gives []
 
 -- a name is among those that were seen
 abbrev pub is_seen : List (List ℕ) → List ℕ → Bool
@@ -67,13 +71,18 @@ fate_of way seen p new = fate_by way (is_seen seen p.name) new
 abbrev pub seen_behind : Fate → Place → List (List ℕ) → List (List ℕ)
 seen_behind Stays p seen = seen
 seen_behind (Becomes text) p seen = if p.depth == 0 then p.name ∷ seen else seen
-seen_behind Goes p seen = seen
+seen_behind (Gives bytes) p seen = seen
 
 -- a place before a document, as its fate is
 abbrev pub at_fate : Fate → Place → Document → Document
 at_fate Stays p d = record { places = p ∷ d.places; last = d.last }
 at_fate (Becomes text) p d = record { places = record p { text = text } ∷ d.places; last = d.last }
-at_fate Goes p d = prepended p.before d
+at_fate (Gives bytes) p d = prepended (p.before ++ bytes) d
+
+-- places, each with what becomes of it, and the bytes behind them
+unfoldable pub fated : List (Place × Fate) → List ℕ → Document
+fated [] last = record { places = []; last = last }
+fated (x ∷ xs) last = at_fate x.1 x.0 (fated xs last)
 
 -- the places, of which these names were seen before, and the bytes behind them
 unfoldable pub rewritten_from : Way → NewTexts → List (List ℕ) → List Place → List ℕ → Document
@@ -91,7 +100,12 @@ rewritten way new d = rewritten_from way (standing new d.places) [] d.places d.l
 abbrev pub fate_bytes : Fate → Place → List ℕ
 fate_bytes Stays p = p.text ++ p.rest
 fate_bytes (Becomes text) p = text ++ p.rest
-fate_bytes Goes p = []
+fate_bytes (Gives bytes) p = bytes
+
+-- the bytes of places, each with what becomes of it: what stands before a place stays, and so do the last bytes
+unfoldable pub fated_bytes : List (Place × Fate) → List ℕ → List ℕ
+fated_bytes [] last = last
+fated_bytes (x ∷ xs) last = x.0.before ++ (fate_bytes x.1 x.0 ++ fated_bytes xs last)
 
 -- the bytes of the places and of those behind them: what stands before a place stays, and so do the last bytes
 unfoldable pub written_from : Way → NewTexts → List (List ℕ) → List Place → List ℕ → List ℕ

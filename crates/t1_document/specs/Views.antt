@@ -1,9 +1,11 @@
 -- What code keeps, as values.
-use Rattle.std.specs.Prelude.{map}
+use Rattle.std.specs.Prelude.{[], map}
+use Rattle.std.specs.Option.{option_map}
 use Rattle.t1_document.specs.declared.stretches.Stretch.{Stretch as CodeStretch}
 use Rattle.t1_document.specs.declared.fonts.FontText.{FontText as CodeFontText}
 use Rattle.t1_document.specs.declared.documents.Place.{Place as CodePlace}
 use Rattle.t1_document.specs.declared.documents.Document.{Document as CodeDocument}
+use Rattle.t1_document.specs.declared.families.Led.{Led as CodeLed}
 use Rattle.t1_document.specs.declared.rewriting.Fate.{Fate as CodeFate}
 use Rattle.t1_document.specs.declared.rewriting.Fate.TheVariants.{Stays, Becomes, Goes}
 use Rattle.t1_document.specs.Stretches.{Stretch}
@@ -11,6 +13,7 @@ use Rattle.t1_document.specs.Fonts.{FontText}
 use Rattle.t1_document.specs.Documents.{Place, Document}
 use Rattle.t1_document.specs.Rewriting.{Fate}
 use Rattle.t1_document.specs.Rewriting as fates
+use Rattle.t1_document.specs.Families.{Led}
 
 -- a stretch of borrowed bytes
 abbrev pub stretch_view : CodeStretch → Stretch
@@ -32,4 +35,8 @@ document_view d = record { places = map place_view d.places.items; last = d.last
 abbrev pub fate_view : CodeFate → Fate
 fate_view Stays = fates.Stays
 fate_view (Becomes text) = fates.Becomes text.now
-fate_view Goes = fates.Goes
+fate_view Goes = fates.Gives []
+
+-- a place and its leader, borrowed
+abbrev pub led_view : CodeLed → Led
+led_view l = record { place = place_view l.place; leader = option_map (λ n. n.now) l.leader }

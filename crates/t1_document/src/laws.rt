@@ -2,6 +2,7 @@
 
 ghost use Rattle.t1_document.specs.Laws.{StretchesOfText, ReadAgain, DocumentOfText, PlacesSpell, JoinedDocuments};
 ghost use Rattle.t1_document.specs.JoinLaws.{NewTextsDraw, NewTextsStand, OneOutcome, OnePooled, OneLevelled, PooledAgain, LevelledAgain, LevelledTogether, InAnyOrder};
+ghost use Rattle.t1_document.specs.FamilyLaws.{AliasedIsRead, AliasedMarksStay, AliasedOthersStay, AliasesDraw, OneAliased, OneByFamilies, FamiliesAgain};
 ghost use Rattle.t1_document.specs.Laws.{RewrittenIsRead, MarksStay, OthersStay, LevelRenews, CanonStands, OwnTextsStand, OwnTextsStay, LevelledTwice, LevelledApart, PoolsAll, PooledTwice};
 
 /// The stretches of a text, joined, are the text.
@@ -118,4 +119,34 @@ pub fn levelled_together()
 /// In any order documents get the same texts for their names.
 pub fn in_any_order()
     ensures { InAnyOrder }
+{}
+
+/// What is written where families have one font each is read again as it was meant: the places of a leader have its new text, and
+/// those that gave way to a line are no places.
+pub fn aliased_is_read()
+    ensures { AliasedIsRead }
+{}
+
+/// The marks of a document stay where its families have one font each, each in its line; and each byte stays outside the font
+/// texts and the rests of places that become something else.
+pub fn aliased_others_stay()
+    ensures marks { AliasedMarksStay }
+    ensures bytes { AliasedOthersStay }
+{}
+
+/// What the places of a leader get spells a font in which each glyph that draws without a fault in the font of a place under that
+/// leader draws the same, where hints are replaced and where they are kept, and each code keeps its name.
+pub fn aliases_draw()
+    ensures { AliasesDraw }
+{}
+
+/// There is one text that a text comes to where its families have one font each, and one where it is pooled before.
+pub fn one_by_families()
+    ensures aliased { OneAliased }
+    ensures families { OneByFamilies }
+{}
+
+/// A text that was pooled by families is pooled so to itself.
+pub fn families_again()
+    ensures { FamiliesAgain }
 {}

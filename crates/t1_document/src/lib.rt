@@ -17,6 +17,7 @@
 #![tactic(auto)]
 
 mod documents;
+mod families;
 mod fonts;
 mod groups;
 mod joins;
@@ -29,6 +30,7 @@ mod stretches;
 mod texts;
 
 pub use documents::{Document, Place, read_document};
+pub use families::members_of;
 pub use joins::{Joins, Kept, Outcome, join_fonts};
 pub use lines::push_document;
 pub use marks::{Kind, Mark, Side};

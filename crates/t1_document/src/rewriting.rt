@@ -134,7 +134,11 @@ fn fate_of(way: Way, was_seen: bool, text: Option<&[u8]>) -> Fate<'_>
 }
 
 /// Adds what stands in place of the font text and the rest of a place.
-fn push_fate(out: &mut Vec<u8>, place: &Place<'_>, fate: Fate<'_>) -> Result<(), AllocError>
+pub(crate) fn push_fate(
+    out: &mut Vec<u8>,
+    place: &Place<'_>,
+    fate: Fate<'_>,
+) -> Result<(), AllocError>
     ensures { OnOk result (out.new.items
         ≡ out.old.items ++ fate_bytes (fate_view fate.entry) (place_view place.now)) }
 {

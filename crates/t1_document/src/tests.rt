@@ -1,5 +1,6 @@
 //! Documents as producers write them: which places they have, and what they become with new texts.
 
+mod families;
 mod growths;
 mod joins;
 mod large;

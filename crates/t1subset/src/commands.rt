@@ -172,7 +172,20 @@ standard error tells why. What a first place defines has to be in force at the
 later ones: with a `restore` between them use the documents as they are. OUT is
 opened only when the result is complete.
 
-Example: t1subset pool all.ps one.ps two.ps";
+With --tags, names that are equal without their tags, six capitals and `+`, are
+one: a later place with another such name becomes the line
+`/NAME /FIRST findfont definefont pop`.
+
+Examples: t1subset pool all.ps one.ps two.ps
+          t1subset pool --tags all.ps one.ps two.ps";
+
+/// The option that makes names one that are equal without their tags.
+fn tags_option<'a>(alloc: Global) -> Arg<'a> {
+    Arg::new(alloc, "tags")
+        .long("tags")
+        .action(ArgAction::SetTrue)
+        .help("Gives names that are equal without their tags one font")
+}
 
 fn documents_word<'a>(alloc: Global) -> Arg<'a> {
     Arg::new(alloc, "IN")
@@ -187,7 +200,8 @@ fn pool_command<'a>(alloc: Global) -> Result<Command<'a>, AllocError> {
         .about("Writes documents one behind the other with each font once")
         .after_help(POOL_HELP)
         .arg(word(alloc, "OUT", "The file that is written"))?
-        .arg(documents_word(alloc))
+        .arg(documents_word(alloc))?
+        .arg(tags_option(alloc))
 }
 
 const LEVEL_HELP: &str = "\

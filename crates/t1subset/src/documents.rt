@@ -55,7 +55,8 @@ pub fn pool<'p, R: Files, E: Write + Drop>(
     let progress = RefCell::new(told.progress(paths.len()));
     let mut documents = watched(rt, alloc, paths, &progress, seen)?;
     let mut out = out(rt, alloc, given);
-    let done = run_pool(alloc, documents.as_mut_slice(), &mut out);
+    let tags = given.get_flag("tags");
+    let done = run_pool(alloc, tags, documents.as_mut_slice(), &mut out);
     seen.input = last_read(paths, documents.as_slice());
     drop(documents);
     clear(&progress);

@@ -1,7 +1,8 @@
 //! Documents with Tiny, or with subsets of it.
 use super::{begins, gave, used};
 use crate::{
-    Answer, level_answers, t1subset_extract, t1subset_fonts, t1subset_pool, t1subset_subset,
+    Answer, level_answers, t1subset_extract, t1subset_fonts, t1subset_pool, t1subset_pool_tags,
+    t1subset_subset,
 };
 use std::alloc::Global;
 use std::test::Fail;
@@ -90,6 +91,38 @@ fn pooled(rt: HostRuntime) -> Result<(), Fail> {
     let mut a = used();
     let code = t1subset_pool(rt.alloc(), &[b"%!PS", b"showpage"], &mut a);
     assert!(rt; gave(code, &a, (0, 0, -1, b"%!PS\nshowpage")));
+    Ok(())
+}
+
+/// A document in which the name of Tiny has this tag.
+fn tagged(alloc: Global, document: &[u8], tag: &[u8]) -> Result<Vec<u8>, Fail> {
+    let mut text = Vec::new(alloc);
+    for byte in document {
+        text.push(*byte)?;
+        if text.as_slice().ends_with(b"/FontName /") {
+            text.extend_from_slice(tag)?;
+        }
+    }
+    Ok(text)
+}
+
+#[test]
+fn pooled_by_families(rt: HostRuntime) -> Result<(), Fail> {
+    let alloc = rt.alloc();
+    let one = tagged(alloc, document(alloc, &[b"X"])?.as_slice(), b"ABCDEF+")?;
+    let other = tagged(alloc, document(alloc, &[b"Y"])?.as_slice(), b"GHIJKL+")?;
+    let both = tagged(
+        alloc,
+        document(alloc, &[b"X", b"Y"])?.as_slice(),
+        b"ABCDEF+",
+    )?;
+    let line = b"/GHIJKL+Tiny /ABCDEF+Tiny findfont definefont pop\n";
+    let want = joined(alloc, &[both.as_slice(), BEGIN, line, END])?;
+    let mut a = used();
+    let code = t1subset_pool_tags(alloc, &[one.as_slice(), other.as_slice()], &mut a);
+    assert!(rt; gave(code, &a, (0, 0, -1, want.as_slice())));
+    let code = t1subset_pool_tags(alloc, &[], &mut a);
+    assert!(rt; gave(code, &a, (0, 0, -1, b"")));
     Ok(())
 }
 

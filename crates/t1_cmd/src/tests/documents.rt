@@ -11,9 +11,9 @@ use std::io::ErrorKind;
 use std::test::Fail;
 use t1_tiny::PFA;
 
-/// What the call pools documents to, and behind it what is told.
-fn pooled_files(alloc: Global, documents: &[&[u8]]) -> Result<Vec<u8>, AllocError> {
-    match pool_files(alloc, documents) {
+/// What the call pools documents to, with tags or without, and behind it what is told.
+fn pooled_files(alloc: Global, tags: bool, documents: &[&[u8]]) -> Result<Vec<u8>, AllocError> {
+    match pool_files(alloc, tags, documents) {
         Ok(Pooled { mut text, kept }) => {
             text.extend_from_slice(kept.as_slice())?;
             Ok(text)
@@ -50,7 +50,7 @@ fn levelled_files(alloc: Global, documents: &[&[u8]]) -> Result<Vec<u8>, AllocEr
 /// Whether the calls make of documents what the engines make of them.
 fn files_are_alike(alloc: Global, documents: &[&[u8]]) -> Result<bool, AllocError> {
     let ran = pooled(alloc, documents)?;
-    let called = pooled_files(alloc, documents)?;
+    let called = pooled_files(alloc, false, documents)?;
     let levels = levelled(alloc, documents)?;
     let calls = levelled_files(alloc, documents)?;
     Ok(ran.as_slice() == called.as_slice() && levels.as_slice() == calls.as_slice())
@@ -58,12 +58,23 @@ fn files_are_alike(alloc: Global, documents: &[&[u8]]) -> Result<bool, AllocErro
 
 /// What is written of documents that are pooled, and behind it what is told; or the line of the refusal.
 fn pooled(alloc: Global, documents: &[&[u8]]) -> Result<Vec<u8>, AllocError> {
+    pooled_as(alloc, false, documents)
+}
+
+/// The same, with tags or without.
+fn pooled_as(alloc: Global, tags: bool, documents: &[&[u8]]) -> Result<Vec<u8>, AllocError> {
     let mut readers = Vec::new(alloc);
     for document in documents {
         readers.push(Counted::new(*document))?;
     }
     let mut out = Vec::new(alloc);
-    match run_pool(alloc, readers.as_mut_slice(), &mut Counted::new(&mut out)) {
+    let done = run_pool(
+        alloc,
+        tags,
+        readers.as_mut_slice(),
+        &mut Counted::new(&mut out),
+    );
+    match done {
         Ok(lines) => {
             out.extend_from_slice(lines.as_slice())?;
             Ok(out)
@@ -184,6 +195,65 @@ fn other_fonts_are_kept(rt: HostRuntime) -> Result<(), Fail> {
     Ok(())
 }
 
+/// A font text in which the font's name has this tag.
+fn tagged(alloc: Global, text: &[u8], tag: &[u8]) -> Result<Vec<u8>, AllocError> {
+    let mut new = Vec::new(alloc);
+    for byte in text {
+        new.push(*byte)?;
+        if new.as_slice().ends_with(b"/FontName /") {
+            new.extend_from_slice(tag)?;
+        }
+    }
+    Ok(new)
+}
+
+const ALIAS: &[u8] =
+    b"%!PS\n%%BeginFont: Tiny\n/GHIJKL+Tiny /ABCDEF+Tiny findfont definefont pop\n%%EndFont\nshowpage";
+
+const FAMILY_KEPT: &[u8] = b"kept ABCDEF+Tiny: shells differ in head\n";
+
+/// Whether documents are pooled to this, and this is told, by the engine and by the call, where names that are equal without
+/// their tags are one.
+fn families_are(alloc: Global, documents: &[&[u8]], want: &[&[u8]]) -> Result<bool, AllocError> {
+    let want = joined(alloc, want)?;
+    let ran = pooled_as(alloc, true, documents)?;
+    let called = pooled_files(alloc, true, documents)?;
+    Ok(ran.as_slice() == want.as_slice() && called.as_slice() == want.as_slice())
+}
+
+#[test]
+fn names_with_other_tags_become_one(rt: HostRuntime) -> Result<(), Fail> {
+    let alloc = rt.alloc();
+    let cut = part(alloc);
+    let other = other(alloc)?;
+    let a = document(alloc, tagged(alloc, cut.as_slice(), b"ABCDEF+")?.as_slice())?;
+    let b = document(alloc, tagged(alloc, whole(), b"ABCDEF+")?.as_slice())?;
+    let g = document(alloc, tagged(alloc, whole(), b"GHIJKL+")?.as_slice())?;
+    let o = document(
+        alloc,
+        tagged(alloc, other.as_slice(), b"GHIJKL+")?.as_slice(),
+    )?;
+    let (a, b, g, o) = (a.as_slice(), b.as_slice(), g.as_slice(), o.as_slice());
+    assert!(rt; families_are(alloc, &[], &[])?, "none");
+    assert!(rt; families_are(alloc, &[a], &[a])?, "one");
+    let apart = joined(alloc, &[a, b"\n", g])?;
+    assert!(rt;
+        pooled(alloc, &[a, g])?.as_slice() == apart.as_slice(),
+        "without tags"
+    );
+    let two = families_are(alloc, &[a, g], &[b, b"\n", ALIAS])?;
+    assert!(rt; two, "two names");
+    let three = families_are(alloc, &[a, b, g], &[b, b"\n", EMPTY, b"\n", ALIAS])?;
+    assert!(rt; three, "two names, one of them twice");
+    let kept = families_are(alloc, &[a, o], &[a, b"\n", o, FAMILY_KEPT])?;
+    assert!(rt; kept, "fonts that don't rejoin");
+    let both = families_are(alloc, &[g, o, a], &[g, b"\n", o, b"\n", a, NAME_KEPT])?;
+    assert!(rt; both, "a name that keeps its fonts");
+    Ok(())
+}
+
+const NAME_KEPT: &[u8] = b"kept GHIJKL+Tiny: shells differ in head\n";
+
 /// Whether so many documents are pooled, and levelled.
 fn are_many(alloc: Global, count: usize) -> Result<bool, AllocError> {
     let text = document(alloc, whole())?;
@@ -222,7 +292,7 @@ const FAILS: Plan = Plan {
 fn ended(alloc: Global, first: Plan, second: Plan, writer: Plan) -> &'static str {
     let mut readers = [Feed::new(PFA, first), Feed::new(PFA, second)];
     let mut out = Counted::new(Sink::new(Vec::new(alloc), writer));
-    let ended = run_pool(alloc, &mut readers, &mut out).map(|_| ());
+    let ended = run_pool(alloc, false, &mut readers, &mut out).map(|_| ());
     let word = word(&ended);
     drop(ended);
     word
@@ -253,7 +323,7 @@ fn documents_that_fail(rt: HostRuntime) -> Result<(), Fail> {
 fn pool_to(alloc: Global, a: &[u8], b: &[u8], want: &[u8]) -> Result<bool, AllocError> {
     let mut readers = [Counted::new(a), Counted::new(b)];
     let mut out = Vec::with_capacity(alloc, want.len())?;
-    let ended = run_pool(alloc, &mut readers, &mut Counted::new(&mut out));
+    let ended = run_pool(alloc, false, &mut readers, &mut Counted::new(&mut out));
     let text = written(out, ended.map(|_| ()))?;
     Ok(text.is_some_and(|text| text.as_slice() == want))
 }
@@ -284,7 +354,7 @@ fn files_become(
     pooled: &[u8],
     levelled: &[u8],
 ) -> Result<bool, AllocError> {
-    let one = of_call(pool_files(alloc, documents))?;
+    let one = of_call(pool_files(alloc, false, documents))?;
     let each = of_call(level_files(alloc, documents))?;
     let (Some(one), Some(each)) = (one, each) else {
         return Ok(false);

@@ -272,7 +272,7 @@ fn zeros_as_documents(alloc: Global, left: usize, right: usize, engine: Engine) 
     let mut out = Vec::new(alloc);
     let mut writer = Counted::new(&mut out);
     let ended = match engine {
-        Engine::Pool => run_pool(alloc, &mut readers, &mut writer).map(|_| ()),
+        Engine::Pool => run_pool(alloc, false, &mut readers, &mut writer).map(|_| ()),
         Engine::Level => run_level(alloc, &mut readers).map(|_| ()),
         Engine::Fonts => run_fonts(alloc, &[], &mut readers, &mut writer),
         Engine::Extract => run_extract(alloc, b"Tiny", &mut readers, &mut writer),
@@ -304,7 +304,7 @@ fn told_too_long<T: Drop>(answer: Result<T, FilesRefusal>, at: Option<usize>) ->
 /// Whether a document is too long for each call over documents, behind an empty one and before itself.
 fn is_too_long_a_document(alloc: Global, document: &[u8]) -> bool {
     let documents = [b"".as_slice(), document, document];
-    told_too_long(pool_files(alloc, &documents), Some(1))
+    told_too_long(pool_files(alloc, false, &documents), Some(1))
         && told_too_long(level_files(alloc, &documents), Some(1))
         && told_too_long(list_fonts(alloc, &[], &documents), Some(1))
         && told_too_long(extract_file(alloc, b"Tiny", &documents), Some(1))
@@ -386,7 +386,7 @@ fn documents_over_the_limit(rt: HostRuntime) -> Result<(), Fail> {
     let file = read_all(alloc, &mut zeros, 268_435_457)?;
     assert!(rt; is_too_long_a_document(alloc, file.as_slice()));
     match file.as_slice().get(..134_217_728) {
-        Some(half) => assert!(rt; told_too_long(pool_files(alloc, &[half, half]), None)),
+        Some(half) => assert!(rt; told_too_long(pool_files(alloc, true, &[half, half]), None)),
         None => assert!(rt; false, "a file that is too short"),
     }
     Ok(())

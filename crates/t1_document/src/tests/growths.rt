@@ -3,7 +3,7 @@
 
 use super::rewriting::rewritten;
 use super::{joined, tiny};
-use crate::{Outcome, Place, join_fonts, names_of, push_document, read_document};
+use crate::{Outcome, Place, join_fonts, members_of, names_of, push_document, read_document};
 use std::alloc::{AllocError, Global};
 use std::test::Fail;
 use t1_font::ReadFault;
@@ -57,6 +57,15 @@ fn joins_right(alloc: Global, text: &[u8]) -> Result<bool, AllocError> {
     Ok(names.len() == 1 && same && texts.get(b"Tiny").is_some())
 }
 
+/// Whether a text with one place stays, with one font for each family.
+fn keeps_family(alloc: Global, text: &[u8]) -> Result<bool, AllocError> {
+    let document = read_document(alloc, text)?;
+    let members = members_of(alloc, document.places.as_slice())?;
+    let joins = join_fonts(alloc, members.as_slice())?;
+    let aliased = document.alias(alloc, &joins)?;
+    Ok(members.len() == 1 && aliased.as_slice() == text)
+}
+
 /// Whether each call answers right.
 fn all_answer_right(alloc: Global) -> Result<bool, AllocError> {
     let font = tiny(alloc, b"%!")?;
@@ -70,6 +79,7 @@ fn all_answer_right(alloc: Global) -> Result<bool, AllocError> {
         has_font(alloc, text.as_slice())?
             && is_at(alloc, text.as_slice(), 12)?
             && joins_right(alloc, text.as_slice())?
+            && keeps_family(alloc, text.as_slice())?
             && levelled.as_slice() == want.as_slice()
             && pooled.as_slice() == want.as_slice(),
     )

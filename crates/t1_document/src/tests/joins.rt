@@ -1,17 +1,21 @@
 //! What the fonts of documents come to.
 
 use super::{joined, tiny};
-use crate::{Document, Joins, Outcome, join_fonts, names_of, push_document, read_document};
+use crate::{Joins, Outcome, Place, join_fonts, names_of, push_document, read_document};
 use std::alloc::{AllocError, Global};
 use std::test::Fail;
 use t1_font::{Form, read, write};
 use t1_subset::subset;
 use t1_tiny::PFA;
 
-/// A line for each name of a document: the name, and what its fonts come to.
-fn lines(alloc: Global, document: &Document<'_>, joins: &Joins<'_>) -> Result<Vec<u8>, AllocError> {
+/// A line for each name of some places: the name, and what its fonts come to.
+pub fn lines(
+    alloc: Global,
+    places: &[Place<'_>],
+    joins: &Joins<'_>,
+) -> Result<Vec<u8>, AllocError> {
     let mut lines = Vec::new(alloc);
-    let names = names_of(alloc, document.places.as_slice())?;
+    let names = names_of(alloc, places)?;
     for name in names.as_slice() {
         lines.extend_from_slice(name)?;
         match joins.get(name) {
@@ -32,7 +36,7 @@ fn lines(alloc: Global, document: &Document<'_>, joins: &Joins<'_>) -> Result<Ve
 fn made(alloc: Global, text: &[u8]) -> Result<(Vec<u8>, Vec<u8>, Vec<u8>), AllocError> {
     let document = read_document(alloc, text)?;
     let joins = join_fonts(alloc, document.places.as_slice())?;
-    let lines = lines(alloc, &document, &joins)?;
+    let lines = lines(alloc, document.places.as_slice(), &joins)?;
     let texts = document.new_texts(alloc, &joins)?;
     let levelled = document.level(alloc, &texts)?;
     let pooled = document.pool(alloc, &texts)?;
@@ -59,14 +63,14 @@ fn comes(
 }
 
 /// The font text of Tiny.
-fn whole(alloc: Global) -> Result<Vec<u8>, AllocError> {
+pub fn whole(alloc: Global) -> Result<Vec<u8>, AllocError> {
     let mut text = Vec::from_slice(alloc, PFA)?;
     text.pop();
     Ok(text)
 }
 
 /// The font text of the subset of Tiny over one name.
-fn cut(alloc: Global, name: &[u8]) -> Result<Vec<u8>, AllocError> {
+pub fn cut(alloc: Global, name: &[u8]) -> Result<Vec<u8>, AllocError> {
     let Ok(source) = read(alloc, PFA) else {
         return Err(AllocError);
     };
@@ -80,7 +84,7 @@ fn cut(alloc: Global, name: &[u8]) -> Result<Vec<u8>, AllocError> {
 }
 
 /// A font text in which the font's name has this tag.
-fn tagged(alloc: Global, text: &[u8], tag: &[u8]) -> Result<Vec<u8>, AllocError> {
+pub fn tagged(alloc: Global, text: &[u8], tag: &[u8]) -> Result<Vec<u8>, AllocError> {
     let mut new = Vec::new(alloc);
     for byte in text {
         new.push(*byte)?;

@@ -7,7 +7,7 @@ use Rattle.t1_document.specs.Texts.{text_in}
 use Rattle.t1_document.specs.Views.{place_view, document_view}
 use Rattle.t1_cmd.specs.Documents.{kept_lines}
 use Rattle.t1_document.proofs.NewTexts.{pooled_so}
-use Rattle.t1_cmd.proofs.documents.pool_text.Goals as goal
+use Rattle.t1_cmd.proofs.documents.pool_names.Goals as goal
 
 pub returns-clause-text : goal.returns-clause-text
 returns-clause-text c =

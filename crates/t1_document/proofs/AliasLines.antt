@@ -1,0 +1,138 @@
+-- The line by which a name becomes one of the font that another names.
+use Rattle.std.proofs.Common.{◌≡◌, ℕ, ◌+◌, suc, Bool, true, false, cond, refl, sym, ◌∙◌, ap, subst, List, [], ◌∷◌, ◌++◌, take, inl, inr, Option, Some, None, arith, append_assoc}
+use Rattle.std.specs.Prelude.{◌==◌, ◌&&◌, ◌||◌, not, codes, is_some}
+use Rattle.std.specs.List.{AllByRecursion, list_any, prefix_len}
+use Rattle.std.specs.Option.{option_map}
+use Rattle.std.proofs.lemmas.Bool.{cases_Bool, eqb-true, and_parts, true≢false}
+use Rattle.std.proofs.lemmas.Option.{none-some, same_Some}
+use Rattle.t1_grammar.specs.Grammar.{first}
+use Rattle.t1_font.specs.Words.{is_regular, all_regular}
+use Rattle.t1_font.specs.Rewriting.{parted}
+use Rattle.t1_font.specs.Tags.{name_marker, name_in}
+use Rattle.t1_document.specs.declared.marks.Mark.{Mark}
+use Rattle.t1_document.specs.Lines.{closes, lf_comes, ends_line, into_first, lines_of}
+use Rattle.t1_document.specs.Marks.{mark_of}
+use Rattle.t1_document.specs.Documents.{Place, document_of}
+use Rattle.t1_document.specs.Laws.{Spells}
+use Rattle.t1_document.specs.Families.{alias_line}
+use Rattle.t1_document.proofs.Breaks.{mark_starts}
+use Rattle.t1_document.proofs.Retold.{IsLine, slash_or_percent}
+use Rattle.t1_document.proofs.Spelled.{places_spell}
+
+-- ---- names
+
+regular_part : (text : List ℕ) → all_regular (parted is_regular text).0 ≡ true
+regular_part [] = refl
+regular_part (b ∷ bs) = by_first (is_regular b) refl (regular_part bs)
+  where
+    by_first : (t : Bool) → is_regular b ≡ t → all_regular (take (prefix_len is_regular bs) bs) ≡ true →
+        all_regular (take (cond t (1 + prefix_len is_regular bs) 0) (b ∷ bs)) ≡ true
+    by_first true e h =
+        let more : 1 + prefix_len is_regular bs ≡ suc (prefix_len is_regular bs) = omega arith in
+        ap (λ (n : ℕ). all_regular (take n (b ∷ bs))) more ∙ (ap (λ (t : Bool). t && all_regular (take (prefix_len is_regular bs) bs)) e ∙ h)
+    by_first false e h = refl
+
+name_regular : (text name : List ℕ) → name_in text ≡ Some name → all_regular name ≡ true
+name_regular text name e = by_read ((first name_marker).read text) e
+  where
+    by_read : (o : Option ((List ℕ × List ℕ) × List ℕ)) → option_map (λ x. (parted is_regular x.1).0) o ≡ Some name → all_regular name ≡ true
+    by_read None k = absurd (none-some name k)
+    by_read (Some x) k = ap all_regular (sym (same_Some (parted is_regular x.1).0 name k)) ∙ regular_part x.1
+
+-- a name of regular bytes
+abbrev pub IsRegular : List ℕ → Type 0
+IsRegular name = all_regular name ≡ true
+
+-- the name of a place
+abbrev pub IsNamed : Place → Type 0
+IsNamed p = IsRegular p.name
+
+-- each place of a document has such a name
+pub places_named : (text : List ℕ) → AllByRecursion IsNamed (document_of text).places
+places_named text = each (document_of text).places (places_spell text)
+  where
+    each : (ps : List Place) → AllByRecursion Spells ps → AllByRecursion IsNamed ps
+    each [] h = tt
+    each (p ∷ ps) h = (name_regular h.0.font.shell.head p.name h.0.named, each ps h.1)
+
+-- ---- one line
+
+-- no line ends in a text
+abbrev no_end : List ℕ → Bool
+no_end [] = true
+no_end (b ∷ bs) = not (ends_line b) && no_end bs
+
+regular_ends_no_line : (b : ℕ) → is_regular b ≡ true → not (ends_line b) ≡ true
+regular_ends_no_line b h = elim (cases_Bool (b == 10)) [
+  | inl e ↦ absurd (ten (subst (λ (c : ℕ). is_regular c ≡ true) (eqb-true b 10 e) h))
+  | inr e ↦ elim (cases_Bool (b == 13)) [
+    | inl k ↦ absurd (thirteen (subst (λ (c : ℕ). is_regular c ≡ true) (eqb-true b 13 k) h))
+    | inr k ↦ ap (λ (t : Bool). not (t || b == 13)) e ∙ ap not k
+  ]
+]
+  where
+    ten : is_regular 10 ≡ true → ⊥
+    ten k = true≢false (sym k)
+
+    thirteen : is_regular 13 ≡ true → ⊥
+    thirteen k = true≢false (sym k)
+
+regular_ends : (name : List ℕ) → all_regular name ≡ true → no_end name ≡ true
+regular_ends [] h = refl
+regular_ends (b ∷ bs) h =
+    let parts = and_parts (is_regular b) (all_regular bs) h in
+    ap (λ (t : Bool). t && no_end bs) (regular_ends_no_line b parts.0) ∙ regular_ends bs parts.1
+
+no_end-append : (a b : List ℕ) → no_end a ≡ true → no_end b ≡ true → no_end (a ++ b) ≡ true
+no_end-append [] b h k = k
+no_end-append (c ∷ a) b h k =
+    let parts = and_parts (not (ends_line c)) (no_end a) h in
+    ap (λ (t : Bool). t && no_end (a ++ b)) parts.0 ∙ no_end-append a b parts.1 k
+
+-- a text in which no line ends is one line with an LF behind it
+whole_line : (u : List ℕ) → no_end u ≡ true → lines_of (u ++ 10 ∷ []) ≡ (u ++ 10 ∷ []) ∷ []
+unfolding lines_of
+whole_line [] h = refl
+whole_line (b ∷ bs) h =
+    let parts = and_parts (not (ends_line b)) (no_end bs) h in
+    let rest = bs ++ 10 ∷ [] in
+    ap (λ (t : Bool). cond t ((b ∷ []) ∷ lines_of rest) (into_first b (lines_of rest))) (not_closed parts.0 rest)
+    ∙ ap (into_first b) (whole_line bs parts.1)
+  where
+    not_closed : not (ends_line b) ≡ true → (behind : List ℕ) → closes b behind ≡ false
+    not_closed k behind = elim (cases_Bool (b == 10)) [
+      | inl e ↦ absurd (true≢false (sym k ∙ ap (λ (t : Bool). not (t || b == 13)) e))
+      | inr e ↦ elim (cases_Bool (b == 13)) [
+        | inl t ↦ absurd (true≢false (sym k ∙ (ap (λ (c : Bool). not (c || b == 13)) e ∙ ap not t)))
+        | inr t ↦ ap (λ (c : Bool). c || b == 13 && not (lf_comes behind)) e ∙ ap (λ (c : Bool). c && not (lf_comes behind)) t
+      ]
+    ]
+
+slash_no_mark : (inner : List ℕ) → mark_of (47 ∷ inner) ≡ None
+slash_no_mark inner = by_mark (mark_of (47 ∷ inner)) refl
+  where
+    by_mark : (o : Option Mark) → mark_of (47 ∷ inner) ≡ o → o ≡ None
+    by_mark None e = refl
+    by_mark (Some m) e = let starts = mark_starts (47 ∷ inner) m e in absurd (slash_or_percent inner starts.0 starts.1)
+
+regroup : (a b c d e f : List ℕ) → a ++ (b ++ (c ++ (d ++ (e ++ f)))) ≡ (a ++ (b ++ (c ++ (d ++ e)))) ++ f
+regroup a b c d e f = simp append_assoc
+
+-- the line of names of regular bytes is one, and no mark
+pub alias_is_line : (name leader : List ℕ) → IsRegular name → IsRegular leader → IsLine (alias_line name leader)
+alias_is_line name leader h k =
+    let word = codes " findfont definefont pop" in
+    let front : List ℕ = codes "/" ++ (name ++ (codes " /" ++ (leader ++ word))) in
+    let inner : List ℕ = name ++ (codes " /" ++ (leader ++ (word ++ 10 ∷ []))) in
+    let ends : alias_line name leader ≡ front ++ 10 ∷ [] = regroup (codes "/") name (codes " /") leader word (10 ∷ []) in
+    let free : no_end front ≡ true =
+    no_end-append name (codes " /" ++ (leader ++ word)) (regular_ends name h) (no_end-append leader word (regular_ends leader k) refl) in
+    let one : lines_of (alias_line name leader) ≡ (47 ∷ inner) ∷ [] = ap lines_of ends ∙ (whole_line front free ∙ ap (λ (t : List ℕ). t ∷ []) (sym ends)) in
+    record {
+      inner = inner;
+      starts = refl;
+      front = front;
+      ends = ends;
+      unmarked = ap (λ (ls : List (List ℕ)). list_any (λ line. is_some (mark_of line)) ls) one
+          ∙ ap (λ (m : Option _). is_some m || false) (slash_no_mark inner);
+    }

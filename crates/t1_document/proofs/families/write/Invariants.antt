@@ -1,0 +1,7 @@
+use Rattle.t1_document.specs.Joins.{new_texts}
+use Rattle.t1_document.specs.Groups.{outcome_in}
+use Rattle.t1_document.proofs.FamilyLoops.{Written}
+use Rattle.t1_document.proofs.families.write.Given as goal
+
+abbrev pub invariant-places : goal.invariant-places
+invariant-places l = Written (new_texts (outcome_in l.joins)) l.last l.leds l.led-index l.out.items
