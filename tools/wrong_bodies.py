@@ -165,16 +165,16 @@ def is_method(path, name):
 
 
 def refusal(edit, told):
-    """The line that refuses an edit for its function and the clause that it names, or None."""
+    """The line that refuses an edit for its function, and for no other clause than it names, or None. What a loop wants names no clause."""
     name = function_of(edit)
     clause = re.search(r", clause (\w+)", lines_of(edit)[0])
-    wanted = f"clause-{clause[1]}`" if clause else "`"
     for path, (verdict, why) in told.items():
         is_it = f"::{path}".endswith(f"::{name}") or "::" in path and "::" in name and is_method(path, name)
-        if is_it and verdict != "proved" and not any(re.search(NAMES, line) for line in why):
-            found = next((line for line in why if wanted in line), None)
-            if found:
-                return found
+        if is_it and verdict != "proved":
+            for line in why:
+                found = re.search(r"clause-(\w+)", line)
+                if not re.search(NAMES, line) and not (clause and found and found[1] != clause[1]):
+                    return line
     return None
 
 
