@@ -8,7 +8,7 @@ _t1subset() {
     subset) options='--explain --names --codes --text --pfb --help' takes='--names|--codes|--text' names=3 ;;
     merge) options='--explain --pfb --help' takes='-' names=0 ;;
     rejoin) options='--explain --pfb --help' takes='-' names=0 ;;
-    pool) options='--explain --help' takes='-' names=0 ;;
+    pool) options='--explain --tags --help' takes='-' names=0 ;;
     level) options='--explain --help' takes='-' names=0 ;;
     fonts) options='--explain --extract --help' takes='--extract' names=0 ;;
     diff) options='--explain --help' takes='-' names=0 ;;

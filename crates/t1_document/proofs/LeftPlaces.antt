@@ -8,13 +8,13 @@ use Rattle.std.proofs.lemmas.Bool.{cases_Bool, and_parts, true≢false}
 use Rattle.std.proofs.lemmas.Option.{none-some, same_Some}
 use Rattle.std.proofs.lemmas.Slice.Eq.{bytes_eq-Decides}
 use Rattle.t1_document.specs.Documents.{Place, Document, behind_bytes}
-use Rattle.t1_document.specs.Rewriting.{NewTexts, is_seen, Becomes, Gives, at_fate, fated, lacks_name, ArePooled}
+use Rattle.t1_document.specs.Rewriting.{NewTexts, is_seen, Becomes, Gives, at_fate, fated}
 use Rattle.t1_document.specs.Joins.{places_under}
 use Rattle.t1_document.specs.Families.{family, first_place, has_several, can_lead, leader_by, leader_in, if_leads, led_by, Led, names_behind}
 use Rattle.t1_document.specs.Families.{led_from, with_leaders, with_member, members_of, members, aliased, alias_line, fate_under, fate_led, led_fate}
 use Rattle.t1_document.proofs.SettledNames.{skipped, both_under, text_under, text_over, text_bare, settled_have, have_settled}
 use Rattle.t1_document.proofs.Rewritten.{same_bytes}
-use Rattle.t1_document.proofs.Pooled.{bare, other_text, not_named, not_lacked}
+use Rattle.t1_document.proofs.Pooled.{bare, other_text}
 use Rattle.t1_document.proofs.Again.{HaveText}
 use Rattle.t1_document.proofs.Aliased.{led_is}
 

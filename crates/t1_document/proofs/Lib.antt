@@ -1,4 +1,5 @@
 mod Rows
+mod FamilyRows
 pub mod LineLemmas
 pub mod StretchLemmas
 pub mod FrontLoop
