@@ -6,8 +6,8 @@ usage: tools/pool_producers.py [DOCUMENTS]    DOCUMENTS is how many each program
 
 The documents of a program have other words in the same fonts. Ghostscript draws each page at 72 and at 300 dots an inch; a page
 is right if both images are, byte for byte, those of its own document. Prints a table: how many pages, the bytes of all documents,
-the pages that are right where they stand one behind the other, the bytes that `pool` writes, and the pages that are right there;
-and behind it the names that kept their fonts.
+the pages that are right where they stand one behind the other, the bytes that `pool` writes, and the pages that are right there,
+and both for `pool --tags`; and behind it the names that kept their fonts.
 
 Needs the program (bin/t1subset, or T1SUBSET), Debian's package ghostscript, and for each program that is to be tried its own:
 texlive-binaries, texlive-base, texlive-metapost, poppler-utils, groff, gnuplot-nox.
@@ -110,13 +110,13 @@ def drawn_of(document):
     return [images(document, dots) for dots in (72, 300)]
 
 
-def pooled(documents):
+def pooled(documents, *options):
     """The documents pooled, and what is told of names that keep their fonts."""
     with tempfile.TemporaryDirectory() as folder:
         names = [f"{number}.ps" for number in range(len(documents))]
         for name, document in zip(names, documents):
             put(document, folder, name)
-        done = subprocess.run([PROGRAM, "pool", "out", *names], cwd=folder, capture_output=True, check=True)
+        done = subprocess.run([PROGRAM, "pool", *options, "out", *names], cwd=folder, capture_output=True, check=True)
         return bytes_of(folder, "out"), done.stderr.decode()
 
 
@@ -136,9 +136,10 @@ def row(name, documents):
     """The row of a table for the documents of a program, and what is told of them."""
     own = [drawn_of(document) for document in documents]
     wanted = [[page for drawn in own for page in drawn[size]] for size in range(2)]
-    behind, (pool, told) = one_by_one(documents), pooled(documents)
-    pages = len(wanted[0])
-    cells = [pages, len(behind), right(drawn_of(behind), wanted), len(pool), right(drawn_of(pool), wanted)]
+    behind, (pool, told), (by_families, _) = one_by_one(documents), pooled(documents), pooled(documents, "--tags")
+    cells = [len(wanted[0])]
+    for joined in (behind, pool, by_families):
+        cells += [len(joined), right(drawn_of(joined), wanted)]
     return f"| {name} | " + " | ".join(map(str, cells)) + " |", told
 
 
@@ -146,7 +147,8 @@ def main():
     count = int(sys.argv[1]) if len(sys.argv) > 1 else 5
     if not shutil.which("gs"):
         sys.exit("missing: run `apt-get install ghostscript`")
-    print("| Program | Pages | Bytes | Right one behind the other | Bytes pooled | Right pooled |\n|---|---|---|---|---|---|")
+    print("| Program | Pages | Bytes | Right one behind the other | Bytes pooled | Right pooled | Bytes with --tags | Right with --tags |")
+    print("|---|---|---|---|---|---|---|---|")
     notes, everything = [], []
     for name, (make, needs) in NEEDS.items():
         if not all(map(shutil.which, needs)):

@@ -388,8 +388,8 @@ def pooled_documents(program):
         return
     out = printed([sys.executable, os.path.join(TOP, "tools/pool_producers.py"), "2"], env={**os.environ, "T1SUBSET": program})
     rows = [[cell.strip() for cell in line.split("|")[1:-1]] for line in out.splitlines()]
-    dvips = next((row for row in rows if row[:1] == ["dvips"] and len(row) == 6), None)
-    check(dvips and dvips[1] == dvips[3] == dvips[5] == "4" and int(dvips[4]) < int(dvips[2]), out)
+    dvips = next((row for row in rows if row[:1] == ["dvips"] and len(row) == 8), None)
+    check(dvips and {dvips[at] for at in (1, 3, 5, 7)} == {"4"} and int(dvips[4]) < int(dvips[2]), out)
 
 
 def library_of(folder):
