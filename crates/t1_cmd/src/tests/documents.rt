@@ -319,11 +319,11 @@ fn documents_that_fail(rt: HostRuntime) -> Result<(), Fail> {
     Ok(())
 }
 
-/// Whether two documents are pooled to this text, with room for it.
-fn pool_to(alloc: Global, a: &[u8], b: &[u8], want: &[u8]) -> Result<bool, AllocError> {
+/// Whether two documents are pooled to this text, with tags or without, with room for it.
+fn pool_to(alloc: Global, tags: bool, a: &[u8], b: &[u8], want: &[u8]) -> Result<bool, AllocError> {
     let mut readers = [Counted::new(a), Counted::new(b)];
     let mut out = Vec::with_capacity(alloc, want.len())?;
-    let ended = run_pool(alloc, false, &mut readers, &mut Counted::new(&mut out));
+    let ended = run_pool(alloc, tags, &mut readers, &mut Counted::new(&mut out));
     let text = written(out, ended.map(|_| ()))?;
     Ok(text.is_some_and(|text| text.as_slice() == want))
 }
@@ -394,7 +394,9 @@ fn become_one(alloc: Global) -> Result<bool, AllocError> {
     let (a, b) = (a.as_slice(), b.as_slice());
     let want = joined(alloc, &[b, b"\n", EMPTY])?;
     let files = files_become(alloc, &[a, b], want.as_slice(), b)?;
-    Ok(files && pool_to(alloc, a, b, want.as_slice())? && level_to(alloc, a, b, b)?)
+    let pooled = pool_to(alloc, false, a, b, want.as_slice())?;
+    let by_families = pool_to(alloc, true, a, b, want.as_slice())?;
+    Ok(files && pooled && by_families && level_to(alloc, a, b, b)?)
 }
 
 #[test]
