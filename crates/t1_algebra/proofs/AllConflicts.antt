@@ -2,11 +2,12 @@
 use Rattle.std.proofs.Common.{◌≡◌, ◌↔◌, ◌&&◌, ◌||◌, ℕ, Bool, true, false, cond, not, List, [], ◌∷◌, ◌++◌, map, filter, refl, sym, ◌∙◌, ap, true≢false, Option, Some, None, is_some, unwrap_or, nat_le}
 use Rattle.std.proofs.Math.Bool.{or_comm}
 use Rattle.std.specs.FinMap as maps
+use Rattle.std.specs.List.{find}
 use Rattle.t1_font.specs.FontValue.{FontValue, weight, weight_limit, count_limit}
 use Rattle.t1_algebra.specs.Conflicts.{Conflict, ShellDiffers, CodeDiffers, GlyphDiffers, LacksComponent, SubrDiffers, OverLimit, codes_of_both, wants, is_within}
 use Rattle.t1_algebra.specs.Conflicts.{code_clashes, glyph_clashes, glyphs_of_both, wanted_by, component_clashes, subr_clashes, lacks_component, subr_differs, keys_of_both}
 use Rattle.t1_algebra.specs.Conflicts.{shell_conflict, code_conflict, glyph_conflict, component_conflict, subr_conflict, states_conflict, conflict, states_conflicts, conflicts}
-use Rattle.t1_algebra.specs.{Searches.{members, smallest, passing, first_where, first_of, or_else, found}, Shared.{Shared, ShellPart, shared_of, same_part, all_parts, differing_parts}, Keep.{has}}
+use Rattle.t1_algebra.specs.{Searches.{members, smallest, passing, first_of, or_else, found}, Shared.{Shared, ShellPart, shared_of, same_part, all_parts, differing_parts}, Keep.{has}}
 use Rattle.t1_algebra.specs.States.{code_state, subr_state, joined_font, executes, Join}
 use Rattle.t1_algebra.specs.Laws.{ConflictsAreAll}
 use Rattle.t1_algebra.proofs.{Words.{list_any, nat_cmp_total, nat_list_cmp_total, nat_cmp-IsAntisymmetric, Interpreter}, Sets.{name_same, cases}, Maps.{both_back}}
@@ -17,17 +18,17 @@ use Rattle.t1_algebra.proofs.Conflicts.{agrees_swap, compatible, no_conflict, co
 
 module _ {X Y : Type 0} (p : X → Bool) (f : X → Y) where
   -- the first of those that pass, and of what stands behind them, is the first that passes, or else the first behind them
-  first_found : (xs : List X) (ys : List Y) → first_of (map f (filter p xs) ++ ys) ≡ found f (first_where p xs) (first_of ys)
+  first_found : (xs : List X) (ys : List Y) → first_of (map f (filter p xs) ++ ys) ≡ found f (find p xs) (first_of ys)
   first_found [] ys = refl
   first_found (x ∷ xs) ys = elim (p x)
-      as (λ b. first_of (map f (cond b (x ∷ filter p xs) (filter p xs)) ++ ys) ≡ found f (cond b (Some x) (first_where p xs)) (first_of ys))
+      as (λ b. first_of (map f (cond b (x ∷ filter p xs) (filter p xs)) ++ ys) ≡ found f (cond b (Some x) (find p xs)) (first_of ys))
       [ true ↦ refl | false ↦ first_found xs ys ]
 
   -- the same where nothing stands behind them
-  first_alone : (xs : List X) → first_of (map f (filter p xs)) ≡ found f (first_where p xs) None
+  first_alone : (xs : List X) → first_of (map f (filter p xs)) ≡ found f (find p xs) None
   first_alone [] = refl
   first_alone (x ∷ xs) = elim (p x)
-      as (λ b. first_of (map f (cond b (x ∷ filter p xs) (filter p xs))) ≡ found f (cond b (Some x) (first_where p xs)) None)
+      as (λ b. first_of (map f (cond b (x ∷ filter p xs) (filter p xs))) ≡ found f (cond b (Some x) (find p xs)) None)
       [ true ↦ refl | false ↦ first_alone xs ]
 
 -- the first of a list, or else of another

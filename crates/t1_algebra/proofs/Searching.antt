@@ -2,26 +2,27 @@
 use Rattle.std.proofs.{Common.{◌≡◌, ℕ, Bool, true, false, cond, List, [], ◌∷◌, map, refl, sym, ◌∙◌, ap, true≢false, Ordering, Less, Option, Some, None}, lemmas.Bool.{or_right}}
 use Rattle.std.specs.FinMap.Entries.{below_all, is_sorted}
 use Rattle.std.specs.FinMap as maps
+use Rattle.std.specs.List.{find}
 use Rattle.t1_join.proofs.Sorted.{lt_is}
 use Rattle.t1_font.proofs.MapLemmas.{T_true}
-use Rattle.t1_algebra.specs.Searches.{first_where, members, smallest, found}
+use Rattle.t1_algebra.specs.Searches.{members, smallest, found}
 use Rattle.t1_algebra.proofs.{Words.{list_any, AllByRecursion, eq_by_cmp, IsTotalOrder, first_so, second_so, IsAntisymmetric}, Sets.{tied, itself, cases}}
 
 module _ {X : Type 0} (p : X → Bool) where
   -- if a search finds nothing, no element passes
-  pub none_passes : (xs : List X) → first_where p xs ≡ None → AllByRecursion (λ x. p x ≡ false) xs
+  pub none_passes : (xs : List X) → find p xs ≡ None → AllByRecursion (λ x. p x ≡ false) xs
   none_passes [] h = tt
   none_passes (x ∷ xs) h = grind (cases, none_passes xs)
 
   -- what a search finds passes
-  pub first_passes : (xs : List X) (x : X) → first_where p xs ≡ Some x → p x ≡ true
+  pub first_passes : (xs : List X) (x : X) → find p xs ≡ Some x → p x ≡ true
   first_passes [] x h = cc
   first_passes (y ∷ xs) x h = grind (cases, first_passes xs x)
 
   -- if no element passes, a search finds nothing
-  pub passes_none : (xs : List X) → ((x : X) → p x ≡ false) → first_where p xs ≡ None
+  pub passes_none : (xs : List X) → ((x : X) → p x ≡ false) → find p xs ≡ None
   passes_none [] h = refl
-  passes_none (x ∷ xs) h = ap (λ b. cond b (Some x) (first_where p xs)) (h x) ∙ passes_none xs h
+  passes_none (x ∷ xs) h = ap (λ b. cond b (Some x) (find p xs)) (h x) ∙ passes_none xs h
 
 -- if nothing is found of two things, neither is there
 pub found_none : {X Y : Type 0} (f : X → Y) (x : Option X) (e : Option Y) → found f x e ≡ None → (x ≡ None) × (e ≡ None)
@@ -29,7 +30,7 @@ found_none f x e h = grind cases
 
 module _ {K : Type 0} {R : K → K → Ordering} (o : IsTotalOrder R) (same : IsAntisymmetric R) (p : K → Bool) where
   -- if a search among keys finds nothing, no key passes
-  pub none_at_all : (ks : List K) (q : K) → first_where p ks ≡ None → list_any (eq_by_cmp R q) ks ≡ true → p q ≡ false
+  pub none_at_all : (ks : List K) (q : K) → find p ks ≡ None → list_any (eq_by_cmp R q) ks ≡ true → p q ≡ false
   none_at_all [] q h k = absurd (true≢false (sym k))
   none_at_all (j ∷ ks) q h k = grind (cases, tied o same q j, none_at_all ks q)
 
@@ -44,7 +45,7 @@ module _ {K : Type 0} {R : K → K → Ordering} (o : IsTotalOrder R) (same : Is
 
   -- the first key that passes is one that passes, below which none does
   first_is : {X : Type 0} (k : K) (es : List (K × X)) → is_sorted R es ≡ true → list_any (eq_by_cmp R k) (map (λ e. e.0) es) ≡ true → p k ≡ true
-      → ((q : K) → list_any (eq_by_cmp R q) (map (λ e. e.0) es) ≡ true → R q k ≡ Less → p q ≡ false) → first_where p (map (λ e. e.0) es) ≡ Some k
+      → ((q : K) → list_any (eq_by_cmp R q) (map (λ e. e.0) es) ≡ true → R q k ≡ Less → p q ≡ false) → find p (map (λ e. e.0) es) ≡ Some k
   first_is k [] s h is least = absurd (true≢false (sym h))
   first_is k (e ∷ es) s h is least =
       let rest = λ (c : list_any (eq_by_cmp R k) (map (λ e. e.0) es) ≡ true).

@@ -1,11 +1,11 @@
 -- Glyphs that execute a Subr that their font lacks and that another font of a list has. A stub there would draw something else, without a word.
 use Rattle.std.specs.Prelude.{ℕ, zero, suc, Bool, not, cond, ◌&&◌, List, [], ◌∷◌, Option, None}
-use Rattle.std.specs.List.{list_any}
+use Rattle.std.specs.List.{list_any, find}
 use Rattle.std.specs.Option.{option_map}
 use Rattle.std.specs.FinMap as maps
 use Rattle.t1_font.specs.FontValue.{FontValue, declared_count, names_in}
 use Rattle.t1_algebra.specs.Profile.{profile}
-use Rattle.t1_algebra.specs.Searches.{first_where, found}
+use Rattle.t1_algebra.specs.Searches.{found}
 use Rattle.t1_algebra.specs.States.{executes}
 
 -- an index, and a glyph that executes it
@@ -14,7 +14,7 @@ Lack = ℕ × List ℕ
 
 -- the smallest glyph of the font that executes the index
 abbrev pub user_of : FontValue → ℕ → Option (List ℕ)
-user_of f i = first_where (λ n. executes profile f n i) (names_in f.glyphs)
+user_of f i = find (λ n. executes profile f n i) (names_in f.glyphs)
 
 -- the value at the smallest number below n that has one
 abbrev pub first_below : {X : Type 0} → (ℕ → Option X) → ℕ → Option X

@@ -1,13 +1,9 @@
--- Searches: the first of a list that passes a test, and the smallest of a set of keys, or all of them.
-use Rattle.std.specs.Prelude.{◌≡◌, ℕ, Bool, true, false, cond, List, [], ◌∷◌, map, filter, Option, Some, None}
+-- Searches: the smallest of a set of keys that passes a test, or all of them.
+use Rattle.std.specs.Prelude.{◌≡◌, ℕ, Bool, true, false, List, [], ◌∷◌, map, filter, Option, Some, None}
 use Rattle.std.specs.declared.cmp.Ordering.{Ordering}
 use Rattle.std.specs.declared.cmp.Ordering.TheVariants.{Less}
+use Rattle.std.specs.List.{find}
 use Rattle.std.specs.FinMap as maps
-
--- the first element of a list that passes a test
-abbrev pub first_where : {X : Type 0} → (X → Bool) → List X → Option X
-first_where p [] = None
-first_where p (x ∷ xs) = cond (p x) (Some x) (first_where p xs)
 
 -- a set of keys, as a map, so that they are listed upwards
 abbrev pub KeySet : {K : Type 0} → (K → K → Ordering) → Type 0
@@ -19,7 +15,7 @@ members s = map (λ e. e.0) (maps.entries s)
 
 -- the smallest key of a set that passes a test
 abbrev pub smallest : {K : Type 0} {R : K → K → Ordering} → (K → Bool) → maps.FinMap R ℕ → Option K
-smallest p s = first_where p (members s)
+smallest p s = find p (members s)
 
 -- the keys of a set that pass a test, upwards
 abbrev pub passing : {K : Type 0} {R : K → K → Ordering} → (K → Bool) → maps.FinMap R ℕ → List K

@@ -3,11 +3,11 @@ use Rattle.std.specs.Prelude.{ℕ, Bool, true, false, cond, not, ◌&&◌, List,
 use Rattle.std.specs.Coded.{Coded, coded×, coded_option}
 use Rattle.std.specs.Ordering.{nat_cmp, eq_by_cmp}
 use Rattle.std.specs.FinMap as maps
+use Rattle.std.specs.List.{find}
 use Rattle.t1_font.specs.FontValue.{FontValue, Shell, SubrsShell, declared_count}
 use Rattle.t1_font.specs.FontModel.{of_subrs, shell_code, word_of}
 use Rattle.t1_font.specs.Codes.{bytes_code}
 use Rattle.t1_algebra.specs.Interpreter.{same_bytes}
-use Rattle.t1_algebra.specs.Searches.{first_where}
 
 -- a shell, the Encoding if it is a word, and the indices of the Subrs that are present, upwards
 abbrev pub Shared : Type 0
@@ -75,7 +75,7 @@ module _ (s t : Shared) where
 
   -- the first part that differs
   abbrev pub differing_part : Option ShellPart
-  differing_part = first_where (λ part. not (same_part part)) all_parts
+  differing_part = find (λ part. not (same_part part)) all_parts
 
   -- all parts that differ, in their order
   abbrev pub differing_parts : List ShellPart

@@ -4,7 +4,7 @@ use Rattle.std.specs.Prelude.{bit_xor, replicate}
 use Rattle.std.proofs.lemmas.List.{take_at, drop_at, length-append, length-replicate}
 use Rattle.std.specs.Int.Bits.{xor_assoc, xor_self, xor_zero_r}
 use Rattle.std.proofs.lemmas.Nat.{xor_lt}
-use Rattle.t1_bytes.specs.Cipher.{next_key, Enciphers, encrypted, decrypted, sealed, opened, plain_of}
+use Rattle.t1_bytes.specs.Cipher.{next_key, key_behind, Enciphers, encrypted, decrypted, sealed, opened, plain_of}
 use Rattle.t1_bytes.specs.Laws.{AreBytes}
 
 pub Enciphers-encrypted : (plains : List ℕ) (key : ℕ) → Enciphers key plains (encrypted key plains)
@@ -73,6 +73,24 @@ encrypted_bytes (p ∷ ps) key k h =
     let c = bit_xor p (key / 256) in
     let small : key / 256 < 2 ^ 8 = omega arith in
     (xor_lt 8 p (key / 256) h.0 small, encrypted_bytes ps (next_key key c) (omega arith) h.1)
+
+-- what stands behind a cipher is decrypted by the key behind it
+pub decrypted_append : (ciphers more : List ℕ) (key : ℕ) → decrypted key (ciphers ++ more) ≡ decrypted key ciphers ++ decrypted (key_behind key ciphers) more
+decrypted_append [] more key = refl
+decrypted_append (c ∷ cs) more key = ap (λ (rest : List ℕ). bit_xor c (key / 256) ∷ rest) (decrypted_append cs more (next_key key c))
+
+-- what stands behind plain bytes is encrypted by the key behind their cipher
+pub encrypted_append : (plains more : List ℕ) (key : ℕ) →
+    encrypted key (plains ++ more) ≡ encrypted key plains ++ encrypted (key_behind key (encrypted key plains)) more
+encrypted_append [] more key = refl
+encrypted_append (p ∷ ps) more key =
+    let c = bit_xor p (key / 256) in
+    ap (λ (rest : List ℕ). c ∷ rest) (encrypted_append ps more (next_key key c))
+
+-- the key behind two ciphers is the key behind the second, from the one behind the first on
+pub key_behind_append : (ciphers more : List ℕ) (key : ℕ) → key_behind key (ciphers ++ more) ≡ key_behind (key_behind key ciphers) more
+key_behind_append [] more key = refl
+key_behind_append (c ∷ cs) more key = key_behind_append cs more (next_key key c)
 
 -- the last byte of a cipher is decrypted by the key that stands before it
 pub last_byte : (bytes : List ℕ) (at now : ℕ) → at + 1 ≡ length bytes →

@@ -1,8 +1,8 @@
 //! The cipher of eexec and of charstrings (Adobe Type 1 Font Format 1.1, chapter 7).
 
-ghost use Rattle.std.specs.Prelude.{◌≡◌, IfOk, IfErr};
+ghost use Rattle.std.specs.Prelude.{◌≡◌, ◌++◌, ◌≤◌, take, drop, length, IfOk, IfErr};
 ghost use Rattle.t1_bytes.specs.declared.fault.BytesFault.TheVariants.{Memory};
-ghost use Rattle.t1_bytes.specs.Cipher.{next_key, Enciphers, encrypted, decrypted, sealed, opened};
+ghost use Rattle.t1_bytes.specs.Cipher.{next_key, key_behind, Enciphers, encrypted, decrypted, sealed, opened};
 
 use crate::fault::BytesFault;
 use std::alloc::Global;
@@ -22,7 +22,7 @@ const FACTOR: u64 = 52845;
 const SUMMAND: u64 = 22719;
 
 /// The key after a cipher byte.
-fn key_after(key: u16, cipher: u8) -> u16
+pub(crate) fn key_after(key: u16, cipher: u8) -> u16
     ensures { result ≡ next_key key cipher }
 {
     (((cipher as u64 + key as u64) * FACTOR + SUMMAND) % 65536) as u16
@@ -37,17 +37,30 @@ fn key_after_both(key: u16, first: u8, second: u8) -> u16
     ((of_first + of_second) % 65536) as u16
 }
 
+/// Encrypts the bytes from a place on, under a cipher whose key is `key` there, and answers the key behind them.
+pub(crate) fn encrypt_from(bytes: &mut [u8], from: usize, key: u16) -> u16
+    requires { from ≤ length bytes.old }
+    ensures value { bytes.new ≡ take from bytes.old ++ encrypted key (drop from bytes.old) }
+    ensures key { result ≡ key_behind key (drop from bytes.new) }
+{
+    let mut now = key;
+    let mut at = from;
+    'bytes: while at < bytes.len() {
+        let cipher = bytes[at] ^ (now / 256) as u8;
+        bytes[at] = cipher;
+        now = key_after(now, cipher);
+        at += 1;
+    }
+    now
+}
+
 /// Encrypts bytes in place, under a cipher whose key starts as `key`. Lead bytes are encrypted like
 /// the others.
 pub fn encrypt(bytes: &mut [u8], key: u16)
     ensures value { bytes.new ≡ encrypted key bytes.old }
     ensures cipher { Enciphers key bytes.old bytes.new }
 {
-    let mut now = key;
-    for byte in bytes.iter_mut() {
-        *byte ^= (now / 256) as u8;
-        now = key_after(now, *byte);
-    }
+    encrypt_from(bytes, 0, key);
 }
 
 /// Decrypts bytes in place, under a cipher whose key starts as `key`. Lead bytes stay, decrypted

@@ -81,7 +81,7 @@ fn spread_lines(text: &mut [u8], from: usize, count: usize, lines: usize)
 /// # Errors
 ///
 /// A growth was refused; then the text stays as it was.
-pub fn spread_hex_lines(text: &mut Vec<u8>, from: usize) -> Result<(), AllocError>
+pub(crate) fn spread_hex_lines(text: &mut Vec<u8>, from: usize) -> Result<(), AllocError>
     ensures done { OnOk result (text.new.items
         ≡ take from text.old.items ++ hex_lines (drop from text.old.items)) }
     ensures same { OnErr result (text.new.items ≡ text.old.items) }
@@ -95,7 +95,7 @@ pub fn spread_hex_lines(text: &mut Vec<u8>, from: usize) -> Result<(), AllocErro
 }
 
 /// How many bytes the lines of this many bytes have, if the number fits.
-fn lines_len(bytes: usize) -> usize {
+pub(crate) fn lines_len(bytes: usize) -> usize {
     bytes.saturating_mul(2).saturating_add(bytes.div_ceil(LINE))
 }
 

@@ -15,6 +15,7 @@
 //! spell what and how that is read, and carry the law that the two agree.
 #![tactic(auto)]
 
+mod around;
 mod cipher;
 mod digits;
 mod eexec;
@@ -23,15 +24,18 @@ mod form;
 mod hexadecimal;
 pub mod laws;
 mod limits;
+mod lockstep;
 mod pfb;
 pub mod texts;
 
+pub use around::{file_around, room_around};
 pub use cipher::{CHARSTRING_KEY, EEXEC_KEY, EEXEC_LEAD, decrypt, encrypt, open, seal};
 pub use eexec::{Cipher, after_eexec, find_cipher, hex_text_at, split_eexec};
 pub use fault::BytesFault;
 pub use form::Form;
-pub use hexadecimal::{LINE, hex_lines, spread_hex_lines, trailer};
+pub use hexadecimal::{LINE, hex_lines, trailer};
 pub use limits::FILE_LIMIT;
+pub use lockstep::encrypt_both;
 pub use pfb::{flatten, flatten_vec, segments};
 
 #[cfg(test)]

@@ -1,14 +1,16 @@
 //! PFB segments (Technical Note 5040).
 
-ghost use Rattle.std.specs.Prelude.{◌≡◌, ◌++◌, ◌≤◌, ◌<◌, ◌^◌, ℕ, List, length, Ok, Err, MatchResult, OnOk, IfOk, IfErr};
+ghost use Rattle.std.specs.Prelude.{◌≡◌, ◌++◌, ◌∷◌, ◌≤◌, ◌<◌, ◌^◌, ℕ, List, length, Ok, Err, MatchResult, OnOk, IfOk, IfErr};
 ghost use Rattle.std.specs.Option.{option_map};
 ghost use Rattle.t1_bytes.specs.declared.fault.BytesFault.TheVariants.{Memory};
 ghost use Rattle.t1_bytes.specs.Segments.{segment, end};
 ghost use Rattle.t1_bytes.specs.FlatText.{starts_segment, IsFlat, IsBad, flat_of};
 ghost use Rattle.t1_bytes.specs.Limits.{file_limit};
+ghost use Rattle.byteorder.specs.Endian.{little_bytes};
 ghost use Rattle.t1_bytes.specs.Texts.{segment_text, pfb_text};
 ghost use Rattle.t1_bytes.specs.Faults.{Gives, Refuses};
 
+use crate::around::put_front;
 use crate::fault::BytesFault;
 use crate::texts::{count_at, fixed_at};
 use byteorder::{ByteOrder, LittleEndian};
@@ -125,16 +127,50 @@ pub fn flatten_vec(file: Vec<u8>) -> Result<Vec<u8>, BytesFault>
     }
 }
 
+/// Writes the header of a segment of this many bytes at the end.
+fn put_header(out: &mut Vec<u8>, kind: u8, len: usize) -> Result<(), AllocError>
+    requires { len < 2 ^ 32 }
+    ensures { OnOk result (out.new.items ≡ out.old.items ++ (128 ∷ kind ∷ little_bytes 4 len)) }
+{
+    let mut number = [0u8; 4];
+    LittleEndian::write_u32(&mut number, len as u32);
+    out.extend_from_slice(&[MARK, kind])?;
+    out.extend_from_slice(&number)?;
+    Ok(())
+}
+
 /// Writes a segment at the end.
 fn put_segment(out: &mut Vec<u8>, kind: u8, bytes: &[u8]) -> Result<(), AllocError>
     requires { length bytes.now < 2 ^ 32 }
     ensures { OnOk result (out.new.items ≡ out.old.items ++ segment_text kind bytes.now) }
 {
-    let mut len = [0u8; 4];
-    LittleEndian::write_u32(&mut len, bytes.len() as u32);
-    out.extend_from_slice(&[MARK, kind])?;
-    out.extend_from_slice(&len)?;
+    put_header(out, kind, bytes.len())?;
     out.extend_from_slice(bytes)?;
+    Ok(())
+}
+
+/// How many bytes a PFB file has beside its clear part, its cipher and its trailer: three headers of 6 bytes, and 2 bytes for the
+/// end.
+pub(crate) const AROUND: usize = 20;
+
+/// Makes the PFB file of a cipher in the cipher's own vector: [`segments`] says what it is.
+pub(crate) fn put_segments(
+    alloc: Global,
+    out: &mut Vec<u8>,
+    clear: &[u8],
+    trailer: &[u8],
+) -> Result<(), AllocError>
+    requires clear { length clear.now ≤ file_limit }
+    requires cipher { length out.old.items ≤ file_limit }
+    requires trailer { length trailer.now ≤ file_limit }
+    ensures { OnOk result (out.new.items ≡ pfb_text clear.now out.old.items trailer.now) }
+{
+    let mut front = Vec::with_capacity(alloc, clear.len().saturating_add(AROUND))?;
+    put_segment(&mut front, TEXT, clear)?;
+    put_header(&mut front, BINARY, out.len())?;
+    put_front(out, front.as_slice())?;
+    put_segment(out, TEXT, trailer)?;
+    out.extend_from_slice(&[MARK, END])?;
     Ok(())
 }
 
@@ -157,12 +193,9 @@ pub fn segments(
     ensures text { IfOk result (λ v. v.items ≡ pfb_text clear.now cipher.now trailer.now) }
     ensures memory { IfErr result (λ fault. fault ≡ Memory) }
 {
-    // Three headers of 6 bytes, and 2 bytes for the end.
-    let size = clear.len() + cipher.len() + trailer.len() + 20;
+    let size = clear.len() + cipher.len() + trailer.len() + AROUND;
     let mut out = Vec::with_capacity(alloc, size)?;
-    put_segment(&mut out, TEXT, clear)?;
-    put_segment(&mut out, BINARY, cipher)?;
-    put_segment(&mut out, TEXT, trailer)?;
-    out.extend_from_slice(&[MARK, END])?;
+    out.extend_from_slice(cipher)?;
+    put_segments(alloc, &mut out, clear, trailer)?;
     Ok(out)
 }

@@ -3,20 +3,20 @@ use Rattle.std.specs.Prelude.{◌≡◌, ℕ, List, [], ◌∷◌, ◌++◌, cod
 use Rattle.std.specs.FinMap.{get}
 use Rattle.std.specs.FinSet as sets
 use Rattle.std.specs.Str.{bytes_eq}
+use Rattle.std.specs.List.{find}
 use Rattle.t1_bytes.specs.declared.form.Form.{Form}
 use Rattle.t1_run.specs.Standard.{standard_name}
 use Rattle.t1_font.specs.FontValue.{FontValue, Encoding, Word, Codes}
 use Rattle.t1_font.specs.Canon.{canon}
 use Rattle.t1_algebra.specs.Profile.{profile}
 use Rattle.t1_algebra.specs.Keep.{has, subset}
-use Rattle.t1_algebra.specs.Searches.{first_where}
 use Rattle.t1_cmd.specs.declared.faults.Reason.{Reason}
 use Rattle.t1_cmd.specs.declared.faults.Reason.TheVariants.{NoGlyph, NoCode}
 use Rattle.t1_cmd.specs.Answers.{if_there}
 
 -- the first of these names that the font lacks
 abbrev pub first_absent : FontValue → List (List ℕ) → Option (List ℕ)
-first_absent f names = first_where (λ n. not (has f n)) names
+first_absent f names = find (λ n. not (has f n)) names
 
 -- a text, unless a name is absent
 abbrev pub unless_absent : Option (List ℕ) → List ℕ → Result (List ℕ) Reason

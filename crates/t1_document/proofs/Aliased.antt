@@ -1,7 +1,7 @@
 -- The laws of documents whose families have one font each.
 use Rattle.std.proofs.Common.{◌≡◌, ℕ, Bool, true, false, cond, refl, sym, ◌∙◌, ap, subst, List, [], ◌∷◌, map, inr, Option, Some, None}
 use Rattle.std.specs.Prelude.{◌||◌}
-use Rattle.std.specs.List.{AllByRecursion}
+use Rattle.std.specs.List.{AllByRecursion, find}
 use Rattle.std.specs.Option.{option_and_then, option_map}
 use Rattle.std.specs.Str.{bytes_eq}
 use Rattle.std.proofs.lemmas.Option.{none-some, same_Some}
@@ -11,7 +11,7 @@ use Rattle.t1_document.specs.Stretches.{stretches, mark_lines}
 use Rattle.t1_document.specs.Documents.{Place, Document, document_bytes, document_of}
 use Rattle.t1_document.specs.Rewriting.{NewTexts, is_seen, Fate, Becomes, Gives}
 use Rattle.t1_document.specs.Joins.{Outcomes, new_texts, places_under}
-use Rattle.t1_document.specs.Families.{family, first_place, has_several, can_lead, leader_by, leader_in, if_leads, led_by, Led, names_behind}
+use Rattle.t1_document.specs.Families.{family, has_several, can_lead, leader_by, leader_in, if_leads, led_by, Led, names_behind}
 use Rattle.t1_document.specs.Families.{led_from, with_leaders, with_member, members_of, members, alias_line, fate_under, fate_led, led_fate, aliased}
 use Rattle.t1_document.specs.FamilyLaws.{AreOfFamilies, AliasedBy, AliasedIsRead, AliasedMarksStay, AliasedOthersStay, AliasesDraw, OneAliased, OneByFamilies}
 use Rattle.t1_document.proofs.Retold.{Fits, fated_by, AllFit}
@@ -25,20 +25,20 @@ use Rattle.t1_document.proofs.AliasLines.{IsRegular, places_named, alias_is_line
 -- ---- leaders
 
 -- a place that is found is one of those that were sought, and passes the test
-first_holds : (P : Place → Type 0) (test : Place → Bool) (ps : List Place) → AllByRecursion P ps → (p : Place) → first_place test ps ≡ Some p → P p
+first_holds : (P : Place → Type 0) (test : Place → Bool) (ps : List Place) → AllByRecursion P ps → (p : Place) → find test ps ≡ Some p → P p
 first_holds P test [] h p e = absurd (none-some p e)
 first_holds P test (q ∷ ps) h p e = by_test (test q) e (first_holds P test ps h.1 p)
   where
-    by_test : (b : Bool) → cond b (Some q) (first_place test ps) ≡ Some p → (first_place test ps ≡ Some p → P p) → P p
+    by_test : (b : Bool) → cond b (Some q) (find test ps) ≡ Some p → (find test ps ≡ Some p → P p) → P p
     by_test true k more = subst P (same_Some q p k) h.0
     by_test false k more = more k
 
 -- what holds of the names of places holds of the leaders among them
 leader_holds : (Q : List ℕ → Type 0) (several : List ℕ → Bool) (ps : List Place) → AllByRecursion (λ p. Q p.name) ps → (name leader : List ℕ) →
     leader_by several ps name ≡ Some leader → Q leader
-leader_holds Q several ps h name leader e = by_place (first_place (can_lead several name) ps) refl e
+leader_holds Q several ps h name leader e = by_place (find (can_lead several name) ps) refl e
   where
-    by_place : (o : Option Place) → first_place (can_lead several name) ps ≡ o → option_map (λ p. p.name) o ≡ Some leader → Q leader
+    by_place : (o : Option Place) → find (can_lead several name) ps ≡ o → option_map (λ p. p.name) o ≡ Some leader → Q leader
     by_place None f k = absurd (none-some leader k)
     by_place (Some p) f k = subst Q (same_Some p.name leader k) (first_holds (λ q. Q q.name) (can_lead several name) ps h p f)
 

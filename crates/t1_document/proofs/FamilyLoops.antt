@@ -2,33 +2,29 @@
 use Rattle.std.proofs.Common.{◌≡◌, ◌<◌, ◌≤◌, ◌+◌, ℕ, Bool, true, false, cond, List, [], ◌∷◌, ◌++◌, length, get_or, take, drop, map, Option, Some, None}
 use Rattle.std.proofs.Common.{refl, sym, ap, ◌∙◌, append_assoc, is_some, Bor}
 use Rattle.std.specs.Prelude.{◌&&◌, not}
-use Rattle.std.specs.Option.{option_map}
+use Rattle.std.specs.Option.{option_map, option_or}
 use Rattle.std.specs.Str.{bytes_eq}
 use Rattle.std.proofs.lemmas.Bool.{and_parts, true≢false}
 use Rattle.std.proofs.lemmas.List.{at_drop_more, at_drop_all, map-append, take_more, drop_all, append-nil}
 use Rattle.std.proofs.lemmas.Slice.Eq.{bytes_eq-Decides}
+use Rattle.std.specs.List.{find}
 use Rattle.t1_document.specs.declared.documents.Place.{Place as CodePlace}
 use Rattle.t1_document.specs.declared.families.Led.{Led as CodeLed}
 use Rattle.t1_document.specs.declared.texts.Texts.{Texts}
 use Rattle.t1_document.specs.Documents.{Place}
 use Rattle.t1_document.specs.Rewriting.{NewTexts, is_seen, fate_bytes, fated_bytes}
 use Rattle.t1_document.specs.Texts.{text_in, has_text, Sees}
-use Rattle.t1_document.specs.Families.{Led, first_place, first_text, has_other, has_several, leader_by, leader_in, led_by, names_behind, led_from, with_leaders, led_fate}
+use Rattle.t1_document.specs.Families.{Led, first_text, has_other, has_several, leader_by, leader_in, led_by, names_behind, led_from, with_leaders, led_fate}
 use Rattle.t1_document.specs.Views.{place_view, led_view}
 
 -- ---- the first places that pass a test
 
 -- by the keys of places that pass a test, the value of the first
 abbrev pub first_value : (Place → Bool) → (Place → List ℕ) → (Place → List ℕ) → List Place → List ℕ → Option (List ℕ)
-first_value test key value ps k = option_map value (first_place (λ p. test p && bytes_eq (key p) k) ps)
-
--- something, or else this
-abbrev or_else : Option (List ℕ) → Option (List ℕ) → Option (List ℕ)
-or_else None o = o
-or_else (Some x) o = Some x
+first_value test key value ps k = option_map value (find (λ p. test p && bytes_eq (key p) k) ps)
 
 first_more : (test : Place → Bool) (value : Place → List ℕ) (ps : List Place) (p : Place) →
-    option_map value (first_place test (ps ++ p ∷ [])) ≡ or_else (option_map value (first_place test ps)) (cond (test p) (Some (value p)) None)
+    option_map value (find test (ps ++ p ∷ [])) ≡ option_or (option_map value (find test ps)) (cond (test p) (Some (value p)) None)
 first_more test value [] p = by_test (test p)
   where
     by_test : (b : Bool) → option_map value (cond b (Some p) None) ≡ cond b (Some (value p)) None
@@ -37,19 +33,19 @@ first_more test value [] p = by_test (test p)
 first_more test value (q ∷ ps) p = by_test (test q) (first_more test value ps p)
   where
     by_test : (b : Bool) →
-        option_map value (first_place test (ps ++ p ∷ [])) ≡ or_else (option_map value (first_place test ps)) (cond (test p) (Some (value p)) None) →
-        option_map value (cond b (Some q) (first_place test (ps ++ p ∷ [])))
-        ≡ or_else (option_map value (cond b (Some q) (first_place test ps))) (cond (test p) (Some (value p)) None)
+        option_map value (find test (ps ++ p ∷ [])) ≡ option_or (option_map value (find test ps)) (cond (test p) (Some (value p)) None) →
+        option_map value (cond b (Some q) (find test (ps ++ p ∷ [])))
+        ≡ option_or (option_map value (cond b (Some q) (find test ps))) (cond (test p) (Some (value p)) None)
     by_test true h = refl
     by_test false h = h
 
 put_first : (b : Bool) (old more : Option (List ℕ)) (v : List ℕ) → more ≡ cond b (Some v) old → (b ≡ true → old ≡ None) →
-    more ≡ or_else old (cond b (Some v) None)
-put_first true old more v e none = e ∙ ap (λ (o : Option (List ℕ)). or_else o (Some v)) (sym (none refl))
+    more ≡ option_or old (cond b (Some v) None)
+put_first true old more v e none = e ∙ ap (λ (o : Option (List ℕ)). option_or o (Some v)) (sym (none refl))
 put_first false None more v e none = e
 put_first false (Some x) more v e none = e
 
-kept_first : (b : Bool) (old : Option (List ℕ)) (v : List ℕ) → (b ≡ true → is_some old ≡ true) → old ≡ or_else old (cond b (Some v) None)
+kept_first : (b : Bool) (old : Option (List ℕ)) (v : List ℕ) → (b ≡ true → is_some old ≡ true) → old ≡ option_or old (cond b (Some v) None)
 kept_first b (Some x) v h = refl
 kept_first true None v h = absurd (true≢false (sym (h refl)))
 kept_first false None v h = refl
@@ -79,13 +75,13 @@ module _ (test : Place → Bool) (key value : Place → List ℕ) where
     next = place_view (get_or ps i d)
 
     one_more : (k : List ℕ) → first_value test key value (map place_view (take (i + 1) ps)) k
-        ≡ or_else (text_in t k) (cond (test next && bytes_eq (key next) k) (Some (value next)) None)
+        ≡ option_or (text_in t k) (cond (test next && bytes_eq (key next) k) (Some (value next)) None)
     one_more k =
         let own : Place → Bool = λ p. test p && bytes_eq (key p) k in
-        ap (λ (qs : List CodePlace). option_map value (first_place own (map place_view qs))) (take_more ps i d lt)
-        ∙ (ap (λ (qs : List Place). option_map value (first_place own qs)) (map-append place_view (take i ps) (get_or ps i d ∷ []))
+        ap (λ (qs : List CodePlace). option_map value (find own (map place_view qs))) (take_more ps i d lt)
+        ∙ (ap (λ (qs : List Place). option_map value (find own qs)) (map-append place_view (take i ps) (get_or ps i d ∷ []))
         ∙ (first_more own value (map place_view (take i ps)) next
-        ∙ ap (λ (o : Option (List ℕ)). or_else o (cond (own next) (Some (value next)) None)) (sym (so_far k))))
+        ∙ ap (λ (o : Option (List ℕ)). option_or o (cond (own next) (Some (value next)) None)) (sym (so_far k))))
 
     -- one that passes, and whose key has no value, puts its own
     pub first_put : (u : Texts) → test next ≡ true → (o : Option (Bor (List ℕ))) (b : Bool) → option_map (λ t. t.now) o ≡ text_in t (key next) →
@@ -94,7 +90,7 @@ module _ (test : Place → Bool) (key value : Place → List ℕ) where
     first_put u passes o b got none is put k =
         put_first (bytes_eq (key next) k) (text_in t k) (text_in u k) (value next) (put k)
         (λ same. ap (text_in t) (sym ((bytes_eq-Decides (key next) k).0 same)) ∙ (sym got ∙ lent_nothing o b none is))
-        ∙ (ap (λ (c : Bool). or_else (text_in t k) (cond (c && bytes_eq (key next) k) (Some (value next)) None)) (sym passes) ∙ sym (one_more k))
+        ∙ (ap (λ (c : Bool). option_or (text_in t k) (cond (c && bytes_eq (key next) k) (Some (value next)) None)) (sym passes) ∙ sym (one_more k))
 
     -- another puts nothing
     pub first_kept : (o : Option (Bor (List ℕ))) (b : Bool) → option_map (λ t. t.now) o ≡ text_in t (key next) → is_some o ≡ not b →

@@ -1,16 +1,17 @@
 -- The places that are left where the families of a document have one font each: they have the leaders that they had.
 use Rattle.std.proofs.Common.{◌≡◌, ℕ, Bool, true, false, cond, refl, sym, ◌∙◌, ap, subst, ◌⊎◌, List, [], ◌∷◌, ◌++◌, map, inl, inr, Option, Some, None}
 use Rattle.std.specs.Prelude.{◌&&◌, ◌||◌, ◌==◌, not}
-use Rattle.std.specs.List.{AllByRecursion}
+use Rattle.std.specs.List.{AllByRecursion, find}
 use Rattle.std.specs.Option.{option_and_then, option_map}
 use Rattle.std.specs.Str.{bytes_eq}
 use Rattle.std.proofs.lemmas.Bool.{cases_Bool, and_parts, true≢false}
 use Rattle.std.proofs.lemmas.Option.{none-some, same_Some}
 use Rattle.std.proofs.lemmas.Slice.Eq.{bytes_eq-Decides}
+use Rattle.t1_algebra.proofs.Searching.{first_passes}
 use Rattle.t1_document.specs.Documents.{Place, Document, behind_bytes}
 use Rattle.t1_document.specs.Rewriting.{NewTexts, is_seen, Becomes, Gives, at_fate, fated}
 use Rattle.t1_document.specs.Joins.{places_under}
-use Rattle.t1_document.specs.Families.{family, first_place, has_several, can_lead, leader_by, leader_in, if_leads, led_by, Led, names_behind}
+use Rattle.t1_document.specs.Families.{family, has_several, can_lead, leader_by, leader_in, if_leads, led_by, Led, names_behind}
 use Rattle.t1_document.specs.Families.{led_from, with_leaders, with_member, members_of, members, aliased, alias_line, fate_under, fate_led, led_fate}
 use Rattle.t1_document.proofs.SettledNames.{skipped, both_under, text_under, text_over, text_bare, settled_have, have_settled}
 use Rattle.t1_document.proofs.Rewritten.{same_bytes}
@@ -251,7 +252,7 @@ module _ (all : List Place) (new : NewTexts) where
 
     -- the leader where a place can lead, or those behind it
     abbrev found : List ℕ → Bool → Place → List Place → Option (List ℕ)
-    found members b q ts = option_map (λ r. r.name) (cond b (Some q) (first_place (can_lead several members) ts))
+    found members b q ts = option_map (λ r. r.name) (cond b (Some q) (find (can_lead several members) ts))
 
     -- the leaders of a family are the same among those that are left
     leaders_left : (members : List ℕ) (seen : List (List ℕ)) (ps rs : List Place) → LeftFrom seen ps rs → leader_by several ps members ≡ leader members →
@@ -303,22 +304,13 @@ module _ (all : List Place) (new : NewTexts) where
 
     -- a leader leads its own family
     leads_family : (members l : List ℕ) → leader members ≡ Some l → leader (family l) ≡ Some l
-    leads_family members l e = by_place (first_place (can_lead several members) all) refl e
+    leads_family members l e = by_place (find (can_lead several members) all) refl e
       where
-        passes : (ps : List Place) (p : Place) → first_place (can_lead several members) ps ≡ Some p → can_lead several members p ≡ true
-        passes [] p k = absurd (none-some p k)
-        passes (q ∷ ps) p k = by_test (can_lead several members q) refl k (passes ps p)
-          where
-            by_test : (b : Bool) → can_lead several members q ≡ b → cond b (Some q) (first_place (can_lead several members) ps) ≡ Some p →
-                (first_place (can_lead several members) ps ≡ Some p → can_lead several members p ≡ true) → can_lead several members p ≡ true
-            by_test true f m more = subst (λ (r : Place). can_lead several members r ≡ true) (same_Some q p m) f
-            by_test false f m more = more m
-
-        by_place : (o : Option Place) → first_place (can_lead several members) all ≡ o → option_map (λ p. p.name) o ≡ Some l → leader (family l) ≡ Some l
+        by_place : (o : Option Place) → find (can_lead several members) all ≡ o → option_map (λ p. p.name) o ≡ Some l → leader (family l) ≡ Some l
         by_place None f k = absurd (none-some l k)
         by_place (Some p) f k =
             let name : p.name ≡ l = same_Some p.name l k in
-            ap (λ (n : List ℕ). leader (family n)) (sym name) ∙ (ap leader (is_member members p (passes all p f)) ∙ e)
+            ap (λ (n : List ℕ). leader (family n)) (sym name) ∙ (ap leader (is_member members p (first_passes (can_lead several members) all p f)) ∙ e)
 
     -- so places of the same name are led alike
     led_alike : (seen other : List (List ℕ)) → SeenAlike seen other → (name : List ℕ) →

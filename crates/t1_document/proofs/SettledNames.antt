@@ -1,7 +1,7 @@
 -- Names of places whose font texts are one.
 use Rattle.std.proofs.Common.{◌≡◌, ℕ, Bool, true, false, cond, refl, sym, ◌∙◌, ap, subst, ◌⊎◌, List, [], ◌∷◌, map, inl, inr, Option, Some, None}
 use Rattle.std.specs.Prelude.{◌&&◌, ◌||◌, not}
-use Rattle.std.specs.List.{AllByRecursion}
+use Rattle.std.specs.List.{AllByRecursion, find}
 use Rattle.std.specs.Option.{option_map}
 use Rattle.std.specs.Str.{bytes_eq}
 use Rattle.std.proofs.lemmas.Bool.{cases_Bool, or_parts, cond-false, true≢false}
@@ -9,7 +9,7 @@ use Rattle.std.proofs.lemmas.Slice.Eq.{bytes_eq-Decides}
 use Rattle.t1_document.specs.Documents.{Place}
 use Rattle.t1_document.specs.Rewriting.{NewTexts}
 use Rattle.t1_document.specs.Joins.{places_under}
-use Rattle.t1_document.specs.Families.{first_place, first_text, is_text, differs, has_other, has_several}
+use Rattle.t1_document.specs.Families.{first_text, is_text, differs, has_other, has_several}
 use Rattle.t1_document.proofs.WriteLoop.{same_test}
 use Rattle.t1_document.proofs.Pooled.{bare}
 use Rattle.t1_document.proofs.Again.{HaveText}
@@ -115,7 +115,7 @@ first_had text name (q ∷ qs) h = by_test (bytes_eq q.name name) refl (text_ove
   where
     by_test : (b : Bool) → bytes_eq q.name name ≡ b → (bytes_eq q.name name ≡ true → q.text ≡ text) × HaveText text (places_under name qs) →
         (first_text qs name ≡ Some text) ⊎ NoneNamed name qs →
-        (option_map (λ p. p.text) (cond b (Some q) (first_place (λ p. bytes_eq p.name name) qs)) ≡ Some text) ⊎ NoneNamed name (q ∷ qs)
+        (option_map (λ p. p.text) (cond b (Some q) (find (λ p. bytes_eq p.name name) qs)) ≡ Some text) ⊎ NoneNamed name (q ∷ qs)
     by_test true e over rest = inl (ap (λ (t : List ℕ). Some t) (over.0 e))
     by_test false e over (inl f) = inl f
     by_test false e over (inr f) = inr (e, f)

@@ -1,7 +1,7 @@
 -- Families of names: those that are equal without their tags. The fonts of a family are joined under the name of its leader, and its other names become
 -- names of that font.
 use Rattle.std.specs.Prelude.{ℕ, ◌==◌, ◌&&◌, ◌||◌, not, Bool, false, List, [], ◌∷◌, ◌++◌, map, codes, Option, Some, None, if◌then◌else◌}
-use Rattle.std.specs.List.{list_any}
+use Rattle.std.specs.List.{list_any, find}
 use Rattle.std.specs.Option.{option_and_then, option_map}
 use Rattle.std.specs.Str.{bytes_eq}
 use Rattle.t1_bytes.specs.White.{has_bytes}
@@ -13,16 +13,11 @@ use Rattle.t1_document.specs.Rewriting.{NewTexts, is_seen, Fate, Stays, Becomes,
 abbrev pub family : List ℕ → List ℕ
 family name = if has_bytes (untagged name) then untagged name else name
 
--- the first of some places that passes a test
-abbrev pub first_place : (Place → Bool) → List Place → Option Place
-first_place test [] = None
-first_place test (p ∷ ps) = if test p then Some p else first_place test ps
-
 -- ---- settled names
 
 -- the font text of the first place of a name
 abbrev pub first_text : List Place → NewTexts
-first_text ps name = option_map (λ p. p.text) (first_place (λ p. bytes_eq p.name name) ps)
+first_text ps name = option_map (λ p. p.text) (find (λ p. bytes_eq p.name name) ps)
 
 -- it is this text
 abbrev pub is_text : Option (List ℕ) → List ℕ → Bool
@@ -49,7 +44,7 @@ can_lead several members p = (p.depth == 0) && not (several p.name) && bytes_eq 
 
 -- the name of the first such place
 abbrev pub leader_by : (List ℕ → Bool) → List Place → List ℕ → Option (List ℕ)
-leader_by several ps members = option_map (λ p. p.name) (first_place (can_lead several members) ps)
+leader_by several ps members = option_map (λ p. p.name) (find (can_lead several members) ps)
 
 -- the leader of a family among these places
 abbrev pub leader_in : List Place → List ℕ → Option (List ℕ)

@@ -2,7 +2,7 @@
 use Rattle.std.proofs.Common.{◌≡◌, ℕ, Bool, true, false, not, cond, ◌||◌, inl, inr, List, [], ◌∷◌, refl, sym, ◌∙◌, ap, subst, Option, Some, None, Result, Ok, Err, MatchResult, IfOk, Vec, Global}
 use Rattle.std.specs.Cmp.Lexicographic.{nat_list_cmp_total}
 use Rattle.std.specs.FinSet as sets
-use Rattle.std.specs.List.{list_any}
+use Rattle.std.specs.List.{list_any, find}
 use Rattle.std.specs.Ordering.{eq_by_cmp}
 use Rattle.t1_bytes.specs.declared.form.Form.{Form}
 use Rattle.t1_bytes.specs.declared.form.Form.TheVariants.{Pfa, Pfb}
@@ -20,14 +20,14 @@ use Rattle.t1_subset.specs.declared.fault.SubsetFault.{SubsetFault}
 use Rattle.t1_subset.specs.declared.fault.SubsetFault.TheVariants as subsetting
 use Rattle.t1_algebra.specs.Interpreter.{Names}
 use Rattle.t1_algebra.specs.Keep.{has, keep, subset, IsOf}
-use Rattle.t1_algebra.specs.Searches.{first_where}
 use Rattle.t1_algebra.specs.Laws.{AnswersAlike}
 use Rattle.t1_algebra.specs.Profile.{profile}
 use Rattle.t1_subset.specs.Refusals.{Absent}
 use Rattle.t1_algebra.proofs.Fonts.{subset_is_font}
 use Rattle.t1_algebra.proofs.Sets.{name_same, itself, in_list, from_in_list, in_union}
 use Rattle.t1_example.specs.declared.refusal.Refusal.{Refusal}
-use Rattle.t1_example.specs.Joining.{CanBeCut, IsMemory, union_subset}
+use Rattle.t1_example.specs.Joining.{CanBeCut, union_subset}
+use Rattle.t1_example.specs.Refusals.{IsMemory}
 use Rattle.t1_example.proofs.Outcomes.{unread}
 use Rattle.t1_subset.specs.declared.conflict.Conflict.{Conflict}
 use Rattle.t1_subset.specs.Merger.{MergesSubsets}
@@ -48,16 +48,16 @@ pub only_memory : (r : Result FontValue ReadFault) (f : FontValue) (e : ReadFaul
 only_memory r f e a b = elim (unread e r b) [ inl m ↦ m | inr x ↦ clash _ r f e a x ]
 
 -- where a font has all names, none is absent
-all_present : (f : FontValue) (ns : List (List ℕ)) → IsOf f (sets.from_list ns) → first_where (λ n. not (has f n)) ns ≡ None
+all_present : (f : FontValue) (ns : List (List ℕ)) → IsOf f (sets.from_list ns) → find (λ n. not (has f n)) ns ≡ None
 all_present f [] i = refl
 all_present f (n ∷ ns) i =
     let first : list_any (eq_by_cmp name_cmp n) (n ∷ ns) ≡ true = or_left _ _ (itself nat_list_cmp_total name_same n) in
-    ap (λ b. cond b (Some n) (first_where (λ n. not (has f n)) ns)) (not_from_true (has f n) (i n (from_in_list nat_list_cmp_total name_same (n ∷ ns) n first)))
+    ap (λ b. cond b (Some n) (find (λ n. not (has f n)) ns)) (not_from_true (has f n) (i n (from_in_list nat_list_cmp_total name_same (n ∷ ns) n first)))
     ∙ all_present f ns (λ q w. i q (from_in_list nat_list_cmp_total name_same (n ∷ ns) q (or_right _ _ (in_list nat_list_cmp_total name_same ns q w))))
 
 -- where a font has all names, it is cut, or memory is wanted
 pub none_lacking : (f : FontValue) (ns : List (List ℕ)) (e : SubsetFault) →
-    IsOf f (sets.from_list ns) → Absent e (first_where (λ n. not (has f n)) ns) → e ≡ subsetting.Memory
+    IsOf f (sets.from_list ns) → Absent e (find (λ n. not (has f n)) ns) → e ≡ subsetting.Memory
 none_lacking f ns (subsetting.NoSuchGlyph n) i h = absurd (none_some (sym (all_present f ns i) ∙ h))
   where
     none_some : {A : Type 0} {x : A} → ◌≡◌ {A = Option A} None (Some x) → ⊥

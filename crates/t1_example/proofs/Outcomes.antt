@@ -16,8 +16,8 @@ use Rattle.t1_subset.specs.Merger.{IsMerger}
 use Rattle.t1_subset.specs.Refusals.{Tells}
 use Rattle.t1_example.specs.declared.refusal.Refusal.{Refusal}
 use Rattle.t1_example.specs.declared.refusal.Refusal.TheVariants.{Read, Subset, Merge, Memory}
-use Rattle.t1_example.specs.Joining.{IsMemory}
-use Rattle.t1_example.specs.Outcomes.{FileComesTo, CutsMergeTo, FilesMergeTo, LacksFirst, MergeTo, file_of, first_lacking}
+use Rattle.t1_example.specs.Refusals.{IsMemory, LacksFirst, first_lacking}
+use Rattle.t1_example.specs.Outcomes.{FileComesTo, CutsMergeTo, FilesMergeTo, MergeTo, file_of}
 
 -- a file is refused for want of memory, or for what is read of it
 pub unread : (e : ReadFault) (r : Result FontValue ReadFault) → Refused e r → (e ≡ reading.Memory) ⊎ (r ≡ Err e)

@@ -2,18 +2,13 @@
 use Rattle.std.specs.Prelude.{◌≡◌, ℕ, List, Ok}
 use Rattle.std.specs.FinSet as sets
 use Rattle.t1_bytes.specs.declared.form.Form.{Form}
-use Rattle.t1_font.specs.declared.fault.ReadFault.TheVariants as reading
 use Rattle.t1_font.specs.FontValue.{FontValue}
 use Rattle.t1_font.specs.ReadFont.{read_font}
 use Rattle.t1_font.specs.Spelling.{Spells}
 use Rattle.t1_font.specs.Canon.{Fits}
-use Rattle.t1_subset.specs.declared.fault.SubsetFault.TheVariants as subsetting
-use Rattle.t1_subset.specs.declared.conflict.Conflict.TheVariants as merging
 use Rattle.t1_algebra.specs.Interpreter.{Names}
 use Rattle.t1_algebra.specs.Keep.{subset, IsOf}
 use Rattle.t1_algebra.specs.Profile.{profile}
-use Rattle.t1_example.specs.declared.refusal.Refusal.{Refusal}
-use Rattle.t1_example.specs.declared.refusal.Refusal.TheVariants.{Read, Subset, Merge, Memory}
 
 -- The file spells the font, which has the names of both sets, and whose files in this form can be read again.
 pub record CanBeCut (file : List ℕ) (a b : Names) (form : Form) (f : FontValue) : Type 0 where
@@ -29,10 +24,3 @@ AreCuts f a b first second = (read_font first ≡ Ok (subset profile f a)) × (r
 -- the subset of the names of both sets
 abbrev pub union_subset : FontValue → Names → Names → FontValue
 union_subset f a b = subset profile f (sets.union a b)
-
--- a growth was refused
-abbrev pub IsMemory : Refusal → Type 0
-IsMemory (Read fault) = fault ≡ reading.Memory
-IsMemory (Subset fault) = fault ≡ subsetting.Memory
-IsMemory (Merge conflict) = conflict ≡ merging.Memory
-IsMemory Memory = Unit {0}

@@ -1,3 +1,4 @@
+pub mod Refusals
 pub mod NewFonts
 pub mod Joining
 pub mod Outcomes

@@ -1,5 +1,5 @@
 -- What a caller's work comes to, whatever the file and the names are.
-use Rattle.std.specs.Prelude.{◌≡◌, ◌⊎◌, ℕ, List, Result, Ok, Err, Option, Some, None, MatchResult, not}
+use Rattle.std.specs.Prelude.{◌≡◌, ◌⊎◌, ℕ, List, Result, Ok, Err, Option, Some, None, MatchResult}
 use Rattle.std.specs.FinSet as sets
 use Rattle.std.specs.Global.{Vec}
 use Rattle.std.specs.Option.{option_or}
@@ -9,15 +9,14 @@ use Rattle.t1_font.specs.Canon.{canon}
 use Rattle.t1_font.specs.FontValue.{FontValue}
 use Rattle.t1_font.specs.ReadFont.{read_font}
 use Rattle.t1_algebra.specs.Conflicts.{Conflict, conflict}
-use Rattle.t1_algebra.specs.Keep.{has, subset}
+use Rattle.t1_algebra.specs.Keep.{subset}
 use Rattle.t1_algebra.specs.Profile.{profile}
-use Rattle.t1_algebra.specs.Searches.{first_where}
 use Rattle.t1_algebra.specs.States.{Join, joined_font}
 use Rattle.t1_subset.specs.declared.fault.SubsetFault.TheVariants.{NoSuchGlyph}
-use Rattle.t1_subset.specs.Refusals.{Absent, Tells}
+use Rattle.t1_subset.specs.Refusals.{Tells}
 use Rattle.t1_example.specs.declared.refusal.Refusal.{Refusal}
 use Rattle.t1_example.specs.declared.refusal.Refusal.TheVariants.{Read, Subset, Merge}
-use Rattle.t1_example.specs.Joining.{IsMemory}
+use Rattle.t1_example.specs.Refusals.{IsMemory, first_lacking}
 
 -- there is no file, for this reason or since a growth was refused
 abbrev pub NoFile : (Refusal → Type 0) → Result (Vec ℕ) Refusal → Type 0
@@ -44,10 +43,6 @@ FilesMergeTo (Err fault) other form = NoFile (λ e. e ≡ Read fault)
 FilesMergeTo (Ok g) (Err fault) form = NoFile (λ e. e ≡ Read fault)
 FilesMergeTo (Ok g) (Ok h) form = MergeTo g h form
 
--- the first of these names that the font lacks
-abbrev pub first_lacking : FontValue → List (List ℕ) → Option (List ℕ)
-first_lacking f = first_where (λ n. not (has f n))
-
 -- the file of the subset over these names
 abbrev pub file_of : FontValue → List (List ℕ) → Form → List ℕ
 file_of f ns form = canon (subset profile f (sets.from_list ns)) form
@@ -61,8 +56,3 @@ CutsMergeTo None f a b form = FilesMergeTo (read_font (file_of f a form)) (read_
 abbrev pub FileComesTo : Result FontValue ReadFault → List (List ℕ) → List (List ℕ) → Form → Result (Vec ℕ) Refusal → Type 0
 FileComesTo (Err fault) a b form = NoFile (λ e. e ≡ Read fault)
 FileComesTo (Ok f) a b form = CutsMergeTo (option_or (first_lacking f a) (first_lacking f b)) f a b form
-
--- the refusal of a cut names the first name that the font lacks
-abbrev pub LacksFirst : Option (List ℕ) → Refusal → Type 0
-LacksFirst first (Subset fault) = Absent fault first
-LacksFirst first e = ⊥

@@ -28,9 +28,9 @@ mod spellings;
 mod subset_files;
 mod widths;
 
-ghost use Rattle.std.specs.Prelude.{◌≡◌, ◌⊎◌, ℕ, true, None, List, Ok, OnOk, IfOk, IfErr, MatchResult};
+ghost use Rattle.std.specs.Prelude.{◌≡◌, ℕ, true, List, IfOk, MatchResult};
 ghost use Rattle.std.specs.FinSet as sets;
-ghost use Rattle.t1_font.specs.Canon.{canon, Fits};
+ghost use Rattle.t1_font.specs.Canon.{canon};
 ghost use Rattle.t1_font.specs.FontValue.{FontValue};
 ghost use Rattle.t1_font.specs.IsFont.{IsFont};
 ghost use Rattle.t1_font.specs.ReadFont.{read_font};
@@ -41,8 +41,9 @@ ghost use Rattle.t1_algebra.specs.Laws.{AnswersAlike};
 ghost use Rattle.t1_subset.specs.NameSets.{lent, asked};
 ghost use Rattle.t1_subset.specs.Merger.{IsMerger, MergesSubsets};
 ghost use Rattle.t1_algebra.specs.Profile.{profile};
-ghost use Rattle.t1_example.specs.Joining.{AreCuts, CanBeCut, IsMemory, union_subset};
-ghost use Rattle.t1_example.specs.Outcomes.{FileComesTo, FilesMergeTo, LacksFirst, MergeTo, file_of, first_lacking};
+ghost use Rattle.t1_example.specs.Joining.{AreCuts, CanBeCut, union_subset};
+ghost use Rattle.t1_example.specs.Outcomes.{FileComesTo, FilesMergeTo, MergeTo};
+ghost use Rattle.t1_example.specs.Refusals.{IsMemory};
 
 pub use cuts::cuts_joined;
 pub use listings::joined_text;
@@ -55,7 +56,7 @@ pub use spellings::respelled;
 use std::alloc::Global;
 pub use subset_files::subset_file;
 use t1_font::{Font, Form, Source, read, write};
-use t1_subset::{Conflict, merge, subset};
+use t1_subset::{Conflict, merge};
 pub use widths::width;
 
 /// Which of two fonts is the left one of a merge.
@@ -65,26 +66,6 @@ pub enum Order {
     FirstIntoSecond,
     /// The first is the left one.
     SecondIntoFirst,
-}
-
-// The file of a subset of a source's font, as a document carries it.
-fn cut(alloc: Global, source: &Source, names: &[&[u8]], form: Form) -> Result<Vec<u8>, Refusal>
-    ensures again { IsOf source.now (asked names.now)
-        → Fits form source.now
-        → MatchResult result (λ v. read_font v.items
-        ≡ Ok (subset profile source.now (asked names.now))) IsMemory }
-    ensures text { IfOk result (λ v. v.items ≡ file_of source.now (lent names.now) form) }
-    ensures present { OnOk result (first_lacking source.now (lent names.now) ≡ None) }
-    ensures absent { IfErr result
-        (λ e. IsMemory e ⊎ LacksFirst (first_lacking source.now (lent names.now)) e) }
-{
-    let font = source.font(alloc)?;
-    let subset = subset(alloc, &font, names);
-    drop(font);
-    let subset = subset?;
-    let file = write(alloc, &subset, form);
-    drop(subset);
-    Ok(file?)
 }
 
 // What two fonts come to, merged in this order; it borrows from the sources of both.
@@ -196,14 +177,14 @@ pub fn cut_and_joined(
         → AnswersAlike f g n) }
 {
     let source = read(alloc, file)?;
-    let one = match cut(alloc, &source, first, form) {
+    let one = match subset_file(alloc, &source, first, form) {
         Ok(one) => one,
         Err(refusal) => {
             drop(source);
             return Err(refusal);
         }
     };
-    let other = cut(alloc, &source, second, form);
+    let other = subset_file(alloc, &source, second, form);
     drop(source);
     let other = other?;
     joined(alloc, one.as_slice(), other.as_slice(), order, form)

@@ -1,7 +1,7 @@
 //! A caller of `t1_join`.
 
-ghost use Rattle.std.specs.Prelude.{◌≡◌, Ok, IfOk};
-ghost use Rattle.t1_join.specs.ListingJoin.{joined_listing};
+ghost use Rattle.std.specs.Prelude.{◌≡◌, Ok, IfOk, IfErr};
+ghost use Rattle.t1_join.specs.ListingJoin.{joined_listing, IsJoinFault};
 ghost use Rattle.t1_join.specs.ListingText.{listing_of};
 
 use std::alloc::Global;
@@ -13,7 +13,8 @@ pub fn joined_text(
     first: &Listing<'_>,
     second: &Listing<'_>,
 ) -> Result<Vec<u8>, JoinFault>
-    ensures { IfOk result (λ v. listing_of v.items ≡ Ok (joined_listing first.now second.now)) }
+    ensures reads { IfOk result (λ v. listing_of v.items ≡ Ok (joined_listing first.now second.now)) }
+    ensures refused { IfErr result (IsJoinFault first.now second.now) }
 {
     let joined = join(alloc, first, second)?;
     laws::reads_what_is_written(&joined);

@@ -1,6 +1,7 @@
 //! A caller of `t1_char`.
 
-ghost use Rattle.std.specs.Prelude.{◌≡◌, ◌∷◌, [], pos, IfOk};
+ghost use Rattle.std.specs.Prelude.{◌≡◌, ◌∷◌, [], pos, IfOk, IfErr};
+ghost use Rattle.t1_char.specs.declared.spelling.CharFault.TheVariants.{Memory};
 ghost use Rattle.t1_char.specs.declared.token.Command.TheVariants.{Hsbw, Endchar};
 ghost use Rattle.t1_char.specs.declared.token.Token.TheVariants.{Num, Cmd};
 ghost use Rattle.t1_char.specs.Tokens.{tokens};
@@ -10,7 +11,8 @@ use t1_char::{CharFault, Command, Token, write};
 
 /// The charstring of a glyph that draws nothing and has this width, in charstring units.
 pub fn space(alloc: Global, width: i32) -> Result<Vec<u8>, CharFault>
-    ensures { IfOk result (λ v. tokens v.items ≡ Num (pos 0) ∷ Num width ∷ Cmd Hsbw ∷ Cmd Endchar ∷ []) }
+    ensures spells { IfOk result (λ v. tokens v.items ≡ Num (pos 0) ∷ Num width ∷ Cmd Hsbw ∷ Cmd Endchar ∷ []) }
+    ensures refused { IfErr result (λ e. e ≡ Memory) }
 {
     let space = [
         Token::Num(0),

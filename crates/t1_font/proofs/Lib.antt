@@ -1,3 +1,4 @@
+mod Sealings
 pub mod WordLemmas
 pub mod MarkerLemmas
 pub mod Lasts

@@ -18,6 +18,7 @@ pub mod Lent
 pub mod Ranges
 pub mod Places
 pub mod Gathering
+pub mod Sealing
 pub mod Sources
 pub mod FontModel
 pub mod IsFont

@@ -1,6 +1,6 @@
 -- Which glyph executes each Subr of a font, and which names each component that the font lacks.
 use Rattle.std.specs.Prelude.{◌≡◌, ◌<◌, ℕ, Bool, true, false, List, [], ◌∷◌, Option, Some, None, map}
-use Rattle.std.specs.List.{AllByRecursion}
+use Rattle.std.specs.List.{AllByRecursion, find}
 use Rattle.std.specs.FinMap as maps
 use Rattle.t1_join.specs.Meaning.{of_number}
 use Rattle.t1_font.specs.FontValue.{FontValue, name_cmp, declared_count, names_in}
@@ -9,7 +9,6 @@ use Rattle.t1_algebra.specs.Interpreter.{same_bytes}
 use Rattle.t1_algebra.specs.Profile.{profile}
 use Rattle.t1_algebra.specs.Conflicts.{wants}
 use Rattle.t1_algebra.specs.Lacks.{user_of}
-use Rattle.t1_algebra.specs.Searches.{first_where}
 use Rattle.t1_algebra.specs.StateTables.{StatesValue, states_of}
 use Rattle.t1_subset.specs.declared.callers.Callers.{Callers}
 use Rattle.t1_subset.specs.Differences.{smaller}
@@ -18,7 +17,7 @@ use Rattle.t1_subset.specs.Users.{noted_at}
 
 -- the smallest glyph of the font that names this component, if the font lacks it
 abbrev pub seeker_of : FontValue → List ℕ → Option (List ℕ)
-seeker_of f p = first_where (λ n. wants profile f n p) (names_in f.glyphs)
+seeker_of f p = find (λ n. wants profile f n p) (names_in f.glyphs)
 
 -- both are there and have the same bytes
 abbrev pub same_charstring : Option (List ℕ) → Option (List ℕ) → Bool

@@ -3,10 +3,10 @@
 ghost use Rattle.std.specs.Prelude.{◌≡◌, IfOk, IfErr, OnOk, None, not};
 ghost use Rattle.std.specs.Option.{option_map};
 ghost use Rattle.std.specs.List.Sorted.{IsStrictlySortedBy};
+ghost use Rattle.std.specs.List.{find};
 ghost use Rattle.t1_font.specs.FontValue.{name_cmp};
 ghost use Rattle.t1_algebra.specs.Profile.{profile};
 ghost use Rattle.t1_algebra.specs.Keep.{has, keep, kept, IsOf};
-ghost use Rattle.t1_algebra.specs.Searches.{first_where};
 ghost use Rattle.t1_subset.specs.Calls.{number_set};
 ghost use Rattle.t1_subset.specs.NameSets.{listed_names, lent, asked, set_by};
 ghost use Rattle.t1_subset.specs.Refusals.{Absent};
@@ -21,7 +21,7 @@ use t1_font::Font;
 /// The first of these names that the font lacks.
 fn first_absent<'a>(font: &Font<'_>, names: &'a [&'a [u8]]) -> Option<&'a [u8]>
     ensures { option_map (λ n. n.now) result
-        ≡ first_where (λ n. not (has font.now n)) (lent names.now) }
+        ≡ find (λ n. not (has font.now n)) (lent names.now) }
 {
     'names: for name in names {
         if !has_glyph(font, name) {
@@ -70,11 +70,11 @@ pub fn closure(alloc: Global, font: &Font<'_>, names: &[&[u8]]) -> Result<Closur
     ensures upwards { IfOk result (λ c. IsStrictlySortedBy name_cmp (listed_names c.names.items)) }
     ensures subrs { IfOk result (λ c. number_set c.subrs
         ≡ kept profile font.now (asked names.now)) }
-    ensures present { OnOk result (first_where (λ n. not (has font.now n)) (lent names.now)
+    ensures present { OnOk result (find (λ n. not (has font.now n)) (lent names.now)
         ≡ None) }
     ensures absent { IfErr result
         (λ e. Absent e
-        (first_where (λ n. not (has font.now n)) (lent names.now))) }
+        (find (λ n. not (has font.now n)) (lent names.now))) }
 {
     if let Some(name) = first_absent(font, names) {
         return match Vec::from_slice(alloc, name) {

@@ -3,6 +3,7 @@
 ghost use Rattle.std.specs.Prelude.{◌≡◌, ◌↔◌, ◌+◌, ℕ, List, IfOk, IsTrue, MatchOption, Some, None, is_some, [], cond};
 ghost use Rattle.std.specs.Option.{option_map};
 ghost use Rattle.std.specs.FinMap as maps;
+ghost use Rattle.std.specs.List.{find};
 ghost use Rattle.t1_font.specs.FontValue.{name_cmp, total};
 ghost use Rattle.t1_font.specs.FontModel.{clamp};
 ghost use Rattle.t1_join.specs.Meaning.{Meaning};
@@ -11,7 +12,7 @@ ghost use Rattle.t1_algebra.specs.Profile.{profile};
 ghost use Rattle.t1_algebra.specs.StateTables.{name_states, AreNameStates, behind_mark, name_adds, name_counts};
 ghost use Rattle.t1_subset.specs.Callers.{seeker_of};
 ghost use Rattle.t1_algebra.specs.NameStates.{is_sought_in, charstrings_differ, lacks, one_lacks, lacks_in};
-ghost use Rattle.t1_algebra.specs.Searches.{first_where, IsLowest};
+ghost use Rattle.t1_algebra.specs.Searches.{IsLowest};
 
 use crate::callers::{Seekers, smaller};
 use std::alloc::{AllocError, Global};
@@ -82,7 +83,7 @@ fn first_lacked<'a>(
 ) -> Option<&'a [u8]>
     ensures { option_map (λ n. n.now) result
         ≡ option_map (λ e. e.0)
-        (first_where (lacks_in own.now other.now) (maps.entries names.now)) }
+        (find (lacks_in own.now other.now) (maps.entries names.now)) }
 {
     'names: for (name, _) in names.entries() {
         if own.seeks(name) && other.has_glyph(name) {

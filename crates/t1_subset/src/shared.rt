@@ -2,9 +2,9 @@
 
 ghost use Rattle.std.specs.Prelude.{◌≡◌, ◌↔◌, IsTrue, IfOk, not, map};
 ghost use Rattle.std.specs.Option.{option_map};
+ghost use Rattle.std.specs.List.{find};
 ghost use Rattle.t1_font.specs.FontModel.{part_of, clamp};
 ghost use Rattle.t1_algebra.specs.Interpreter.{same_bytes};
-ghost use Rattle.t1_algebra.specs.Searches.{first_where};
 ghost use Rattle.t1_algebra.specs.StateTables.{shared_weight};
 ghost use Rattle.t1_algebra.specs.Conflicts.{without_subrs};
 ghost use Rattle.t1_algebra.specs.Shared.{shared_of, same_part, same_word, differing_part};
@@ -110,7 +110,7 @@ pub(crate) fn same_part(left: &Shared<'_>, right: &Shared<'_>, part: ShellPart) 
 /// The first of these parts that differs.
 fn first_differing(left: &Shared<'_>, right: &Shared<'_>, parts: &[ShellPart]) -> Option<ShellPart>
     ensures { option_map shell_part result
-        ≡ first_where (λ part. not (same_part left.now right.now part))
+        ≡ find (λ part. not (same_part left.now right.now part))
         (map shell_part parts.now) }
 {
     'parts: for part in parts {

@@ -2,10 +2,10 @@
 
 ghost use Rattle.std.specs.Prelude.{◌≡◌, IfOk, IfErr, OnOk, None, not, List, ℕ, true};
 ghost use Rattle.std.specs.FinSet as sets;
+ghost use Rattle.std.specs.List.{find};
 ghost use Rattle.t1_algebra.specs.Profile.{profile};
 ghost use Rattle.t1_algebra.specs.Keep.{has, keep, subset};
 ghost use Rattle.t1_algebra.specs.Alike.{DrawsAlike};
-ghost use Rattle.t1_algebra.specs.Searches.{first_where};
 ghost use Rattle.t1_subset.specs.NameSets.{lent, asked};
 ghost use Rattle.t1_subset.specs.Refusals.{Absent};
 
@@ -27,11 +27,11 @@ pub fn subset<'a>(alloc: Global, font: &Font<'a>, names: &[&[u8]]) -> Result<Fon
     ensures draws { IfOk result (λ s. (n : List ℕ)
         → sets.contains (keep profile font.now (asked names.now)) n ≡ true
         → DrawsAlike font.now s n) }
-    ensures present { OnOk result (first_where (λ n. not (has font.now n)) (lent names.now)
+    ensures present { OnOk result (find (λ n. not (has font.now n)) (lent names.now)
         ≡ None) }
     ensures absent { IfErr result
         (λ e. Absent e
-        (first_where (λ n. not (has font.now n)) (lent names.now))) }
+        (find (λ n. not (has font.now n)) (lent names.now))) }
 {
     font.proof_is_font();
     let closure = closure(alloc, font, names)?;

@@ -5,8 +5,9 @@ use Rattle.std.specs.Str.{bytes_eq}
 use Rattle.std.proofs.{lemmas.Bool.{ltb-true, ltb-false}, lemmas.List.Folds.{list_any-append}}
 use Rattle.std.specs.FinSet as sets
 use Rattle.std.specs.FinMap as maps
+use Rattle.std.specs.List.{find}
 use Rattle.t1_font.specs.{FontValue.{FontValue, declared_count, names_in}, Cut.{stub}, Evening.{stubs_at, below, with_stubs, filled, indices_of_all}}
-use Rattle.t1_algebra.specs.{Keep.{has}, Profile.{profile}, Shared.{shared_of}, Conflicts.{wants}, Searches.{first_where}}
+use Rattle.t1_algebra.specs.{Keep.{has}, Profile.{profile}, Shared.{shared_of}, Conflicts.{wants}}
 use Rattle.t1_algebra.specs.States.{executed_at, executes, named_at, is_called, subr_state, state_of_entry, joined_option}
 use Rattle.t1_algebra.specs.StateTables.{numbered, code_states, used_subrs, names_table, name_meaning, states_of}
 use Rattle.t1_algebra.specs.Lacks.{Lack, user_of, first_below, is_had, lack_at, lack_in}
@@ -14,7 +15,7 @@ use Rattle.t1_algebra.proofs.{Words.{list_any, same_bytes, eq_by_cmp, nat_cmp_to
 use Rattle.t1_algebra.proofs.{Sets.{clash, any_filter, name_same, cases}, Searching.{none_at_all, found_none}, FontStates.{get-used}}
 
 -- a search finds something where some element passes
-found_any : {X : Type 0} (p : X → Bool) (xs : List X) → is_some (first_where p xs) ≡ list_any p xs
+found_any : {X : Type 0} (p : X → Bool) (xs : List X) → is_some (find p xs) ≡ list_any p xs
 found_any p [] = refl
 found_any p (x ∷ xs) = grind (cases, found_any p xs)
 
@@ -93,11 +94,11 @@ module _ (f : FontValue) (indices : List ℕ) where
 
     -- so each Subr has the same smallest user, and each component the same smallest seeker
     pub user_same : (i : ℕ) → user_of full i ≡ user_of f i
-    user_same i = λ j. first_where (λ n. executes_same i n j) (names_in f.glyphs)
+    user_same i = λ j. find (λ n. executes_same i n j) (names_in f.glyphs)
 
-    pub seeker_same : (p : List ℕ) → first_where (λ n. wants profile full n p) (names_in full.glyphs) ≡
-        first_where (λ n. wants profile f n p) (names_in f.glyphs)
-    seeker_same p = λ j. first_where (λ n. not (has f p) && list_any (same_bytes p) (named_same n j)) (names_in f.glyphs)
+    pub seeker_same : (p : List ℕ) → find (λ n. wants profile full n p) (names_in full.glyphs) ≡
+        find (λ n. wants profile f n p) (names_in f.glyphs)
+    seeker_same p = λ j. find (λ n. not (has f p) && list_any (same_bytes p) (named_same n j)) (names_in f.glyphs)
 
     called_same : (i : ℕ) → is_called profile full i ≡ is_called profile f i
     called_same i = λ j. list_any (λ n. executes_same i n j) (names_in f.glyphs)

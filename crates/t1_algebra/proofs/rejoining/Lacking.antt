@@ -4,9 +4,10 @@ use Rattle.std.proofs.Common.{unwrap_or}
 use Rattle.std.proofs.lemmas.Bool.{lt-ltb}
 use Rattle.std.specs.FinMap as maps
 use Rattle.std.specs.FinSet as sets
+use Rattle.std.specs.List.{find}
 use Rattle.t1_font.specs.{FontValue.{FontValue, declared_count, names_in}, Evening.{even, largest_count, each_even, evened_shells}, EveningLaws.{IsEvenWith}}
 use Rattle.t1_font.proofs.MapLemmas.{get-retain}
-use Rattle.t1_algebra.specs.{Keep.{keep, kept}, Profile.{profile}, States.{executes, executed_at}, Searches.{first_where, found}}
+use Rattle.t1_algebra.specs.{Keep.{keep, kept}, Profile.{profile}, States.{executes, executed_at}, Searches.{found}}
 use Rattle.t1_algebra.specs.Lacks.{Lack, user_of, first_below, is_had, lack_at, lack_among, first_lack}
 use Rattle.t1_algebra.specs.Rejoins.{Truncated, with_even_texts, truncated_fonts, largest}
 use Rattle.t1_algebra.proofs.rejoining.EvenCuts.{IsEvenCut}
@@ -23,9 +24,9 @@ none_below : {X : Type 0} (value : ℕ → Option X) (n : ℕ) → ((i : ℕ) �
 none_below value zero h = refl
 none_below value (suc n) h = λ i. found (λ x. x) (none_below value n h i) (h n i)
 
-none_passes : {X : Type 0} (p : X → Bool) (xs : List X) → ((x : X) → p x ≡ false) → first_where p xs ≡ None
+none_passes : {X : Type 0} (p : X → Bool) (xs : List X) → ((x : X) → p x ≡ false) → find p xs ≡ None
 none_passes p [] h = refl
-none_passes p (x ∷ xs) h = ap (λ b. cond b (Some x) (first_where p xs)) (h x) ∙ none_passes p xs h
+none_passes p (x ∷ xs) h = ap (λ b. cond b (Some x) (find p xs)) (h x) ∙ none_passes p xs h
 
 none_among : (all fs : List FontValue) → AllByRecursion (λ f. (i : ℕ) → lack_at all f i ≡ None) fs → lack_among all fs ≡ None
 none_among all [] h = refl

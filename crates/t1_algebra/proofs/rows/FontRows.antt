@@ -11,6 +11,7 @@ use Rattle.std.specs.FinSet.{FinSet, IsAntisymmetric, nat_cmp-IsAntisymmetric}
 use Rattle.std.proofs.lemmas.List.Folds.{list_all-append, list_all-map}
 use Rattle.std.specs.FinMap as maps
 use Rattle.std.specs.FinSet as sets
+use Rattle.std.specs.List as lists
 use Rattle.t1_join.specs.Join.{joined_state}
 use Rattle.t1_join.specs.Meaning.{of_number}
 use Rattle.t1_join.specs.TableLaws.{get_joined}
@@ -28,7 +29,7 @@ use Rattle.t1_algebra.specs.StateTables.{states_of, all_components, used_subrs, 
 use Rattle.t1_algebra.specs.Conflicts.{Conflict, ShellDiffers, CodeDiffers, GlyphDiffers, LacksComponent, SubrDiffers, OverLimit, keys_of_both, agrees, codes_of_both, glyphs_of_both}
 use Rattle.t1_algebra.specs.Conflicts.{code_clashes, wanted_by, used_by, is_within, shell_conflict, code_conflict, glyph_conflict, component_conflict, subr_conflict, states_conflict, conflict}
 use Rattle.t1_algebra.specs.Conflicts.{states_conflicts, conflicts}
-use Rattle.t1_algebra.specs.Searches.{members, found, first_where, passing, or_else}
+use Rattle.t1_algebra.specs.Searches.{members, found, passing, or_else}
 use Rattle.t1_algebra.specs.Shared.{ShellPart, Head, EncodingPart, Private, SubrsTable, same_word, shared_of, differing_parts}
 use Rattle.t1_algebra.proofs.Sets.{name_same, all_at, all_from, any_one, any_at, in_list, from_in_list, any_flat_map, cases}
 use Rattle.t1_algebra.proofs.FontStates.{get-used}
@@ -329,8 +330,8 @@ module _ (e k : Encoding) (ss ts : List (ℕ × List ℕ)) (es fs : List (List �
   abbrev glyph_differs : List ℕ → Bool
   glyph_differs n = not (agrees (at_name es n) (at_name fs n))
 
-  glyphs_are : glyph_conflict f g ≡ first_where glyph_differs names
-  glyphs_are = λ d. first_where (λ n. not (agrees (glyph_listed e ss es he n d) (glyph_listed k ts fs hf n d))) (names_are d)
+  glyphs_are : glyph_conflict f g ≡ lists.find glyph_differs names
+  glyphs_are = λ d. lists.find (λ n. not (agrees (glyph_listed e ss es he n d) (glyph_listed k ts fs hf n d))) (names_are d)
 
   -- a glyph that is there calls for a component that its list lacks
   abbrev wanted_listed : List ℕ → List ℕ → Bool
@@ -344,15 +345,15 @@ module _ (e k : Encoding) (ss ts : List (ℕ × List ℕ)) (es fs : List (List �
   abbrev lacking_listed : List ℕ → Bool
   lacking_listed p = (is_some (at_name es p) || is_some (at_name fs p)) && list_any (wanted_listed p) names
 
-  lacking_are : component_conflict spelled f g ≡ first_where lacking_listed names
-  lacking_are = λ d. first_where (λ p. (has_listed e ss es he p d || has_listed k ts fs hf p d) && list_any (λ n. wanted_are p n d) (names_are d)) (names_are d)
+  lacking_are : component_conflict spelled f g ≡ lists.find lacking_listed names
+  lacking_are = λ d. lists.find (λ p. (has_listed e ss es he p d || has_listed k ts fs hf p d) && list_any (λ n. wanted_are p n d) (names_are d)) (names_are d)
 
   abbrev subr_differs : ℕ → Bool
   subr_differs i =
       not (agrees (state_by (executed_listed e ss es hs he i) (find nat_cmp i ss)) (state_by (executed_listed k ts fs ht hf i) (find nat_cmp i ts)))
 
-  subrs_differ : subr_conflict spelled f g ≡ first_where subr_differs (keys_listed nat_cmp ss ts)
-  subrs_differ = λ d. first_where (λ i. not (agrees (state_is e ss es hs he i d) (state_is k ts fs ht hf i d)))
+  subrs_differ : subr_conflict spelled f g ≡ lists.find subr_differs (keys_listed nat_cmp ss ts)
+  subrs_differ = λ d. lists.find (λ i. not (agrees (state_is e ss es hs he i d) (state_is k ts fs ht hf i d)))
       (keys_are nat_cmp_total nat_cmp-IsAntisymmetric ss ts hs ht d)
 
   abbrev used_listed : ℕ → List ℕ → Bool
@@ -367,9 +368,9 @@ module _ (e k : Encoding) (ss ts : List (ℕ × List ℕ)) (es fs : List (List �
   listed part code =
       found ShellDiffers part
       (found CodeDiffers code
-      (found GlyphDiffers (first_where glyph_differs names)
-      (found (λ p. LacksComponent (unwrap_or (first_where (wanted_listed p) names) []) p) (first_where lacking_listed names)
-      (found (λ i. SubrDiffers i (first_where (used_listed i) names)) (first_where subr_differs (keys_listed nat_cmp ss ts)) None))))
+      (found GlyphDiffers (lists.find glyph_differs names)
+      (found (λ p. LacksComponent (unwrap_or (lists.find (wanted_listed p) names) []) p) (lists.find lacking_listed names)
+      (found (λ i. SubrDiffers i (lists.find (used_listed i) names)) (lists.find subr_differs (keys_listed nat_cmp ss ts)) None))))
 
   conflicts_are : (part : Option ShellPart) (code : Option ℕ) → shell_conflict f g ≡ part → code_conflict f g ≡ code →
       states_conflict spelled f g ≡ listed part code
@@ -377,8 +378,8 @@ module _ (e k : Encoding) (ss ts : List (ℕ × List ℕ)) (es fs : List (List �
       found ShellDiffers (s d)
       (found CodeDiffers (c d)
       (found GlyphDiffers (glyphs_are d)
-      (found (λ p. LacksComponent (unwrap_or (first_where (λ n. wanted_are p n d) (names_are d)) []) p) (lacking_are d)
-      (found (λ i. SubrDiffers i (first_where (λ n. used_are i n d) (names_are d))) (subrs_differ d) None))))
+      (found (λ p. LacksComponent (unwrap_or (lists.find (λ n. wanted_are p n d) (names_are d)) []) p) (lacking_are d)
+      (found (λ i. SubrDiffers i (lists.find (λ n. used_are i n d) (names_are d))) (subrs_differ d) None))))
 
   -- all conflicts, over lists, after those of the shells and codes
   abbrev all_listed : List ShellPart → List ℕ → List Conflict
@@ -386,8 +387,8 @@ module _ (e k : Encoding) (ss ts : List (ℕ × List ℕ)) (es fs : List (List �
       map ShellDiffers parts
       ++ (map CodeDiffers codes
       ++ (map GlyphDiffers (filter glyph_differs names)
-      ++ (map (λ p. LacksComponent (unwrap_or (first_where (wanted_listed p) names) []) p) (filter lacking_listed names)
-      ++ map (λ i. SubrDiffers i (first_where (used_listed i) names)) (filter subr_differs (keys_listed nat_cmp ss ts)))))
+      ++ (map (λ p. LacksComponent (unwrap_or (lists.find (wanted_listed p) names) []) p) (filter lacking_listed names)
+      ++ map (λ i. SubrDiffers i (lists.find (used_listed i) names)) (filter subr_differs (keys_listed nat_cmp ss ts)))))
 
   all_are : (parts : List ShellPart) (codes : List ℕ) → differing_parts (shared_of f) (shared_of g) ≡ parts →
       passing (code_clashes f g) (codes_of_both e k) ≡ codes → states_conflicts spelled f g ≡ all_listed parts codes
@@ -395,9 +396,9 @@ module _ (e k : Encoding) (ss ts : List (ℕ × List ℕ)) (es fs : List (List �
       map ShellDiffers (s d)
       ++ (map CodeDiffers (c d)
       ++ (map GlyphDiffers (filter (λ n. not (agrees (glyph_listed e ss es he n d) (glyph_listed k ts fs hf n d))) (names_are d))
-      ++ (map (λ p. LacksComponent (unwrap_or (first_where (λ n. wanted_are p n d) (names_are d)) []) p)
+      ++ (map (λ p. LacksComponent (unwrap_or (lists.find (λ n. wanted_are p n d) (names_are d)) []) p)
       (filter (λ p. (has_listed e ss es he p d || has_listed k ts fs hf p d) && list_any (λ n. wanted_are p n d) (names_are d)) (names_are d))
-      ++ map (λ i. SubrDiffers i (first_where (λ n. used_are i n d) (names_are d)))
+      ++ map (λ i. SubrDiffers i (lists.find (λ n. used_are i n d) (names_are d)))
       (filter (λ i. not (agrees (state_is e ss es hs he i d) (state_is k ts fs ht hf i d))) (keys_are nat_cmp_total nat_cmp-IsAntisymmetric ss ts hs ht d)))))
 
   -- fonts with Encodings of one kind differ in no part of their shells but in which indices are present
@@ -523,7 +524,7 @@ code_66_differs : conflict spelled (font_of (table codes_of_A) subrs glyphs) (fo
 code_66_differs = lowest (font_of (table codes_of_A) subrs glyphs) (font_of (table codes_of_V) subrs glyphs) (CodeDiffers 66)
     (conflicts_are (table codes_of_A) (table codes_of_V) subrs subrs glyphs glyphs tt tt tt tt None (Some 66)
     (shells_same (table codes_of_A) (table codes_of_V) subrs subrs glyphs glyphs tt tt tt tt refl refl)
-    ((λ d. first_where (λ c. not (agrees (maps.get-from_sorted nat_cmp codes_of_A c tt d) (maps.get-from_sorted nat_cmp codes_of_V c tt d)))
+    ((λ d. lists.find (λ c. not (agrees (maps.get-from_sorted nat_cmp codes_of_A c tt d) (maps.get-from_sorted nat_cmp codes_of_V c tt d)))
     (keys_are nat_cmp_total nat_cmp-IsAntisymmetric codes_of_A codes_of_V tt tt d)) ∙ refl)
     ∙ refl)
 

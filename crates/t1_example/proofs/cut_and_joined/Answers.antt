@@ -7,7 +7,8 @@ use Rattle.t1_font.specs.ReadFont.{read_font}
 use Rattle.t1_font.proofs.AnswersRight.{bytes_of_slice}
 use Rattle.t1_font.proofs.read_fonts.ReadFontLaws.{spelled_font}
 use Rattle.t1_subset.specs.NameSets.{lent, asked}
-use Rattle.t1_example.specs.Joining.{IsMemory, union_subset}
+use Rattle.t1_example.specs.Joining.{union_subset}
+use Rattle.t1_example.specs.Refusals.{IsMemory}
 use Rattle.t1_example.proofs.Callers.{readable, file_refused, drawn}
 use Rattle.t1_example.proofs.Outcomes.{file_unread, first_refused, second_refused, both_cut}
 use Rattle.t1_example.proofs.cut_and_joined.Goals as goal

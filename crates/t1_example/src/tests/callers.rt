@@ -6,7 +6,7 @@ use crate::{
 };
 use std::alloc::{AllocError, Global};
 use std::test::Fail;
-use t1_font::{ReadFault, read};
+use t1_font::{Form, ReadFault, read};
 use t1_join::listing;
 
 /// The clear text of each font.
@@ -100,7 +100,7 @@ fn names_of_one(alloc: Global, count: u32) -> Result<Vec<u8>, AllocError> {
     let Ok(source) = read(alloc, file.as_slice()) else {
         return Err(AllocError);
     };
-    match subset_file(alloc, &source, &[b"g0"]) {
+    match subset_file(alloc, &source, &[b"g0"], Form::Pfb) {
         Ok(some) => names_in(alloc, some.as_slice()),
         Err(_) => Err(AllocError),
     }

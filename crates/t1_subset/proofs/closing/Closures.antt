@@ -8,9 +8,10 @@ use Rattle.std.specs.{Cmp.Lexicographic.{nat_list_cmp_total, pointwise, texts_ti
 use Rattle.std.specs.Global.{Vec}
 use Rattle.std.specs.FinSet as sets
 use Rattle.std.specs.FinMap as maps
+use Rattle.std.specs.List.{find}
 use Rattle.t1_font.specs.{FontValue.{FontValue, notdef}, IsFont.{IsFont}, Cut.{set_of_names, restrict}}
-use Rattle.t1_algebra.specs.{Interpreter.{same_bytes, Interpreter, Names, Numbers}}
-use Rattle.t1_algebra.specs.{Keep.{has, Closed, keep, components, components_here, charstring, kept, subset, IsOf}, Searches.{first_where}, Alike.{DrawsAlike}}
+use Rattle.t1_algebra.specs.Interpreter.{same_bytes, Interpreter, Names, Numbers}
+use Rattle.t1_algebra.specs.{Keep.{has, Closed, keep, components, components_here, charstring, kept, subset, IsOf}, Alike.{DrawsAlike}}
 use Rattle.t1_algebra.specs.Profile.{profile}
 use Rattle.t1_algebra.proofs.{Sets.{cases, name_same, tied, itself, in_list, any_filter, from_in_list, same_members}}
 use Rattle.t1_algebra.proofs.{Searching.{none_at_all}, Kept.{keep_least, keep_from, keep_has, keep_closed}, Drawings.{subset_alike}}
@@ -86,7 +87,7 @@ past ns i e = grind (arith, slice_get_cases ns i)
 -- ---- what is kept
 
 -- if a search for an absent name finds none, the names are the font's
-pub none_absent : (f : FontValue) (ns : List (List ℕ)) → first_where (λ n. not (has f n)) ns ≡ None → IsOf f (sets.from_list ns)
+pub none_absent : (f : FontValue) (ns : List (List ℕ)) → find (λ n. not (has f n)) ns ≡ None → IsOf f (sets.from_list ns)
 none_absent f ns h n k =
     not-false (has f n) (none_at_all nat_list_cmp_total name_same (λ n. not (has f n)) ns n h (in_list nat_list_cmp_total name_same ns n k))
 
@@ -191,7 +192,7 @@ module _ {O : Type 0} (m : Interpreter O) (f : FontValue) (a : Names) where
 
 -- ---- cutting a font
 
-module _ (f : FontValue) (w : IsFont f) (ns : List (List ℕ)) (present : first_where (λ n. not (has f n)) ns ≡ None) where
+module _ (f : FontValue) (w : IsFont f) (ns : List (List ℕ)) (present : find (λ n. not (has f n)) ns ≡ None) where
   -- the names that are asked for
   abbrev of : Names
   of = sets.from_list ns

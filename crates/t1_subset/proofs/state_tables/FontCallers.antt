@@ -4,12 +4,13 @@ use Rattle.std.proofs.Common.{arith, ◌≡◌, ℕ, Bool, true, false, not, con
 use Rattle.std.specs.{List.{list_any}, Cmp.{nat_cmp_total, second_so}, Cmp.Lexicographic.{nat_list_cmp_total}}
 use Rattle.std.specs.FinMap as maps
 use Rattle.std.specs.FinSet as sets
+use Rattle.std.specs.List.{find}
 use Rattle.t1_join.specs.Meaning.{of_number}
 use Rattle.t1_font.specs.{Maps.{merged}, FontValue.{FontValue, Named, name_cmp, names_in}}
 use Rattle.t1_font.proofs.MapLemmas.{entries-map_values}
 use Rattle.t1_algebra.specs.{Interpreter.{same_bytes}, Keep.{has, components, charstring}, Profile.{profile}}
 use Rattle.t1_algebra.specs.States.{joined_option, is_called, is_sought, joined_font, Compatible, executes, calls_for}
-use Rattle.t1_algebra.specs.{Lacks.{user_of}, Conflicts.{keys_of_both, wants, wanted_by, used_by, glyphs_of_both}, Searches.{smallest, members, first_where}}
+use Rattle.t1_algebra.specs.{Lacks.{user_of}, Conflicts.{keys_of_both, wants, wanted_by, used_by, glyphs_of_both}, Searches.{smallest, members}}
 use Rattle.t1_algebra.proofs.{Subsets.{glyph_in_join}, JoinedStates.{present_joined, executes_join, calls_join}, Uses.{executing_there, naming_there, sought}, Sets.{name_same, clash, tied, cases}}
 use Rattle.t1_subset.specs.{declared.callers.Callers.{Callers}, Differences.{smaller}}
 use Rattle.t1_subset.specs.{Callers.{same_charstring, seeker_of, smallest_from, user_from, seeker_from, AreCallersOf}, Clashes.{AreCallers}}
@@ -19,9 +20,9 @@ use Rattle.t1_subset.proofs.{closing.Runs.{calls_by, no_calls, no_components}, s
 
 module _ {K : Type 0} where
   -- some element passes if a search finds one
-  pub any_first : (p : K → Bool) (ks : List K) → list_any p ks ≡ is_some (first_where p ks)
+  pub any_first : (p : K → Bool) (ks : List K) → list_any p ks ≡ is_some (find p ks)
   any_first p [] = refl
-  any_first p (k ∷ ks) = elim (p k) as (λ b. (b || list_any p ks) ≡ is_some (cond b (Some k) (first_where p ks))) [ true ↦ refl | false ↦ any_first p ks ]
+  any_first p (k ∷ ks) = elim (p k) as (λ b. (b || list_any p ks) ≡ is_some (cond b (Some k) (find p ks))) [ true ↦ refl | false ↦ any_first p ks ]
 
   any_and : (b : Bool) (p : K → Bool) (ks : List K) → list_any (λ k. b && p k) ks ≡ (b && list_any p ks)
   any_and true p ks = refl
@@ -32,13 +33,13 @@ module _ {K : Type 0} where
 
 -- x is the first of all names that passes, or will be it once the names that are left are noted; and some name is noted if the last one passed
 pub record IsNoting (p : List ℕ → Bool) (x goal : Option (List ℕ)) (last : Bool) (left : List (List ℕ)) : Type 0 where
-  pub first : joined_option x (first_where p left) ≡ goal
+  pub first : joined_option x (find p left) ≡ goal
   pub known : last ≡ true → is_some x ≡ true
 
 module _ (p : List ℕ → Bool) where
   -- before any name is noted, all are left
-  pub noting_starts : (x : Option (List ℕ)) (b : Bool) (left all : List (List ℕ)) → x ≡ None → b ≡ false → left ≡ all → IsNoting p x (first_where p all) b left
-  noting_starts x b left all none last e = record { first = λ i. joined_option (none i) (first_where p (e i)); known = λ h. clash b h last }
+  pub noting_starts : (x : Option (List ℕ)) (b : Bool) (left all : List (List ℕ)) → x ≡ None → b ≡ false → left ≡ all → IsNoting p x (find p all) b left
+  noting_starts x b left all none last e = record { first = λ i. joined_option (none i) (find p (e i)); known = λ h. clash b h last }
 
   module _ (x goal : Option (List ℕ)) (b : Bool) (n : List ℕ) (names left : List (List ℕ)) (is : names ≡ n ∷ left) (h : IsNoting p x goal b names) where
     -- the next name need not be noted if it passes as the last one did
@@ -107,13 +108,13 @@ module _ (f g : FontValue) (c : Compatible profile f g) where
 
   -- the user of an index in the join is the smaller of those in the fonts
   pub user_join : (i : ℕ) → user_of both i ≡ smaller name_cmp (user_of f i) (user_of g i)
-  user_join i = (λ k. first_where (λ n. executes_join profile f g c i n k) (names_in both.glyphs))
-      ∙ ap (first_where (used_by profile f g i)) (names_of_both f.glyphs g.glyphs) ∙ sym (smallest_user f g i)
+  user_join i = (λ k. find (λ n. executes_join profile f g c i n k) (names_in both.glyphs))
+      ∙ ap (find (used_by profile f g i)) (names_of_both f.glyphs g.glyphs) ∙ sym (smallest_user f g i)
 
   -- the seeker of a component in the join is the smaller of those in the fonts
   pub seeker_join : (p : List ℕ) → seeker_of both p ≡ smaller name_cmp (seeker_of f p) (seeker_of g p)
-  seeker_join p = (λ k. first_where (λ n. wants_join p n k) (names_in both.glyphs))
-      ∙ ap (first_where (wanted_by profile f g p)) (names_of_both f.glyphs g.glyphs) ∙ sym (smallest_seeker f g p)
+  seeker_join p = (λ k. find (λ n. wants_join p n k) (names_in both.glyphs))
+      ∙ ap (find (wanted_by profile f g p)) (names_of_both f.glyphs g.glyphs) ∙ sym (smallest_seeker f g p)
 
 -- ---- the callers of some fonts
 

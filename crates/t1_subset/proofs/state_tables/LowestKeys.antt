@@ -3,8 +3,9 @@ use Rattle.std.proofs.lemmas.Bool.{or_left, or_right, false_from_ne_true}
 use Rattle.std.proofs.Common.{arith, ◌≡◌, ℕ, Bool, true, false, cond, ◌||◌, List, [], ◌∷◌, map, option_map, refl, sym, ◌∙◌, ap, true≢false, Option, Some, None, Ordering, Less, Equal, Greater, is_lt}
 use Rattle.std.specs.{List.{list_any, AllByRecursion}, Ordering.{eq_by_cmp, ordering_reverse}, Cmp.{IsTotalOrder, first_so, second_so}, FinSet.{IsAntisymmetric}, FinMap.Entries.{below_all, is_sorted}}
 use Rattle.std.specs.FinMap as maps
+use Rattle.std.specs.List.{find}
 use Rattle.t1_font.proofs.MapLemmas.{T_true}
-use Rattle.t1_algebra.specs.{Conflicts.{keys_of_both}, Searches.{smallest, members, first_where, IsLowest}}
+use Rattle.t1_algebra.specs.{Conflicts.{keys_of_both}, Searches.{smallest, members, IsLowest}}
 use Rattle.t1_algebra.proofs.{Maps.{in_both}, Searching.{passes_none, none_at_all, first_passes, smallest_is, below_later}, Sets.{tied, cases}}
 use Rattle.t1_subset.specs.Differences.{smaller}
 
@@ -16,7 +17,7 @@ module _ {K : Type 0} {R : K → K → Ordering} (o : IsTotalOrder R) (same : Is
   module _ (p : K → Bool) where
     -- among sorted entries, a key below the first that passes does not pass
     first_least : {X : Type 0} (es : List (K × X)) (k q : K) → is_sorted R es ≡ true →
-        first_where p (map (λ e. e.0) es) ≡ Some k → list_any (eq_by_cmp R q) (map (λ e. e.0) es) ≡ true → R q k ≡ Less → p q ≡ false
+        find p (map (λ e. e.0) es) ≡ Some k → list_any (eq_by_cmp R q) (map (λ e. e.0) es) ≡ true → R q k ≡ Less → p q ≡ false
     first_least [] k q s h w l = cc
     first_least (e ∷ es) k q s h w l =
         let rest = first_least es k q (second_so (below_all R e.0 es) (is_sorted R es) s) in
@@ -24,7 +25,7 @@ module _ {K : Type 0} {R : K → K → Ordering} (o : IsTotalOrder R) (same : Is
 
     -- the key of the first entry that passes is the first key that passes
     first_keys : {X : Type 0} (P : K × X → Bool) (es : List (K × X)) → AllByRecursion (λ e. P e ≡ p e.0) es →
-        option_map (λ e. e.0) (first_where P es) ≡ first_where p (map (λ e. e.0) es)
+        option_map (λ e. e.0) (find P es) ≡ find p (map (λ e. e.0) es)
     first_keys P [] h = refl
     first_keys P (e ∷ es) h = let here = h.0 in let rest = first_keys P es h.1 in grind (arith, here, rest)
 
@@ -33,7 +34,7 @@ module _ {K : Type 0} {R : K → K → Ordering} (o : IsTotalOrder R) (same : Is
       key_in : (q : K) → p q ≡ true → list_any (eq_by_cmp R q) (maps.keys m) ≡ true
       key_in q h = sym (maps.contains_key-keys m q) ∙ only q h
 
-      pub lowest_key : (x : Option K) → first_where p (maps.keys m) ≡ x → IsLowest R p x
+      pub lowest_key : (x : Option K) → find p (maps.keys m) ≡ x → IsLowest R p x
       lowest_key None h = λ q. false_from_ne_true (p q) (λ is. true≢false (sym is ∙ none_at_all o same p (maps.keys m) q h (key_in q is)))
       lowest_key (Some k) h = record {
         it = first_passes p (maps.keys m) k h;
@@ -43,7 +44,7 @@ module _ {K : Type 0} {R : K → K → Ordering} (o : IsTotalOrder R) (same : Is
 
       -- the same, of the first of its entries
       pub lowest_entry : (P : K × X → Bool) → AllByRecursion (λ e. P e ≡ p e.0) (maps.entries m) →
-          (x : Option K) → x ≡ option_map (λ e. e.0) (first_where P (maps.entries m)) → IsLowest R p x
+          (x : Option K) → x ≡ option_map (λ e. e.0) (find P (maps.entries m)) → IsLowest R p x
       lowest_entry P h x is = lowest_key x (sym (is ∙ first_keys P (maps.entries m) h))
 
     -- the lowest key that passes is the smallest of a set that has all that pass
@@ -72,9 +73,9 @@ module _ {K : Type 0} {R : K → K → Ordering} (o : IsTotalOrder R) (same : Is
     -- the smaller of the first keys of two maps is the smallest of both
     pub smaller_first : {X : Type 0} (a b : maps.FinMap R X) → ((k : K) → p k ≡ true → maps.contains_key a k ≡ true) →
         ((k : K) → q k ≡ true → maps.contains_key b k ≡ true)
-        → smaller R (first_where p (maps.keys a)) (first_where q (maps.keys b)) ≡ smallest (λ k. p k || q k) (keys_of_both a b)
+        → smaller R (find p (maps.keys a)) (find q (maps.keys b)) ≡ smallest (λ k. p k || q k) (keys_of_both a b)
     smaller_first a b in_a in_b =
         lowest_is o same (λ k. p k || q k) (keys_of_both a b) (λ k h. grind (cases, h, in_both o same a b k, in_a k, in_b k))
-        (smaller R (first_where p (maps.keys a)) (first_where q (maps.keys b)))
-        (lower_of (first_where p (maps.keys a)) (first_where q (maps.keys b))
-        (lowest_key o same p a in_a (first_where p (maps.keys a)) refl) (lowest_key o same q b in_b (first_where q (maps.keys b)) refl))
+        (smaller R (find p (maps.keys a)) (find q (maps.keys b)))
+        (lower_of (find p (maps.keys a)) (find q (maps.keys b))
+        (lowest_key o same p a in_a (find p (maps.keys a)) refl) (lowest_key o same q b in_b (find q (maps.keys b)) refl))

@@ -3,11 +3,12 @@ use Rattle.std.proofs.Common.{arith, ◌≡◌, ◌↔◌, ◌<◌, ◌≤◌, �
 use Rattle.std.proofs.lemmas.Bool.{leb-true}
 use Rattle.std.specs.{List.{list_any}, Ordering.{eq_by_cmp}, Cmp.{nat_cmp_total, first_so, second_so}, FinSet.{nat_cmp-IsAntisymmetric}, Cmp.Lexicographic.{nat_list_cmp_total}}
 use Rattle.std.specs.FinMap as maps
+use Rattle.std.specs.List.{find}
 use Rattle.t1_join.specs.{TableMeaning.{TableMeaning, joined_table}, Meaning.{Meaning, of_number}, TableLaws.{get_joined}}
 use Rattle.t1_font.specs.{FontValue.{FontValue, name_cmp, names_in}, IsFont.{IsFont}}
 use Rattle.t1_algebra.specs.Conflicts.{Conflict, SubrDiffers, keys_of_both, OverLimit, is_within, codes_of_both, glyphs_of_both, code_clashes, glyph_clashes, component_clashes, subr_clashes}
 use Rattle.t1_algebra.specs.Conflicts.{wanted_by, used_by, lacks_component, subr_differs, states_conflict, conflict, states_conflicts, conflicts}
-use Rattle.t1_algebra.specs.{Keep.{has}, Profile.{profile}, Searches.{members, smallest, passing, first_where, first_of, or_else, found}, States.{Join, code_state, subr_state}}
+use Rattle.t1_algebra.specs.{Keep.{has}, Profile.{profile}, Searches.{members, smallest, passing, first_of, or_else, found}, States.{Join, code_state, subr_state}}
 use Rattle.t1_algebra.specs.StateTables.{StatesValue, FontStatesAgree, states_of, code_part, subr_part}
 use Rattle.t1_algebra.specs.StateLaws.{states_laws}
 use Rattle.t1_algebra.proofs.{Maps.{in_both}, Sets.{name_same, cases}, Tables.{codes_shown}, FontStates.{subrs_shown}, AllConflicts.{first_of_states, all_conflicts}}

@@ -2,8 +2,8 @@ use Rattle.std.proofs.Common.{◌≡◌, ◌++◌, map}
 use Rattle.std.specs.FinMap as fin
 use Rattle.t1_font.specs.Writing.{glyphs_text, glyphs_part}
 use Rattle.t1_font.specs.Canon.{glyph_entry}
-use Rattle.t1_font.proofs.writing.put_glyphs.Given as goal
+use Rattle.t1_font.proofs.private_writing.put_glyphs.Given as goal
 
 abbrev pub invariant-glyphs : goal.invariant-glyphs
 invariant-glyphs l =
-    l.out.items ++ glyphs_text (map (glyph_entry l.shell) l.name-iterator) ≡ l.fn.out.items ++ glyphs_part (map (glyph_entry l.shell) (fin.entries l.glyphs))
+    l.out ++ glyphs_text (map (glyph_entry l.shell) l.name-iterator) ≡ l.fn.out ++ glyphs_part (map (glyph_entry l.shell) (fin.entries l.glyphs))

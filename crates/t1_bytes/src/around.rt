@@ -1,0 +1,65 @@
+//! A file around its cipher, made in the cipher's own vector.
+
+ghost use Rattle.std.specs.Prelude.{◌≡◌, ◌++◌, ◌≤◌, length, OnOk, IfOk};
+ghost use Rattle.t1_bytes.specs.Limits.{file_limit};
+ghost use Rattle.t1_bytes.specs.Texts.{file_text, hex_lines, trailer};
+
+use crate::form::Form;
+use crate::hexadecimal::{lines_len, spread_hex_lines, trailer};
+use crate::pfb::{AROUND, put_segments};
+use std::alloc::{AllocError, Global};
+
+/// Puts bytes in front of those that a vector has.
+pub(crate) fn put_front(bytes: &mut Vec<u8>, front: &[u8]) -> Result<(), AllocError>
+    ensures { OnOk result (bytes.new.items ≡ front.now ++ bytes.old.items) }
+{
+    let len = bytes.len();
+    bytes.resize(len.saturating_add(front.len()), 0)?;
+    bytes.copy_within(0..len, front.len());
+    let (first, _) = bytes.as_mut_slice().split_at_mut(front.len());
+    first.copy_from_slice(front);
+    Ok(())
+}
+
+/// Makes the PFA file of a cipher in the cipher's own vector: the clear part, lines of the cipher's digits, and the trailer.
+fn put_lines(out: &mut Vec<u8>, clear: &[u8]) -> Result<(), AllocError>
+    ensures { OnOk result (out.new.items ≡ clear.now ++ (hex_lines out.old.items ++ trailer)) }
+{
+    put_front(out, clear)?;
+    spread_hex_lines(out, clear.len())?;
+    out.extend_from_slice(trailer())?;
+    Ok(())
+}
+
+/// How many bytes a file has in this form whose cipher has this many, and its clear part as many as that: room for [`file_around`].
+pub fn room_around(form: Form, cipher: usize, clear: usize) -> usize {
+    let body = match form {
+        Form::Pfa => lines_len(cipher),
+        Form::Pfb => cipher.saturating_add(AROUND),
+    };
+    body.saturating_add(clear).saturating_add(trailer().len())
+}
+
+/// The file of a clear part and a cipher, in this form, with the trailer at its end. It is made in the cipher's vector, which takes no
+/// other memory if it has room for [`room_around`] bytes, but for a copy of the clear part.
+///
+/// # Errors
+///
+/// Only want of memory.
+pub fn file_around(
+    alloc: Global,
+    cipher: Vec<u8>,
+    clear: &[u8],
+    form: Form,
+) -> Result<Vec<u8>, AllocError>
+    requires clear { length clear.now ≤ file_limit }
+    requires cipher { length cipher.items ≤ file_limit }
+    ensures { IfOk result (λ v. v.items ≡ file_text form clear.now cipher.items) }
+{
+    let mut out = cipher;
+    match form {
+        Form::Pfa => put_lines(&mut out, clear)?,
+        Form::Pfb => put_segments(alloc, &mut out, clear, trailer())?,
+    }
+    Ok(out)
+}
