@@ -107,7 +107,7 @@ LARGE = {
 }
 # Constants that choose between two ways, or limit what is read: the calls that a test has to take to their value and beyond.
 THRESHOLDS = {
-    "t1_bytes/LINE": ["find_cipher", "split_eexec", "hex_lines", "spread_hex_lines"],
+    "t1_bytes/LINE": ["find_cipher", "split_eexec", "hex_lines", "file_around"],
     "t1_cmd/CHUNK": ["read_all"],
     "t1_font/ROOM": ["read", "read_vec", "read_wide", "read_wide_vec", "mends"],
     "t1_font/NAME_LIMIT": ["read", "read_vec", "read_wide", "read_wide_vec", "mends"],
@@ -122,7 +122,7 @@ THRESHOLDS = {
 }
 # Constants that are part of a format or of a computation, and choose nothing by a size.
 FIXED = {
-    "t1_bytes": ["EEXEC_KEY", "EEXEC_LEAD", "CHARSTRING_KEY", "FACTOR", "SUMMAND", "MARK", "TEXT", "BINARY", "END"],
+    "t1_bytes": ["EEXEC_KEY", "EEXEC_LEAD", "CHARSTRING_KEY", "FACTOR", "SUMMAND", "MARK", "TEXT", "BINARY", "END", "AROUND"],
     "t1_cmd": ["UNIT"],
     "t1_font": ["AROUND", "WORD_LIMIT"],
     "t1_run": ["OPERANDS", "FLEX_POINTS", "ANSWERS", "LEVELS", "SUBR_LIMIT", "UNIT"],

@@ -4,8 +4,9 @@ mod growths;
 mod large;
 
 use crate::{
-    BytesFault, CHARSTRING_KEY, Cipher, EEXEC_KEY, EEXEC_LEAD, decrypt, encrypt, find_cipher,
-    flatten, flatten_vec, hex_lines, open, seal, segments, split_eexec, spread_hex_lines, trailer,
+    BytesFault, CHARSTRING_KEY, Cipher, EEXEC_KEY, EEXEC_LEAD, Form, decrypt, encrypt,
+    encrypt_both, file_around, find_cipher, flatten, flatten_vec, hex_lines, open, seal, segments,
+    split_eexec, trailer,
 };
 use std::alloc::{AllocError, Global};
 use std::test::Fail;
@@ -121,6 +122,41 @@ fn enciphers_worked_bytes(rt: HostRuntime) -> Result<(), Fail> {
         );
     }
     Ok(())
+}
+
+#[test]
+fn enciphers_two_at_once(rt: HostRuntime) {
+    const ROWS: &[(&[u8], &[u8], &[u8], &[u8])] = &[
+        (
+            b"\x00\x00\x00\x00\x64",
+            b"\xd9\xd6\x6f\x63\x3b",
+            b"\x00\x00\x00\x00\x0b",
+            b"\x10\xbf\x31\x70\xf9",
+        ),
+        (
+            b"\x00\x00\x00\x00\x64",
+            b"\xd9\xd6\x6f\x63\x3b",
+            b"\x0b",
+            b"\x1b",
+        ),
+        (
+            b"\x00\x00",
+            b"\xd9\xd6",
+            b"\x00\x00\x00\x00\x0b",
+            b"\x10\xbf\x31\x70\xf9",
+        ),
+        (b"", b"", b"", b""),
+    ];
+    for &(plain, cipher, other, other_cipher) in ROWS {
+        let mut first = [0u8; 5];
+        let (first, _) = first.split_at_mut(plain.len().min(5));
+        first.copy_from_slice(plain);
+        let mut second = [0u8; 5];
+        let (second, _) = second.split_at_mut(other.len().min(5));
+        second.copy_from_slice(other);
+        encrypt_both(first, EEXEC_KEY, second, CHARSTRING_KEY);
+        assert!(rt; *first == *cipher && *second == *other_cipher, "{plain:?}");
+    }
 }
 
 // meets flatten Ok at 0 bytes
@@ -419,7 +455,7 @@ fn splits_digits(rt: HostRuntime) {
 }
 
 // meets hex_lines Ok at 0, 32, 40 bytes
-// meets spread_hex_lines Ok at 0, 32, 40 bytes
+// meets file_around Ok at 0, 32, 40 bytes
 #[test]
 fn writes_lines_of_digits(rt: HostRuntime) -> Result<(), Fail> {
     const ROWS: &[(&[u8], &[u8])] = &[
@@ -438,10 +474,11 @@ fn writes_lines_of_digits(rt: HostRuntime) -> Result<(), Fail> {
     for &(bytes, text) in ROWS {
         let lines = hex_lines(rt.alloc(), bytes)?;
         assert!(rt; lines.as_slice() == text, "{text:?}");
-        let mut behind = joined(rt.alloc(), b"eexec\n", bytes)?;
-        spread_hex_lines(&mut behind, 6)?;
+        let cipher = Vec::from_slice(rt.alloc(), bytes)?;
+        let file = file_around(rt.alloc(), cipher, b"eexec\n", Form::Pfa)?;
         let want = joined(rt.alloc(), b"eexec\n", text)?;
-        assert!(rt; behind.as_slice() == want.as_slice(), "{text:?}");
+        let want = joined(rt.alloc(), want.as_slice(), trailer())?;
+        assert!(rt; file.as_slice() == want.as_slice(), "{text:?}");
     }
     assert!(rt; trailer().len() == 532);
     Ok(())
@@ -494,6 +531,26 @@ fn is_taken_apart(alloc: Global, file: &[u8]) -> Result<bool, BytesFault> {
     )
 }
 
+/// Whether the file around the cipher of Tiny is its file, in both forms.
+fn is_around(alloc: Global, cipher: &[u8]) -> Result<bool, BytesFault> {
+    if cipher.len() > 2893 {
+        return Ok(false);
+    }
+    let pfb = file_around(
+        alloc,
+        Vec::from_slice(alloc, cipher)?,
+        &PFA[..CLEAR],
+        Form::Pfb,
+    )?;
+    let pfa = file_around(
+        alloc,
+        Vec::from_slice(alloc, cipher)?,
+        &PFA[..CLEAR],
+        Form::Pfa,
+    )?;
+    Ok(pfb.as_slice() == PFB.as_slice() && pfa.as_slice() == PFA.as_slice())
+}
+
 /// Whether a file of Tiny is taken apart and put together again in both forms.
 fn is_put_together(alloc: Global, file: &[u8]) -> Result<bool, BytesFault> {
     let (_, text) = private_text(alloc, file)?;
@@ -503,7 +560,11 @@ fn is_put_together(alloc: Global, file: &[u8]) -> Result<bool, BytesFault> {
     }
     let pfb = segments(alloc, &PFA[..CLEAR], cipher.as_slice(), trailer())?;
     let pfa = with_digits(alloc, &PFA[..CLEAR], cipher.as_slice())?;
-    Ok(pfb.as_slice() == PFB.as_slice() && pfa.as_slice() == PFA.as_slice())
+    Ok(
+        pfb.as_slice() == PFB.as_slice()
+            && pfa.as_slice() == PFA.as_slice()
+            && is_around(alloc, cipher.as_slice())?,
+    )
 }
 
 // meets segments Ok at 0 bytes

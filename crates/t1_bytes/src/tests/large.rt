@@ -2,8 +2,8 @@
 
 use super::{joined, refusal, splits, with_digits};
 use crate::{
-    BytesFault, EEXEC_KEY, EEXEC_LEAD, find_cipher, flatten_vec, hex_lines, seal, segments,
-    spread_hex_lines, trailer,
+    BytesFault, EEXEC_KEY, EEXEC_LEAD, Form, file_around, find_cipher, flatten_vec, hex_lines,
+    seal, segments, trailer,
 };
 use std::alloc::{AllocError, Global};
 use std::test::Fail;
@@ -126,10 +126,23 @@ fn is_read_again(alloc: Global, clear: &[u8], cipher: &[u8]) -> Result<bool, Byt
     )
 }
 
+/// Whether the file around a cipher is the one that is written of both, in both forms.
+fn is_around(alloc: Global, clear: &[u8], cipher: Vec<u8>) -> Result<bool, BytesFault> {
+    if clear.len() > 200_000 || cipher.len() > 2_000_000 {
+        return Ok(false);
+    }
+    let pfb = segments(alloc, clear, cipher.as_slice(), trailer())?;
+    let pfa = with_digits(alloc, clear, cipher.as_slice())?;
+    let copy = Vec::from_slice(alloc, cipher.as_slice())?;
+    let lines = file_around(alloc, copy, clear, Form::Pfa)?;
+    let around = file_around(alloc, cipher, clear, Form::Pfb)?;
+    Ok(around.as_slice() == pfb.as_slice() && lines.as_slice() == pfa.as_slice())
+}
+
 // meets seal Ok at 1400000 bytes
 // meets segments Ok at 1400000 bytes
 // meets hex_lines Ok at 1400000 bytes
-// meets spread_hex_lines Ok at 1400000 bytes
+// meets file_around Ok at 1400000 bytes
 // meets split_eexec Ok at 1400000 bytes
 // meets find_cipher Ok at 1400000 bytes
 #[test]
@@ -144,10 +157,7 @@ fn takes_large_files_that_were_written(rt: HostRuntime) -> Result<(), Fail> {
     let private = repeated(rt.alloc(), b"dup 5 {", 200_000)?;
     assert_eq!(rt; private.len(), 1_400_000);
     let cipher = seal(rt.alloc(), private.as_slice(), EEXEC_KEY, EEXEC_LEAD)?;
-    let lines = hex_lines(rt.alloc(), cipher.as_slice())?;
     assert!(rt; is_read_again(rt.alloc(), clear.as_slice(), cipher.as_slice())?);
-    let mut spread = cipher;
-    spread_hex_lines(&mut spread, 0)?;
-    assert!(rt; spread.as_slice() == lines.as_slice());
+    assert!(rt; is_around(rt.alloc(), clear.as_slice(), cipher)?);
     Ok(())
 }
