@@ -1,5 +1,5 @@
 -- Tables of lent entries: what stands at a place, what is out of a loop, and what a tree held.
-use Rattle.std.proofs.Common.{◌≡◌, ℕ, zero, suc, ◌+◌, arith, Ordering, List, [], ◌∷◌, ◌++◌, map, length, drop, Option, Some, None, Result, Ok, Err, inl, inr, refl, sym, ap, subst, ◌∙◌}
+use Rattle.std.proofs.Common.{◌≡◌, ℕ, zero, suc, ◌+◌, ◌-◌, ◌<◌, ◌≤◌, arith, get_or, Ordering, List, [], ◌∷◌, ◌++◌, map, length, drop, Option, Some, None, Result, Ok, Err, inl, inr, refl, sym, ap, subst, ◌∙◌}
 use Rattle.std.specs.Borrow.{Bor}
 use Rattle.std.specs.BTreeMap.{insert_entry}
 use Rattle.std.specs.List.Sorted.{IsStrictlySortedBy}
@@ -10,7 +10,7 @@ use Rattle.std.specs.Slice.{IsItemAt}
 use Rattle.std.specs.Option.{option_map, option_and_then}
 use Rattle.std.specs.Result.{result_ok}
 use Rattle.std.specs.declared.cmp.Ordering.TheVariants.{Less, Equal, Greater}
-use Rattle.std.specs.Ordering.{match_ordering}
+use Rattle.std.specs.Ordering.{match_ordering, ordering_index}
 use Rattle.std.specs.Cmp.{IsTotalOrder}
 use Rattle.std.specs.Cmp.Lexicographic.{nat_list_cmp_total}
 use Rattle.std.specs.FinSet.{IsAntisymmetric}
@@ -95,6 +95,23 @@ module _ {K X Y : Type 0} {R : K → K → Ordering} (v : Y → K × X) (ys : Li
       | inr w ↦ absurd (omega (arith, range, w.0))
     ]
     found_place (Err i) range at = sym (ap (option_map (λ b. (q, b))) (finds ∙ searched o v q ys (Err i) rise range at))
+
+    -- the lowest answer is the lowest number
+    lowest : (r : Ordering) → ordering_index r ≤ 0 → r ≡ Less
+    lowest Less h = refl
+    lowest Equal h = absurd (omega (arith, h))
+    lowest Greater h = absurd (omega (arith, h))
+
+    -- the map has no key behind that of the last entry
+    pub none_behind : (y : Y) → Some y ≡ slice_get ys (length ys - 1) → R (v y).0 q ≡ Less → get m q ≡ None
+    none_behind y last low =
+        let far : length ys - 1 < length ys = slice_get_within ys (length ys - 1) y (sym last) in
+        finds ∙ searched o v q ys (Err (length ys)) rise (omega arith) (λ rises. (
+          λ k d _ below. lowest _ (subst (λ (n : ℕ). ordering_index (R (v (get_or ys k d)).0 q) ≤ n)
+              (ap (λ z. ordering_index (R (v z).0 q)) (get_or_from_slice_get ys (length ys - 1) y d (sym last)) ∙ ap ordering_index low)
+              (rises k (length ys - 1) d (omega (arith, below)) far)),
+          λ k d behind inside. absurd (omega (arith, behind, inside)),
+        ))
 
 -- a table whose entries are a map's is the map
 pub same_table : {K X : Type 0} {R : K → K → Ordering} (own m : FinMap R X) (es : List (K × X)) → es ≡ entries own → from_sorted es ≡ m → own ≡ m

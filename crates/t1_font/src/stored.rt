@@ -99,12 +99,28 @@ impl<'a> StoredSubrs<'a> {
 
     /// The same, or a stub if there is none. It is kept out of line, so that the search costs tables of other forms nothing.
     #[inline(never)]
-    pub(crate) fn get_or_stub(&self, index: u16) -> &'a [u8]
+    fn searched_or_stub(&self, index: u16) -> &'a [u8]
         ensures { result.now ≡ unwrap_or (fin.get self.now index) stub }
     {
         match self.get(index) {
             Some(body) => body,
             None => STUB,
+        }
+    }
+
+    /// The charstring at an index, or a stub if there is none. Most tables have each index up to the last one, and nothing behind it,
+    /// so both is looked at before an index is searched.
+    #[inline(always)]
+    pub(crate) fn get_or_stub(&self, index: u16) -> &'a [u8]
+        ensures { result.now ≡ unwrap_or (fin.get self.now index) stub }
+    {
+        match self.at(index as usize) {
+            Some((there, body)) if there == index => return body,
+            _ => {}
+        }
+        match self.places.last() {
+            Some((last, _)) if *last < index => STUB,
+            _ => self.searched_or_stub(index),
         }
     }
 }
