@@ -72,6 +72,19 @@ comes_last [] x j h k = absurd h
 comes_last (f ∷ fs) x j h k =
     subst (λ (t : Grouping FontValue). Merges profile t (joined_font profile j x)) (sym (left_snoc (one f) fs x)) (j, x, h, refl, (k, refl))
 
+-- what fonts with one more come to, is what those before come to, joined with it
+come_before : (fs : List FontValue) (x j : FontValue) → 0 < length fs → ComesTo (fs ++ x ∷ []) j →
+    (a : FontValue) × ComesTo fs a × Join profile a x × (joined_font profile a x ≡ j)
+come_before [] x j l m = absurd (omega (arith, l))
+come_before (f ∷ fs) x j l m =
+    let both = subst (λ (t : Grouping FontValue). Merges profile t j) (left_snoc (one f) fs x) m in
+    (
+      both.0,
+      both.2,
+      subst (Join profile both.0) (sym both.3) both.4.0,
+      ap (joined_font profile both.0) both.3 ∙ both.4.1,
+    )
+
 -- fonts are refused for the conflict with the first that does not join
 stops_at : (before : List FontValue) (x : FontValue) (after fs : List FontValue) (j : FontValue) →
     ComesTo before j → before ++ x ∷ after ≡ fs → (e : Refusal) → Tells e (conflict profile j x) → NotMerged fs e
@@ -108,6 +121,23 @@ turn (c ∷ cs) h (suc i) l =
       all = ap (λ (ds : List Callers). c ∷ ds) t.all;
       states = t.states;
     }
+
+-- the callers of the first fonts are those of the font that these come to
+pub far_by : (cs : List Callers) → AreNoted cs → (n : ℕ) → n < length cs → (j : FontValue) → ComesTo (fonts_of (take (suc n) cs)) j →
+    IsFont j × CallersSoFar (take (suc n) cs) j
+far_by [] h n l j m = absurd (omega (arith, l))
+far_by (c ∷ cs) h zero l j m = (subst IsFont m h.0.0, subst (CallersSoFar (c ∷ [])) m (first_callers c c.font.now h.0.1))
+far_by (c ∷ cs) h (suc n) l j m =
+    let t = turn (c ∷ cs) h (suc n) l in
+    let fs = fonts_of (take (suc n) (c ∷ cs)) in
+    let p = come_before fs t.here.font.now j (omega arith)
+    (subst (λ (gs : List FontValue). ComesTo gs j) (ap fonts_of t.next ∙ map-append _ (take (suc n) (c ∷ cs)) (t.here ∷ [])) m) in
+    let r = far_by (c ∷ cs) h n (omega (arith, l)) p.0 p.1 in
+    (
+      subst IsFont p.3 (joined_is_font profile p.0 t.here.font.now r.0 t.is_font p.2),
+      subst (CallersSoFar (take (suc (suc n)) (c ∷ cs))) p.3 (subst (λ (ds : List Callers). CallersSoFar ds (joined_font profile p.0 t.here.font.now))
+          (sym t.next) (more_callers p.0 t.here.font.now (take (suc n) (c ∷ cs)) t.here r.1 t.callers p.2.states)),
+    )
 
 -- the first font comes to itself, and its states joined with themselves are its states
 pub starts : (cs : List Callers) → AreNoted cs → 0 < length cs → (ss : List StatesValue) →
