@@ -1,4 +1,5 @@
 pub mod Ciphers
+pub mod Keys
 pub mod Places
 pub mod SegmentLemmas
 pub mod SegmentMoves

@@ -15,6 +15,7 @@
 //! spell what and how that is read, and carry the law that the two agree.
 #![tactic(auto)]
 
+mod blocks;
 mod cipher;
 mod digits;
 mod eexec;
