@@ -1,5 +1,5 @@
 use Rattle.std.proofs.Common.{◌<◌, arith}
-use Rattle.t1_bytes.proofs.Keys.{upper_bytes_fit, block_plain_is}
+use Rattle.t1_bytes.proofs.Lanes.{upper_bytes_fit, block_plain_is}
 use Rattle.t1_bytes.proofs.blocks.decrypt_block.Goals as goal
 
 pub overflow_cast-result : goal.overflow_cast-result

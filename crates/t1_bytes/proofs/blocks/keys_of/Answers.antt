@@ -1,5 +1,5 @@
 use Rattle.std.proofs.Common.{◌<◌, arith}
-use Rattle.t1_bytes.proofs.Keys.{block_keys_are, block_behind_is}
+use Rattle.t1_bytes.proofs.Lanes.{block_keys_are, block_behind_is}
 use Rattle.t1_bytes.proofs.blocks.keys_of.Goals as goal
 
 pub returns-clause-keys : goal.returns-clause-keys

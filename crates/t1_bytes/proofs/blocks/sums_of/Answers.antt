@@ -1,4 +1,4 @@
-use Rattle.t1_bytes.proofs.Keys.{sums_scanned}
+use Rattle.t1_bytes.proofs.Lanes.{sums_scanned}
 use Rattle.t1_bytes.proofs.blocks.sums_of.Goals as goal
 
 pub returns : goal.returns
