@@ -140,3 +140,16 @@ key_behind_is key small cs = key_behind-by cs key 0 key 1 0 1 (first_key key sma
 pub decrypted-append : (xs ys : List ℕ) (key : ℕ) → decrypted key (xs ++ ys) ≡ decrypted key xs ++ decrypted (key_behind key xs) ys
 decrypted-append [] ys key = refl
 decrypted-append (x ∷ xs) ys key = ap (λ plains. bit_xor x (key / 256) ∷ plains) (decrypted-append xs ys (next_key key x))
+
+-- ---- worked keys
+
+-- the lead bytes of an eexec text, and a letter
+row_keys : keys_of 55665 (0xD9 ∷ 0xD6 ∷ 0x6F ∷ 0x63 ∷ 0x3B ∷ []) ≡ 55665 ∷ 54849 ∷ 28554 ∷ 25540 ∷ 24410 ∷ []
+row_keys = refl
+
+row_behind : key_behind 55665 (0xD9 ∷ 0xD6 ∷ 0x6F ∷ 0x63 ∷ 0x3B ∷ []) ≡ 61744
+row_behind = refl
+
+-- at two places the weights, powers and summands are these
+row_tables : weighed 1 (1 ∷ 1 ∷ []) ++ (powers 1 2 ++ summands 0 2) ≡ 1 ∷ 27493 ∷ (1 ∷ 52845 ∷ (0 ∷ 22719 ∷ []))
+row_tables = refl
