@@ -107,6 +107,7 @@ LARGE = {
 }
 # Constants that choose between two ways, or limit what is read: the calls that a test has to take to their value and beyond.
 THRESHOLDS = {
+    "t1_bytes/BLOCK": ["decrypt"],
     "t1_bytes/LINE": ["find_cipher", "split_eexec", "hex_lines", "file_around"],
     "t1_cmd/CHUNK": ["read_all"],
     "t1_font/ROOM": ["read", "read_vec", "read_wide", "read_wide_vec", "mends"],
@@ -122,7 +123,9 @@ THRESHOLDS = {
 }
 # Constants that are part of a format or of a computation, and choose nothing by a size.
 FIXED = {
-    "t1_bytes": ["EEXEC_KEY", "EEXEC_LEAD", "CHARSTRING_KEY", "FACTOR", "SUMMAND", "MARK", "TEXT", "BINARY", "END", "AROUND"],
+    "t1_bytes": [
+        "EEXEC_KEY", "EEXEC_LEAD", "CHARSTRING_KEY", "FACTOR", "SUMMAND", "POWER_BEHIND", "SUMMAND_BEHIND", "MARK", "TEXT", "BINARY", "END", "AROUND",
+    ],
     "t1_cmd": ["UNIT"],
     "t1_font": ["AROUND", "WORD_LIMIT"],
     "t1_run": ["OPERANDS", "FLEX_POINTS", "ANSWERS", "LEVELS", "SUBR_LIMIT", "UNIT"],
@@ -264,8 +267,8 @@ def check(crate, enums, wrong):
     return count
 
 
-# What tests meet beside the calls that need memory by their names: methods of traits.
-MORE = {"join_if_agreed"}
+# What tests meet beside the calls that need memory by their names: methods of traits, and a call that goes two ways by a size.
+MORE = {"join_if_agreed", "decrypt"}
 
 
 def main():

@@ -1,10 +1,10 @@
 -- Encryption and decryption are the two directions of one relation.
-use Rattle.std.proofs.Common.{◌≡◌, ◌↔◌, ℕ, zero, suc, ◌+◌, ◌/◌, ◌<◌, ◌^◌, List, [], ◌∷◌, ◌++◌, length, take, drop, refl, sym, ap, subst, ◌∙◌, slice_set, slice_index_or, arith}
+use Rattle.std.proofs.Common.{◌≡◌, ◌↔◌, ℕ, zero, suc, ◌+◌, ◌*◌, ◌/◌, ◌%◌, ◌<◌, ◌^◌, List, [], ◌∷◌, ◌++◌, length, get_or, set, take, drop, refl, sym, ap, subst, ◌∙◌, slice_set, slice_index_or, arith}
 use Rattle.std.specs.Prelude.{bit_xor, replicate}
 use Rattle.std.proofs.lemmas.List.{take_at, drop_at, length-append, length-replicate}
 use Rattle.std.specs.Int.Bits.{xor_assoc, xor_self, xor_zero_r}
 use Rattle.std.proofs.lemmas.Nat.{xor_lt}
-use Rattle.t1_bytes.specs.Cipher.{next_key, key_behind, Enciphers, encrypted, decrypted, sealed, opened, plain_of}
+use Rattle.t1_bytes.specs.Cipher.{next_key, Enciphers, encrypted, decrypted, sealed, opened, plain_of}
 use Rattle.t1_bytes.specs.Laws.{AreBytes}
 
 pub Enciphers-encrypted : (plains : List ℕ) (key : ℕ) → Enciphers key plains (encrypted key plains)
@@ -74,23 +74,21 @@ encrypted_bytes (p ∷ ps) key k h =
     let small : key / 256 < 2 ^ 8 = omega arith in
     (xor_lt 8 p (key / 256) h.0 small, encrypted_bytes ps (next_key key c) (omega arith) h.1)
 
--- what stands behind a cipher is decrypted by the key behind it
-pub decrypted_append : (ciphers more : List ℕ) (key : ℕ) → decrypted key (ciphers ++ more) ≡ decrypted key ciphers ++ decrypted (key_behind key ciphers) more
-decrypted_append [] more key = refl
-decrypted_append (c ∷ cs) more key = ap (λ (rest : List ℕ). bit_xor c (key / 256) ∷ rest) (decrypted_append cs more (next_key key c))
+-- a byte encrypted where it stands, by a number whose remainder is its key, and the next such number
+pub byte_encrypted : (bytes : List ℕ) (i now next cipher : ℕ) → i < length bytes → cipher ≡ bit_xor (get_or bytes i 0) (now % 65536 / 256)
+    → next % 65536 ≡ next_key (now % 65536) cipher
+    → take (suc i) (set bytes i cipher) ++ encrypted (next % 65536) (drop (suc i) (set bytes i cipher)) ≡ take i bytes ++ encrypted (now % 65536) (drop i bytes)
+byte_encrypted [] i now next cipher lt is key = absurd (omega (arith, lt))
+byte_encrypted (b ∷ bytes) zero now next cipher lt is key =
+    let k : next % 65536 ≡ next_key (now % 65536) (bit_xor b (now % 65536 / 256)) = key ∙ ap (next_key (now % 65536)) is in
+    λ j. is j ∷ encrypted (k j) bytes
+byte_encrypted (b ∷ bytes) (suc i) now next cipher lt is key =
+    ap (λ (rest : List ℕ). b ∷ rest) (byte_encrypted bytes i now next cipher (omega (arith, lt)) is key)
 
--- what stands behind plain bytes is encrypted by the key behind their cipher
-pub encrypted_append : (plains more : List ℕ) (key : ℕ) →
-    encrypted key (plains ++ more) ≡ encrypted key plains ++ encrypted (key_behind key (encrypted key plains)) more
-encrypted_append [] more key = refl
-encrypted_append (p ∷ ps) more key =
-    let c = bit_xor p (key / 256) in
-    ap (λ (rest : List ℕ). c ∷ rest) (encrypted_append ps more (next_key key c))
-
--- the key behind two ciphers is the key behind the second, from the one behind the first on
-pub key_behind_append : (ciphers more : List ℕ) (key : ℕ) → key_behind key (ciphers ++ more) ≡ key_behind (key_behind key ciphers) more
-key_behind_append [] more key = refl
-key_behind_append (c ∷ cs) more key = key_behind_append cs more (next_key key c)
+-- the remainder of the next such number, from that of what is carried ahead of the cipher byte
+pub carried : (now ahead next cipher : ℕ) → ahead % 65536 ≡ (now * 52845 + 22719) % 65536 → next % 65536 ≡ (cipher * 52845 + ahead) % 65536
+    → next % 65536 ≡ next_key (now % 65536) cipher
+carried now ahead next cipher a b = omega arith
 
 -- the last byte of a cipher is decrypted by the key that stands before it
 pub last_byte : (bytes : List ℕ) (at now : ℕ) → at + 1 ≡ length bytes →

@@ -1,4 +1,6 @@
 pub mod Ciphers
+pub mod Keys
+pub mod Lanes
 pub mod Places
 pub mod SegmentLemmas
 pub mod SegmentMoves

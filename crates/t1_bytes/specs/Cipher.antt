@@ -5,11 +5,6 @@ use Rattle.std.specs.Prelude.{◌≡◌, ℕ, ◌+◌, ◌*◌, ◌/◌, ◌%◌
 abbrev pub next_key : ℕ → ℕ → ℕ
 next_key key cipher = ((cipher + key) * 52845 + 22719) % 65536
 
--- the key after these cipher bytes
-abbrev pub key_behind : ℕ → List ℕ → ℕ
-key_behind key [] = key
-key_behind key (cipher ∷ ciphers) = key_behind (next_key key cipher) ciphers
-
 -- plain bytes and their cipher, one byte for each, under a key
 abbrev pub Enciphers : ℕ → List ℕ → List ℕ → Type 0
 Enciphers key [] [] = Unit {0}

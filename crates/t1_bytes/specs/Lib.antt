@@ -1,4 +1,5 @@
 pub mod Cipher
+pub mod Keys
 pub mod White
 pub mod Segments
 pub mod FlatText

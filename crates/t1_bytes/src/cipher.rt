@@ -1,9 +1,10 @@
 //! The cipher of eexec and of charstrings (Adobe Type 1 Font Format 1.1, chapter 7).
 
-ghost use Rattle.std.specs.Prelude.{◌≡◌, ◌++◌, ◌≤◌, take, drop, length, IfOk, IfErr};
+ghost use Rattle.std.specs.Prelude.{◌≡◌, ◌+◌, ◌*◌, ◌%◌, IfOk, IfErr};
 ghost use Rattle.t1_bytes.specs.declared.fault.BytesFault.TheVariants.{Memory};
-ghost use Rattle.t1_bytes.specs.Cipher.{next_key, key_behind, Enciphers, encrypted, decrypted, sealed, opened};
+ghost use Rattle.t1_bytes.specs.Cipher.{next_key, Enciphers, encrypted, decrypted, sealed, opened};
 
+use crate::blocks::decrypt_blocks;
 use crate::fault::BytesFault;
 use std::alloc::Global;
 
@@ -37,21 +38,23 @@ fn key_after_both(key: u16, first: u8, second: u8) -> u16
     ((of_first + of_second) % 65536) as u16
 }
 
-/// Encrypts the bytes from a place on, under a cipher whose key is `key` there, and answers the key behind them.
-pub(crate) fn encrypt_from(bytes: &mut [u8], from: usize, key: u16) -> u16
-    requires { from ≤ length bytes.old }
-    ensures value { bytes.new ≡ take from bytes.old ++ encrypted key (drop from bytes.old) }
-    ensures key { result ≡ key_behind key (drop from bytes.new) }
+// What the next key has of this one, before the cipher byte is known. A key is the remainder by
+// 65536 of such a number.
+#[inline(always)]
+fn ahead_of(now: u32) -> u32
+    ensures { result % 65536 ≡ (now * 52845 + 22719) % 65536 }
 {
-    let mut now = key;
-    let mut at = from;
-    'bytes: while at < bytes.len() {
-        let cipher = bytes[at] ^ (now / 256) as u8;
-        bytes[at] = cipher;
-        now = key_after(now, cipher);
-        at += 1;
-    }
-    now
+    now.wrapping_mul(FACTOR as u32).wrapping_add(SUMMAND as u32)
+}
+
+// The next key, of that and of the cipher byte.
+#[inline(always)]
+fn key_from(ahead: u32, cipher: u8) -> u32
+    ensures { result % 65536 ≡ (cipher * 52845 + ahead) % 65536 }
+{
+    (cipher as u32)
+        .wrapping_mul(FACTOR as u32)
+        .wrapping_add(ahead)
 }
 
 /// Encrypts bytes in place, under a cipher whose key starts as `key`. Lead bytes are encrypted like
@@ -60,14 +63,19 @@ pub fn encrypt(bytes: &mut [u8], key: u16)
     ensures value { bytes.new ≡ encrypted key bytes.old }
     ensures cipher { Enciphers key bytes.old bytes.new }
 {
-    encrypt_from(bytes, 0, key);
+    let mut now = key as u32;
+    let mut ahead = ahead_of(key as u32);
+    for byte in bytes.iter_mut() {
+        let cipher = *byte ^ (now / 256 % 256) as u8;
+        *byte = cipher;
+        now = key_from(ahead, cipher);
+        ahead = ahead_of(now);
+    }
 }
 
-/// Decrypts bytes in place, under a cipher whose key starts as `key`. Lead bytes stay, decrypted
-/// like the others.
-pub fn decrypt(bytes: &mut [u8], key: u16)
-    ensures value { bytes.new ≡ decrypted key bytes.old }
-    ensures cipher { Enciphers key bytes.new bytes.old }
+// Decrypts a few bytes in place, two at a time.
+fn decrypt_pairs(bytes: &mut [u8], key: u16)
+    ensures { bytes.new ≡ decrypted key bytes.old }
 {
     let mut now = key;
     let mut at = 0;
@@ -82,6 +90,16 @@ pub fn decrypt(bytes: &mut [u8], key: u16)
     if at < bytes.len() {
         bytes[at] ^= (now / 256) as u8;
     }
+}
+
+/// Decrypts bytes in place, under a cipher whose key starts as `key`. Lead bytes stay, decrypted
+/// like the others.
+pub fn decrypt(bytes: &mut [u8], key: u16)
+    ensures value { bytes.new ≡ decrypted key bytes.old }
+    ensures cipher { Enciphers key bytes.new bytes.old }
+{
+    let (at, now) = decrypt_blocks(bytes, key);
+    decrypt_pairs(&mut bytes[at..], now);
 }
 
 /// The text of a cipher, which stands after `lead` lead bytes, in the cipher's own vector. A cipher

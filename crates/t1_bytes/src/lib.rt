@@ -16,6 +16,7 @@
 #![tactic(auto)]
 
 mod around;
+mod blocks;
 mod cipher;
 mod digits;
 mod eexec;

@@ -1,15 +1,33 @@
 //! Two ciphers at once.
 
 ghost use Rattle.std.specs.Prelude.{◌≡◌, ◌++◌, ◌≤◌, take, drop, length};
-ghost use Rattle.t1_bytes.specs.Cipher.{next_key, encrypted, key_behind};
+ghost use Rattle.t1_bytes.specs.Cipher.{next_key, encrypted};
+ghost use Rattle.t1_bytes.specs.Keys.{key_behind};
 
-use crate::cipher::{encrypt_from, key_after};
+use crate::cipher::key_after;
 
 /// The key after a cipher byte, in narrower numbers: so the two chains of [`encrypt_both`] stay two for a compiler.
 fn narrow_key_after(key: u16, cipher: u8) -> u16
     ensures { result ≡ next_key key cipher }
 {
     (((cipher as u32 + key as u32) * 52845 + 22719) % 65536) as u16
+}
+
+/// Encrypts the bytes from a place on, under a cipher whose key is `key` there, and answers the key behind them.
+fn encrypt_from(bytes: &mut [u8], from: usize, key: u16) -> u16
+    requires { from ≤ length bytes.old }
+    ensures value { bytes.new ≡ take from bytes.old ++ encrypted key (drop from bytes.old) }
+    ensures key { result ≡ key_behind key (drop from bytes.new) }
+{
+    let mut now = key;
+    let mut at = from;
+    'bytes: while at < bytes.len() {
+        let cipher = bytes[at] ^ (now / 256) as u8;
+        bytes[at] = cipher;
+        now = key_after(now, cipher);
+        at += 1;
+    }
+    now
 }
 
 /// Encrypts two slices in place, each under a cipher of its own, and answers the key behind the first. Each key of a cipher waits

@@ -1,5 +1,6 @@
 //! Worked bytes, malformed input, and the two files of the font Tiny.
 
+mod blocks;
 mod growths;
 mod large;
 

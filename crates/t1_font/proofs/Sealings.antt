@@ -1,8 +1,10 @@
 -- A private text whose first bytes are encrypted, and the charstring that is encrypted behind it.
 use Rattle.std.proofs.Common.{◌≡◌, ℕ, ◌≤◌, ◌+◌, List, ◌++◌, length, take, drop, sym, ap, ◌∙◌, append_assoc, arith}
 use Rattle.std.proofs.lemmas.List.{take_at, drop_at, take-append-le, length-append, length-take, length-drop}
-use Rattle.t1_bytes.specs.Cipher.{encrypted, decrypted, key_behind}
-use Rattle.t1_bytes.proofs.Ciphers.{decrypted-encrypted, encrypted-decrypted, length-encrypted, decrypted_append, encrypted_append, key_behind_append}
+use Rattle.t1_bytes.specs.Cipher.{encrypted, decrypted}
+use Rattle.t1_bytes.specs.Keys.{key_behind}
+use Rattle.t1_bytes.proofs.Ciphers.{decrypted-encrypted, encrypted-decrypted, length-encrypted}
+use Rattle.t1_bytes.proofs.Keys.{decrypted-append, key_behind-append}
 
 -- The bytes are those of a text up to a place, whose cipher up to there has this key behind it, and a charstring's cipher.
 module _ (bytes : List ℕ) (done key : ℕ) (within : done ≤ length bytes) (is : key ≡ key_behind 55665 (take done bytes)) where
@@ -17,10 +19,10 @@ module _ (bytes : List ℕ) (done key : ℕ) (within : done ≤ length bytes) (i
   as_long = omega (arith, within, length-append (take done bytes) (encrypted key left), length-take done bytes, length-encrypted left key, length-drop done bytes)
 
   pub key_is : key_behind key (encrypted key left) ≡ key_behind 55665 whole
-  key_is = ap (λ (k : ℕ). key_behind k (encrypted key left)) is ∙ sym (key_behind_append (take done bytes) (encrypted key left) 55665)
+  key_is = ap (λ (k : ℕ). key_behind k (encrypted key left)) is ∙ sym (key_behind-append (take done bytes) (encrypted key left) 55665)
 
   pub text_is : decrypted 55665 whole ≡ decrypted 55665 (take done bytes) ++ left
-  text_is = decrypted_append (take done bytes) (encrypted key left) 55665
+  text_is = decrypted-append (take done bytes) (encrypted key left) 55665
       ∙ ap (λ (r : List ℕ). decrypted 55665 (take done bytes) ++ r)
       (ap (λ (k : ℕ). decrypted k (encrypted key left)) (sym is) ∙ decrypted-encrypted left key)
 

@@ -2,7 +2,8 @@
 
 ghost use Rattle.std.specs.Prelude.{◌≡◌, ◌++◌, ◌≤◌, [], length, take, drop, OnOk, IfOk};
 ghost use Rattle.std.specs.Fmt.{decimal};
-ghost use Rattle.t1_bytes.specs.Cipher.{encrypted, key_behind};
+ghost use Rattle.t1_bytes.specs.Cipher.{encrypted};
+ghost use Rattle.t1_bytes.specs.Keys.{key_behind};
 ghost use Rattle.t1_font.specs.Canon.{sealed_body};
 
 use itoa::Buffer;

@@ -1,7 +1,8 @@
 use Rattle.std.proofs.Common.{◌≡◌, ◌++◌, List, ℕ, length, sym, ap, ◌∙◌, arith}
 use Rattle.std.specs.Prelude.{replicate}
 use Rattle.std.proofs.lemmas.Grind.{common_steps}
-use Rattle.t1_bytes.specs.Cipher.{encrypted, key_behind}
+use Rattle.t1_bytes.specs.Cipher.{encrypted}
+use Rattle.t1_bytes.specs.Keys.{key_behind}
 use Rattle.t1_font.specs.Canon.{sealed_body}
 use Rattle.t1_font.proofs.Sealings.{whole, new_is, next_is, before_new, inside_new, text_new}
 use Rattle.t1_font.proofs.sealing.Sealing.put_charstring.Goals as goal
