@@ -1,6 +1,6 @@
 -- Merges of fonts are joins of their states.
-use Rattle.std.proofs.Common.{◌≡◌, ◌<◌, List, [], ◌∷◌, map, length, sym, ◌∙◌, ap, subst, arith, inl, Option, Some, option_map, Result, Ok, Err, IfErr}
-use Rattle.std.proofs.lemmas.List.{map-id}
+use Rattle.std.proofs.Common.{◌≡◌, ◌<◌, ◌+◌, ℕ, zero, suc, List, [], ◌∷◌, map, length, take, get_or, refl, sym, ◌∙◌, ap, subst, arith, inl, Option, Some, option_map, Result, Ok, Err, IfErr}
+use Rattle.std.proofs.lemmas.List.{map-id, length-map, length-take}
 use Rattle.std.specs.List.{AllByRecursion}
 use Rattle.t1_join.specs.Groupings.{one, from_left, IsJoinOf}
 use Rattle.t1_join.proofs.OrderLemmas.{leaves_mapped, leaves_from_left, uses_its}
@@ -9,7 +9,9 @@ use Rattle.t1_algebra.specs.{Profile.{profile}, StateTables.{StatesValue, FontSt
 use Rattle.t1_algebra.proofs.{Fonts.{fonts_within, merges_are_fonts}, FontStates.{font_known}, ManyMerges.{each_font}, Orders.{grouped, merges_by_states}}
 use Rattle.t1_subset.specs.{declared.conflict.Conflict.{Conflict as Refusal}, declared.conflict.Conflict.TheVariants.{Memory}}
 use Rattle.t1_subset.specs.{Merger.{NotMerged}, declared.callers.Callers.{Callers}, Callers.{AreNoted, fonts_of}}
-use Rattle.t1_subset.proofs.state_tables.Walks.{all_fonts}
+use Rattle.t1_subset.specs.{Refusals.{Tells}, Clashes.{AreStatesOf, AreCallers}}
+use Rattle.t1_algebra.specs.Conflicts.{conflict}
+use Rattle.t1_subset.proofs.state_tables.Walks.{JoinedSoFar, all_fonts, far_by, turn, stops, next_states, next_callers}
 
 -- if the code answers a join of the states of fonts, they come to a font of these states
 pub joined_come : (cs : List Callers) → 0 < length cs → AreNoted cs → (ss : List StatesValue) → ss ≡ map (states_of profile) (fonts_of cs) →
@@ -22,6 +24,32 @@ joined_come (c ∷ cs) l n ss is o v e h =
     let r = merges_by_states profile t (fonts_within t (each_font f fs (all_fonts (c ∷ cs) n))) v
     ((subst (λ o. IsJoinOf FontStatesJoin (map (λ s. s) ss) (option_map (λ s. s) o)) e h).1 (grouped profile t) uses) in
     (r.0, r.1, r.2)
+
+-- ---- the first fonts of a list
+
+states_taken : (cs : List Callers) (n : ℕ) → take n (map (states_of profile) (fonts_of cs)) ≡ map (states_of profile) (fonts_of (take n cs))
+states_taken cs zero = refl
+states_taken [] (suc n) = refl
+states_taken (c ∷ cs) (suc n) = ap (λ (l : List StatesValue). states_of profile c.font.now ∷ l) (states_taken cs n)
+
+noted_taken : (cs : List Callers) → AreNoted cs → (n : ℕ) → AreNoted (take n cs)
+noted_taken cs h zero = tt
+noted_taken [] h (suc n) = tt
+noted_taken (c ∷ cs) h (suc n) = (h.0, noted_taken cs h.1 n)
+
+-- if the states of the first fonts join to these, and the next font has a conflict with what they come to, it is refused for that
+pub refused_next : (cs : List Callers) → AreNoted cs → (ss : List StatesValue) → ss ≡ map (states_of profile) (fonts_of cs) → (n : ℕ) (v : StatesValue) →
+    IsJoinOf FontStatesJoin (map (λ s. s) (take n ss)) (Some v) → (next : StatesValue) → n < length ss → next ≡ get_or ss n next → (r : Refusal) →
+    ((f g : FontValue) → AreStatesOf v next f g → AreCallers (take (n + 1) cs) f g → Tells r (conflict profile f g)) → NotMerged (fonts_of cs) r
+refused_next cs h ss is zero v j next l at r tells = absurd (let some = j.0 in omega (arith, some))
+refused_next cs h ss is (suc n) v j next l at r tells =
+    let inside : suc n < length cs = omega (arith, l, ap length is, length-map (fonts_of cs) (states_of profile), length-map cs (λ (c : Callers). c.font.now)) in
+    let some : 0 < length (take (suc n) cs) = omega (arith, inside, length-take (suc n) cs) in
+    let come = joined_come (take (suc n) cs) some (noted_taken cs h (suc n)) (take (suc n) ss) (ap (take (suc n)) is ∙ states_taken cs (suc n)) (Some v) v refl j in
+    let own = far_by cs h n (omega (arith, inside)) come.0 come.1 in
+    let far : JoinedSoFar (take (suc n) cs) v = record { font = come.0; comes = come.1; is_font = own.0; states = come.2; callers = own.1 } in
+    let t = turn cs h (suc n) inside in
+    stops cs (suc n) t v far r (tells come.0 t.here.font.now (next_states cs (suc n) t v far ss is next at) (next_callers cs (suc n) t v far))
 
 -- the font of the states that fonts come to is what they come to
 pub states_come : (fs : List FontValue) (s : StatesValue) → ComesToStates fs s → (j : FontValue) → s ≡ states_of profile j → ComesTo fs j

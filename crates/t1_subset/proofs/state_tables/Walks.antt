@@ -66,19 +66,12 @@ pub record JoinedSoFar (cs : List Callers) (s : StatesValue) : Type 0 where
   pub states : s ≡ states_of profile font
   pub callers : CallersSoFar cs font
 
--- fonts with one more that joins come to the join
-comes_last : (fs : List FontValue) (x j : FontValue) → ComesTo fs j → Join profile j x → ComesTo (fs ++ x ∷ []) (joined_font profile j x)
-comes_last [] x j h k = absurd h
-comes_last (f ∷ fs) x j h k =
-    subst (λ (t : Grouping FontValue). Merges profile t (joined_font profile j x)) (sym (left_snoc (one f) fs x)) (j, x, h, refl, (k, refl))
-
 -- what fonts with one more come to, is what those before come to, joined with it
 come_before : (fs : List FontValue) (x j : FontValue) → 0 < length fs → ComesTo (fs ++ x ∷ []) j →
     (a : FontValue) × ComesTo fs a × Join profile a x × (joined_font profile a x ≡ j)
 come_before [] x j l m = absurd (omega (arith, l))
 come_before (f ∷ fs) x j l m =
-    let both = subst (λ (t : Grouping FontValue). Merges profile t j) (left_snoc (one f) fs x) m in
-    (
+    let both = subst (λ (t : Grouping FontValue). Merges profile t j) (left_snoc (one f) fs x) m in (
       both.0,
       both.2,
       subst (Join profile both.0) (sym both.3) both.4.0,
@@ -132,24 +125,11 @@ far_by (c ∷ cs) h (suc n) l j m =
     let fs = fonts_of (take (suc n) (c ∷ cs)) in
     let p = come_before fs t.here.font.now j (omega arith)
     (subst (λ (gs : List FontValue). ComesTo gs j) (ap fonts_of t.next ∙ map-append _ (take (suc n) (c ∷ cs)) (t.here ∷ [])) m) in
-    let r = far_by (c ∷ cs) h n (omega (arith, l)) p.0 p.1 in
-    (
+    let r = far_by (c ∷ cs) h n (omega (arith, l)) p.0 p.1 in (
       subst IsFont p.3 (joined_is_font profile p.0 t.here.font.now r.0 t.is_font p.2),
       subst (CallersSoFar (take (suc (suc n)) (c ∷ cs))) p.3 (subst (λ (ds : List Callers). CallersSoFar ds (joined_font profile p.0 t.here.font.now))
           (sym t.next) (more_callers p.0 t.here.font.now (take (suc n) (c ∷ cs)) t.here r.1 t.callers p.2.states)),
     )
-
--- the first font comes to itself, and its states joined with themselves are its states
-pub starts : (cs : List Callers) → AreNoted cs → 0 < length cs → (ss : List StatesValue) →
-    ss ≡ map (states_of profile) (fonts_of cs) → (t s : StatesValue) → t ≡ get_or ss 0 t → FontStatesJoin t t s → JoinedSoFar (take 1 cs) s
-starts [] h l ss is t s e j = absurd (omega (arith, l))
-starts (c ∷ cs) h l ss is t s e j = record {
-  font = c.font.now;
-  comes = refl;
-  is_font = h.0.0;
-  states = states_laws.one_answer t t s t j (states_laws.idempotent t) ∙ e ∙ ap (λ ss. get_or ss 0 t) is;
-  callers = first_callers c c.font.now h.0.1;
-}
 
 module _ (cs : List Callers) (i : ℕ) (t : Turn cs i) (s : StatesValue) (far : JoinedSoFar (take i cs) s) where
   -- the states of the font so far and of the next one
@@ -165,28 +145,10 @@ module _ (cs : List Callers) (i : ℕ) (t : Turn cs i) (s : StatesValue) (far : 
   next_callers = subst (λ (ds : List Callers). AreCallers ds far.font t.here.font.now) next
       (both_callers far.font t.here.font.now (take i cs) t.here far.callers t.callers)
 
-  -- if the next font joins, the fonts come to the join
-  pub goes_on : (z : StatesValue) → Join profile far.font t.here.font.now × (z ≡ states_of profile (joined_font profile far.font t.here.font.now)) →
-      JoinedSoFar (take (i + 1) cs) z
-  goes_on z j =
-      let both = joined_font profile far.font t.here.font.now in
-      subst (λ (ds : List Callers). JoinedSoFar ds z) next (record {
-        font = both;
-        comes = subst (λ (fs : List FontValue). ComesTo fs both) (sym (map-append _ (take i cs) (t.here ∷ [])))
-            (comes_last (fonts_of (take i cs)) t.here.font.now far.font far.comes j.0);
-        is_font = joined_is_font profile far.font t.here.font.now far.is_font t.is_font j.0;
-        states = j.1;
-        callers = more_callers far.font t.here.font.now (take i cs) t.here far.callers t.callers j.0.states;
-      })
-
   -- if the next font doesn't join, the fonts are refused
   pub stops : (r : Refusal) → Tells r (conflict profile far.font t.here.font.now) → NotMerged (fonts_of cs) r
   stops = stops_at (fonts_of (take i cs)) t.here.font.now (fonts_of (drop (suc i) cs))
       (fonts_of cs) far.font far.comes (sym (map-append _ (take i cs) (t.here ∷ drop (suc i) cs)) ∙ ap fonts_of t.all)
-
--- if no font is left, the fonts come to a font of the states so far
-pub ends : (cs : List Callers) (i : ℕ) → length cs ≤ i → (s : StatesValue) → JoinedSoFar (take i cs) s → ComesToStates (fonts_of cs) s
-ends cs i l s far = (far.font, subst (λ (ds : List Callers). ComesTo (fonts_of ds) far.font) (take_all i cs l) far.comes, far.states)
 
 -- ---- noting
 
