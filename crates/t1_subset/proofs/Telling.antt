@@ -1,5 +1,5 @@
 -- Refusals that are added to a list, one for each conflict of a walk.
-use Rattle.std.proofs.Common.{arith, ◌≡◌, Bool, true, false, cond, List, [], ◌∷◌, ◌++◌, map, filter, refl, sym, ◌∙◌, ap, subst, append_assoc, Some}
+use Rattle.std.proofs.Common.{◌≡◌, Bool, true, false, cond, List, [], ◌∷◌, ◌++◌, map, filter, refl, sym, ◌∙◌, ap, subst, append_assoc, Some}
 use Rattle.std.proofs.lemmas.List.{append-nil}
 use Rattle.t1_algebra.specs.Conflicts.{Conflict, OverLimit}
 use Rattle.t1_subset.specs.declared.conflict.Conflict.{Conflict as Refusal}

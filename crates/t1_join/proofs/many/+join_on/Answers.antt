@@ -1,4 +1,4 @@
-use Rattle.std.proofs.Common.{◌≡◌, ◌++◌, ◌∙◌, ap, sym, subst, refl, List, [], ◌∷◌, map, take, take_all, IfOk, Some, None, Option, option_map, arith}
+use Rattle.std.proofs.Common.{◌++◌, ◌∙◌, sym, subst, refl, [], ◌∷◌, map, take_all, IfOk, Some, option_map, arith}
 use Rattle.std.proofs.lemmas.List.{take-append-drop}
 use Rattle.t1_join.specs.Groupings.{IsJoinOf}
 use Rattle.t1_join.proofs.OrderLemmas.{only_itself}

@@ -1,4 +1,4 @@
-use Rattle.std.proofs.Common.{◌≡◌, ◌++◌, ◌∙◌, ap, sym, subst, List, [], map, take, Some, ℕ, arith}
+use Rattle.std.proofs.Common.{◌++◌, ◌∙◌, subst, [], map, take, Some, ℕ, arith}
 use Rattle.std.proofs.lemmas.List.{take-append-drop}
 use Rattle.t1_join.specs.Groupings.{IsJoinOf}
 use Rattle.t1_join.proofs.FrontLemmas.{joined_itself, both_taken}

@@ -1,4 +1,4 @@
-use Rattle.std.proofs.Common.{[], ap, subst, unwrap_or, Some, None}
+use Rattle.std.proofs.Common.{[], subst, unwrap_or, Some, None}
 use Rattle.std.proofs.lemmas.Result.{on_ok_weaker}
 use Rattle.t1_algebra.specs.Conflicts.{LacksComponent}
 use Rattle.t1_algebra.proofs.Sets.{cases}

@@ -1,4 +1,4 @@
-use Rattle.std.proofs.Common.{not, map, filter, drop}
+use Rattle.std.proofs.Common.{not, map, drop}
 use Rattle.t1_algebra.specs.{Shared.{same_part}, Conflicts.{ShellDiffers}}
 use Rattle.t1_subset.specs.Differences.{shell_part}
 use Rattle.t1_subset.proofs.Telling.{Adding, each_told}

@@ -1,5 +1,4 @@
-use Rattle.std.proofs.Common.{◌≡◌, [], ◌∷◌, ◌++◌, ◌∙◌, ap, sym, subst, List, true≢false}
-use Rattle.t1_algebra.specs.Conflicts.{Conflict, OverLimit}
+use Rattle.std.proofs.Common.{[], ◌∷◌, ◌++◌, ◌∙◌, ap, sym, subst, List, true≢false}
 use Rattle.t1_subset.specs.declared.conflict.Conflict.{Conflict as Refusal}
 use Rattle.t1_subset.specs.declared.conflict.Conflict.TheVariants.{Limit}
 use Rattle.t1_subset.specs.Refusals.{TellEach}

@@ -1,7 +1,6 @@
-use Rattle.std.proofs.Common.{◌≡◌, [], ◌∷◌, ◌∙◌, ap, sym, subst, List}
+use Rattle.std.proofs.Common.{subst}
 use Rattle.std.proofs.lemmas.Result.{IfOk-weaker}
-use Rattle.t1_algebra.specs.{Profile.{profile}, Conflicts.{Conflict, conflicts}}
-use Rattle.t1_font.specs.FontValue.{FontValue}
+use Rattle.t1_algebra.specs.{Profile.{profile}, Conflicts.{conflicts}}
 use Rattle.t1_subset.specs.Refusals.{TellEach}
 use Rattle.t1_subset.proofs.{state_tables.Sides.{none_or_join}}
 use Rattle.t1_subset.proofs.differences.conflicts.Goals as goal

@@ -1,5 +1,5 @@
-use Rattle.std.proofs.Common.{[], ◌∷◌, ◌++◌, List, map, filter, not, ap, sym, subst, ◌∙◌}
-use Rattle.t1_algebra.specs.{StateTables.{StatesValue}, Conflicts.{Conflict, ShellDiffers}, Shared.{Shared, same_part, all_parts}}
+use Rattle.std.proofs.Common.{[], List, map, filter, not, ap, sym, subst, ◌∙◌}
+use Rattle.t1_algebra.specs.{StateTables.{StatesValue}, Conflicts.{ShellDiffers}, Shared.{same_part, all_parts}}
 use Rattle.t1_subset.specs.declared.conflict.Conflict.{Conflict as Refusal}
 use Rattle.t1_subset.specs.Refusals.{TellEach, Adds}
 use Rattle.t1_subset.proofs.Telling.{adds_both}
