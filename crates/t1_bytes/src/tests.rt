@@ -125,41 +125,6 @@ fn enciphers_worked_bytes(rt: HostRuntime) -> Result<(), Fail> {
     Ok(())
 }
 
-#[test]
-fn enciphers_two_at_once(rt: HostRuntime) {
-    const ROWS: &[(&[u8], &[u8], &[u8], &[u8])] = &[
-        (
-            b"\x00\x00\x00\x00\x64",
-            b"\xd9\xd6\x6f\x63\x3b",
-            b"\x00\x00\x00\x00\x0b",
-            b"\x10\xbf\x31\x70\xf9",
-        ),
-        (
-            b"\x00\x00\x00\x00\x64",
-            b"\xd9\xd6\x6f\x63\x3b",
-            b"\x0b",
-            b"\x1b",
-        ),
-        (
-            b"\x00\x00",
-            b"\xd9\xd6",
-            b"\x00\x00\x00\x00\x0b",
-            b"\x10\xbf\x31\x70\xf9",
-        ),
-        (b"", b"", b"", b""),
-    ];
-    for &(plain, cipher, other, other_cipher) in ROWS {
-        let mut first = [0u8; 5];
-        let (first, _) = first.split_at_mut(plain.len().min(5));
-        first.copy_from_slice(plain);
-        let mut second = [0u8; 5];
-        let (second, _) = second.split_at_mut(other.len().min(5));
-        second.copy_from_slice(other);
-        encrypt_both(first, EEXEC_KEY, second, CHARSTRING_KEY);
-        assert!(rt; *first == *cipher && *second == *other_cipher, "{plain:?}");
-    }
-}
-
 // meets flatten Ok at 0 bytes
 // meets flatten BadSegment at 1 bytes
 // meets flatten_vec Ok at 0 bytes

@@ -16,7 +16,14 @@ module _ (bytes : List ℕ) (done key : ℕ) (within : done ≤ length bytes) (i
   whole = take done bytes ++ encrypted key left
 
   pub as_long : length whole ≡ length bytes
-  as_long = omega (arith, within, length-append (take done bytes) (encrypted key left), length-take done bytes, length-encrypted left key, length-drop done bytes)
+  as_long = omega (
+    arith,
+    within,
+    length-append (take done bytes) (encrypted key left),
+    length-take done bytes,
+    length-encrypted left key,
+    length-drop done bytes,
+  )
 
   pub key_is : key_behind key (encrypted key left) ≡ key_behind 55665 whole
   key_is = ap (λ (k : ℕ). key_behind k (encrypted key left)) is ∙ sym (key_behind-append (take done bytes) (encrypted key left) 55665)

@@ -1,8 +1,8 @@
 //! Plain bytes and ciphers of as many bytes as some blocks have, and of a few more or less. They were made by a program that
-//! goes from each key to the next.
+//! goes from each key to the next. And two ciphers at once.
 
 use super::is_enciphered;
-use crate::{CHARSTRING_KEY, EEXEC_KEY, decrypt, encrypt};
+use crate::{CHARSTRING_KEY, EEXEC_KEY, decrypt, encrypt, encrypt_both};
 use std::test::Fail;
 
 /// Plain bytes and their cipher under the key of charstrings.
@@ -76,4 +76,39 @@ fn enciphers_many_blocks(rt: HostRuntime) -> Result<(), Fail> {
     encrypt(bytes.as_mut_slice(), EEXEC_KEY);
     assert_eq!(rt; mixed(bytes.as_slice()), 15_293_045_882_376_853_227);
     Ok(())
+}
+
+#[test]
+fn enciphers_two_at_once(rt: HostRuntime) {
+    const ROWS: &[(&[u8], &[u8], &[u8], &[u8])] = &[
+        (
+            b"\x00\x00\x00\x00\x64",
+            b"\xd9\xd6\x6f\x63\x3b",
+            b"\x00\x00\x00\x00\x0b",
+            b"\x10\xbf\x31\x70\xf9",
+        ),
+        (
+            b"\x00\x00\x00\x00\x64",
+            b"\xd9\xd6\x6f\x63\x3b",
+            b"\x0b",
+            b"\x1b",
+        ),
+        (
+            b"\x00\x00",
+            b"\xd9\xd6",
+            b"\x00\x00\x00\x00\x0b",
+            b"\x10\xbf\x31\x70\xf9",
+        ),
+        (b"", b"", b"", b""),
+    ];
+    for &(plain, cipher, other, other_cipher) in ROWS {
+        let mut first = [0u8; 5];
+        let (first, _) = first.split_at_mut(plain.len().min(5));
+        first.copy_from_slice(plain);
+        let mut second = [0u8; 5];
+        let (second, _) = second.split_at_mut(other.len().min(5));
+        second.copy_from_slice(other);
+        encrypt_both(first, EEXEC_KEY, second, CHARSTRING_KEY);
+        assert!(rt; *first == *cipher && *second == *other_cipher, "{plain:?}");
+    }
 }

@@ -43,9 +43,11 @@ pub refused_next : (cs : List Callers) → AreNoted cs → (ss : List StatesValu
     ((f g : FontValue) → AreStatesOf v next f g → AreCallers (take (n + 1) cs) f g → Tells r (conflict profile f g)) → NotMerged (fonts_of cs) r
 refused_next cs h ss is zero v j next l at r tells = absurd (let some = j.0 in omega (arith, some))
 refused_next cs h ss is (suc n) v j next l at r tells =
-    let inside : suc n < length cs = omega (arith, l, ap length is, length-map (fonts_of cs) (states_of profile), length-map cs (λ (c : Callers). c.font.now)) in
+    let inside : suc n < length cs =
+    omega (arith, l, ap length is, length-map (fonts_of cs) (states_of profile), length-map cs (λ (c : Callers). c.font.now)) in
     let some : 0 < length (take (suc n) cs) = omega (arith, inside, length-take (suc n) cs) in
-    let come = joined_come (take (suc n) cs) some (noted_taken cs h (suc n)) (take (suc n) ss) (ap (take (suc n)) is ∙ states_taken cs (suc n)) (Some v) v refl j in
+    let come = joined_come (take (suc n) cs) some (noted_taken cs h (suc n)) (take (suc n) ss)
+    (ap (take (suc n)) is ∙ states_taken cs (suc n)) (Some v) v refl j in
     let own = far_by cs h n (omega (arith, inside)) come.0 come.1 in
     let far : JoinedSoFar (take (suc n) cs) v = record { font = come.0; comes = come.1; is_font = own.0; states = come.2; callers = own.1 } in
     let t = turn cs h (suc n) inside in

@@ -28,7 +28,8 @@ invariant_of-self-2 c =
     let more = c.extend_from_slice.new.self.items in
     let new = c.seal_end-self-inside.new.bytes.items in
     record {
-      within = inside_new s.bytes.items s.done s.key c.self.invariant.within c.self.invariant.key body more c.len-start.result (grown c) (start_is c) new (ends c);
+      within = inside_new s.bytes.items s.done s.key c.self.invariant.within c.self.invariant.key body more c.len-start.result
+          (grown c) (start_is c) new (ends c);
       key = c.seal_end-self-inside.ensures.key
           ∙ (next_is s.bytes.items s.done s.key c.self.invariant.within c.self.invariant.key body more c.len-start.result (grown c) (start_is c)
           ∙ ap (key_behind 55665) (sym (before_new s.bytes.items s.done s.key c.self.invariant.within c.self.invariant.key body more c.len-start.result
