@@ -5,9 +5,8 @@ mod growths;
 mod large;
 
 use crate::{
-    BytesFault, CHARSTRING_KEY, Cipher, EEXEC_KEY, EEXEC_LEAD, Form, decrypt, encrypt,
-    encrypt_both, file_around, find_cipher, flatten, flatten_vec, hex_lines, open, seal, segments,
-    split_eexec, trailer,
+    BytesFault, CHARSTRING_KEY, Cipher, EEXEC_KEY, EEXEC_LEAD, Form, decrypt, encrypt, file_around,
+    find_cipher, flatten, flatten_vec, hex_lines, open, seal, segments, split_eexec, trailer,
 };
 use std::alloc::{AllocError, Global};
 use std::test::Fail;
