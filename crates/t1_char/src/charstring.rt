@@ -21,6 +21,7 @@ impl<'a> Tokens<'a> {
     ghost use Rattle.t1_char.specs.Charstring.{charstring_of, tokens_left};
 
     /// All tokens of a plain charstring, which is decrypted and without its lead bytes.
+    #[inline(always)]
     pub fn new(charstring: &'a [u8]) -> Tokens<'a>
         ensures all { tokens_left result ≡ tokens charstring.now }
         ensures whole { charstring_of result ≡ charstring.now }
@@ -33,6 +34,7 @@ impl<'a> Tokens<'a> {
 
     /// The tokens of a plain charstring from an offset in bytes on. From an offset that `Tokens` reached in it, they are
     /// the tokens that were left there; from an offset inside a token, the bytes are read as if a charstring began there.
+    #[inline(always)]
     pub fn at(charstring: &'a [u8], offset: usize) -> Tokens<'a>
         requires { offset ≤ length charstring.now }
         ensures rest { tokens_left result ≡ tokens (drop offset charstring.now) }
@@ -42,6 +44,7 @@ impl<'a> Tokens<'a> {
     }
 
     /// How many bytes of the charstring have been read. Its tokens from this offset on are those that are left.
+    #[inline(always)]
     pub fn offset(&self) -> usize
         ensures within { result ≤ length (charstring_of self.now) }
         ensures rest { tokens (drop result (charstring_of self.now)) ≡ tokens_left self.now }
@@ -59,6 +62,7 @@ impl<'a> Iterator for Tokens<'a> {
 
     ghost remaining = { item_count tokens_left };
 
+    #[inline(always)]
     fn next(&mut self) -> Option<Token> {
         let (first, rest) = self.charstring[self.offset..].split_first()?;
         let token = token_at(*first, rest);
@@ -68,6 +72,7 @@ impl<'a> Iterator for Tokens<'a> {
 }
 
 /// The token that begins with `first`, before the bytes that follow.
+#[inline(always)]
 fn token_at(first: u8, rest: &[u8]) -> Token
     ensures { result ≡ token_at first rest.now }
 {
@@ -97,6 +102,7 @@ fn token_at(first: u8, rest: &[u8]) -> Token
 }
 
 /// The size of a number of two bytes.
+#[inline(always)]
 fn long_size(high: u8, low: u8) -> u16
     requires { high < 4 }
     ensures { result ≡ high * 256 + low + 108 }
@@ -105,6 +111,7 @@ fn long_size(high: u8, low: u8) -> u16
 }
 
 /// How many bytes a token that begins with `first` has after it.
+#[inline(always)]
 fn more_of(first: u8) -> usize
     ensures { result ≡ more_of first }
 {
@@ -117,6 +124,7 @@ fn more_of(first: u8) -> usize
 }
 
 /// The command of one byte, if the byte is one.
+#[inline(always)]
 fn command(code: u8) -> Token
     ensures { result ≡ coded commands code code }
 {
@@ -143,6 +151,7 @@ fn command(code: u8) -> Token
 }
 
 /// The command of two bytes, by its second byte, if there is one.
+#[inline(always)]
 fn escape(code: u8) -> Token
     ensures { result ≡ coded escapes code (12 * 256 + code) }
 {
