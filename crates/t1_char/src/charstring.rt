@@ -1,6 +1,6 @@
 //! The tokens of a charstring, one after the other.
 
-ghost use Rattle.std.specs.Prelude.{◌≡◌, ◌≤◌, ◌<◌, ◌+◌, ◌*◌, length, drop};
+ghost use Rattle.std.specs.Prelude.{◌≡◌, ◌≤◌, ◌<◌, ◌+◌, ◌*◌, length, drop, min};
 ghost use Rattle.std.specs.Iterator.{item_count};
 ghost use Rattle.t1_char.specs.Commands.{coded, commands, escapes};
 ghost use Rattle.t1_char.specs.Tokens.{tokens, token_at, more_of};
@@ -65,37 +65,41 @@ impl<'a> Iterator for Tokens<'a> {
     #[inline(always)]
     fn next(&mut self) -> Option<Token> {
         let (first, rest) = self.charstring[self.offset..].split_first()?;
-        let token = token_at(*first, rest);
-        self.offset += 1 + more_of(*first).min(rest.len());
+        let (token, more) = token_at(*first, rest);
+        self.offset += 1 + more;
         Some(token)
     }
 }
 
-/// The token that begins with `first`, before the bytes that follow.
+/// The token that begins with `first`, before the bytes that follow, and how many of these are the token's.
 #[inline(always)]
-fn token_at(first: u8, rest: &[u8]) -> Token
-    ensures { result ≡ token_at first rest.now }
+fn token_at(first: u8, rest: &[u8]) -> (Token, usize)
+    ensures token { result.0 ≡ token_at first rest.now }
+    ensures more { result.1 ≡ min (more_of first) (length rest.now) }
 {
+    // A number of one byte, the most frequent token.
+    if 32 <= first && first <= 246 {
+        return (Token::Num(i32::from(first) - 139), 0);
+    }
     match first {
         12 => match rest.first() {
-            Some(second) => escape(*second),
-            None => Token::Cut,
+            Some(second) => (escape(*second), 1),
+            None => (Token::Cut, 0),
         },
-        0..=31 => command(first),
-        32..=246 => Token::Num(i32::from(first) - 139),
+        0..=246 => (command(first), 0),
         247..=250 => match rest.first() {
-            Some(second) => Token::Num(i32::from(long_size(first - 247, *second))),
-            None => Token::Cut,
+            Some(second) => (Token::Num(i32::from(long_size(first - 247, *second))), 1),
+            None => (Token::Cut, 0),
         },
         251..=254 => match rest.first() {
-            Some(second) => Token::Num(-i32::from(long_size(first - 251, *second))),
-            None => Token::Cut,
+            Some(second) => (Token::Num(-i32::from(long_size(first - 251, *second))), 1),
+            None => (Token::Cut, 0),
         },
         255 => {
             if rest.len() < 4 {
-                Token::Cut
+                (Token::Cut, rest.len())
             } else {
-                Token::Num(BigEndian::read_i32(rest))
+                (Token::Num(BigEndian::read_i32(rest)), 4)
             }
         }
     }
@@ -108,19 +112,6 @@ fn long_size(high: u8, low: u8) -> u16
     ensures { result ≡ high * 256 + low + 108 }
 {
     u16::from(high) * 256 + u16::from(low) + 108
-}
-
-/// How many bytes a token that begins with `first` has after it.
-#[inline(always)]
-fn more_of(first: u8) -> usize
-    ensures { result ≡ more_of first }
-{
-    match first {
-        12 => 1,
-        0..=246 => 0,
-        247..=254 => 1,
-        255 => 4,
-    }
 }
 
 /// The command of one byte, if the byte is one.
