@@ -81,27 +81,48 @@ fn token_at(first: u8, rest: &[u8]) -> (Token, usize)
     if 32 <= first && first <= 246 {
         return (Token::Num(i32::from(first) - 139), 0);
     }
-    match first {
-        12 => match rest.first() {
-            Some(second) => (escape(*second), 1),
-            None => (Token::Cut, 0),
-        },
-        0..=246 => (command(first), 0),
-        247..=250 => match rest.first() {
-            Some(second) => (Token::Num(i32::from(long_size(first - 247, *second))), 1),
-            None => (Token::Cut, 0),
-        },
-        251..=254 => match rest.first() {
-            Some(second) => (Token::Num(-i32::from(long_size(first - 251, *second))), 1),
-            None => (Token::Cut, 0),
-        },
-        255 => {
-            if rest.len() < 4 {
-                (Token::Cut, rest.len())
-            } else {
-                (Token::Num(BigEndian::read_i32(rest)), 4)
-            }
-        }
+    if first > 246 {
+        return number_at(first, rest);
+    }
+    if first == 12 {
+        return escape_at(rest);
+    }
+    (command(first), 0)
+}
+
+/// A number of more than one byte, in the same way.
+#[inline(always)]
+fn number_at(first: u8, rest: &[u8]) -> (Token, usize)
+    requires { 246 < first }
+    ensures token { result.0 ≡ token_at first rest.now }
+    ensures more { result.1 ≡ min (more_of first) (length rest.now) }
+{
+    if first == 255 {
+        return if rest.len() < 4 {
+            (Token::Cut, rest.len())
+        } else {
+            (Token::Num(BigEndian::read_i32(rest)), 4)
+        };
+    }
+    let Some(second) = rest.first() else {
+        return (Token::Cut, 0);
+    };
+    if first < 251 {
+        (Token::Num(i32::from(long_size(first - 247, *second))), 1)
+    } else {
+        (Token::Num(-i32::from(long_size(first - 251, *second))), 1)
+    }
+}
+
+/// What begins with the escape byte, in the same way.
+#[inline(always)]
+fn escape_at(rest: &[u8]) -> (Token, usize)
+    ensures token { result.0 ≡ token_at 12 rest.now }
+    ensures more { result.1 ≡ min 1 (length rest.now) }
+{
+    match rest.first() {
+        Some(second) => (escape(*second), 1),
+        None => (Token::Cut, 0),
     }
 }
 
