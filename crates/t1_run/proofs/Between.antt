@@ -15,10 +15,10 @@ use Rattle.t1_run.specs.declared.answer.Hints.{Hints}
 use Rattle.t1_run.specs.declared.answer.Hints.TheVariants.{Kept}
 use Rattle.t1_run.specs.State.{State, Ending, Failed, start}
 use Rattle.t1_run.specs.Rules.{Step, Goes, Ends}
-use Rattle.t1_run.specs.Run.{Subrs, Outcome, ends, taken, index_of, entry, then_run, spend, level_limit, call, with_indices, run_glyph, at_top, marks_after}
+use Rattle.t1_run.specs.Run.{Subrs, Outcome, ends, taken, index_of, entry, then_run, level_limit, call, with_indices, run_glyph, at_top, marks_after}
 use Rattle.t1_run.specs.Machine.{state_of, step_of, is_one, Spent, SpendsNext, ending_of, Runs}
 use Rattle.t1_run.specs.Frames.{frame_left}
-use Rattle.t1_run.specs.Limits.{IsWithinLimits, EndsWithinLimits, Keeps}
+use Rattle.t1_run.specs.Limits.{EndsWithinLimits, Keeps}
 use Rattle.t1_run.proofs.Limits.{start_within}
 use Rattle.t1_run.proofs.Turns.{Turns, Turn, Ended, begins, turn, runs_out, length_push, on_goes, on_back, on_last, on_end, on_fault, on_call}
 use Rattle.t1_run.proofs.Mirrors.{Mirror, MirrorTurn, mirror_begins, mirror_turn, mirror_out, mirror_goes, mirror_back, mirror_last, mirror_end, mirror_fault, mirror_call}
