@@ -1,6 +1,6 @@
 //! The tokens of a charstring, one after the other.
 
-ghost use Rattle.std.specs.Prelude.{◌≡◌, ◌≤◌, ◌<◌, ◌+◌, ◌*◌, length, drop};
+ghost use Rattle.std.specs.Prelude.{◌≡◌, ◌≤◌, ◌<◌, ◌+◌, ◌*◌, length, drop, min};
 ghost use Rattle.std.specs.Iterator.{item_count};
 ghost use Rattle.t1_char.specs.Commands.{coded, commands, escapes};
 ghost use Rattle.t1_char.specs.Tokens.{tokens, token_at, more_of};
@@ -21,6 +21,7 @@ impl<'a> Tokens<'a> {
     ghost use Rattle.t1_char.specs.Charstring.{charstring_of, tokens_left};
 
     /// All tokens of a plain charstring, which is decrypted and without its lead bytes.
+    #[inline(always)]
     pub fn new(charstring: &'a [u8]) -> Tokens<'a>
         ensures all { tokens_left result ≡ tokens charstring.now }
         ensures whole { charstring_of result ≡ charstring.now }
@@ -33,6 +34,7 @@ impl<'a> Tokens<'a> {
 
     /// The tokens of a plain charstring from an offset in bytes on. From an offset that `Tokens` reached in it, they are
     /// the tokens that were left there; from an offset inside a token, the bytes are read as if a charstring began there.
+    #[inline(always)]
     pub fn at(charstring: &'a [u8], offset: usize) -> Tokens<'a>
         requires { offset ≤ length charstring.now }
         ensures rest { tokens_left result ≡ tokens (drop offset charstring.now) }
@@ -42,6 +44,7 @@ impl<'a> Tokens<'a> {
     }
 
     /// How many bytes of the charstring have been read. Its tokens from this offset on are those that are left.
+    #[inline(always)]
     pub fn offset(&self) -> usize
         ensures within { result ≤ length (charstring_of self.now) }
         ensures rest { tokens (drop result (charstring_of self.now)) ≡ tokens_left self.now }
@@ -59,44 +62,72 @@ impl<'a> Iterator for Tokens<'a> {
 
     ghost remaining = { item_count tokens_left };
 
+    #[inline(always)]
     fn next(&mut self) -> Option<Token> {
         let (first, rest) = self.charstring[self.offset..].split_first()?;
-        let token = token_at(*first, rest);
-        self.offset += 1 + more_of(*first).min(rest.len());
+        let (token, more) = token_at(*first, rest);
+        self.offset += 1 + more;
         Some(token)
     }
 }
 
-/// The token that begins with `first`, before the bytes that follow.
-fn token_at(first: u8, rest: &[u8]) -> Token
-    ensures { result ≡ token_at first rest.now }
+/// The token that begins with `first`, before the bytes that follow, and how many of these are the token's.
+#[inline(always)]
+fn token_at(first: u8, rest: &[u8]) -> (Token, usize)
+    ensures token { result.0 ≡ token_at first rest.now }
+    ensures more { result.1 ≡ min (more_of first) (length rest.now) }
 {
-    match first {
-        12 => match rest.first() {
-            Some(second) => escape(*second),
-            None => Token::Cut,
-        },
-        0..=31 => command(first),
-        32..=246 => Token::Num(i32::from(first) - 139),
-        247..=250 => match rest.first() {
-            Some(second) => Token::Num(i32::from(long_size(first - 247, *second))),
-            None => Token::Cut,
-        },
-        251..=254 => match rest.first() {
-            Some(second) => Token::Num(-i32::from(long_size(first - 251, *second))),
-            None => Token::Cut,
-        },
-        255 => {
-            if rest.len() < 4 {
-                Token::Cut
-            } else {
-                Token::Num(BigEndian::read_i32(rest))
-            }
-        }
+    // A number of one byte, the most frequent token.
+    if 32 <= first && first <= 246 {
+        return (Token::Num(i32::from(first) - 139), 0);
+    }
+    if first > 246 {
+        return number_at(first, rest);
+    }
+    if first == 12 {
+        return escape_at(rest);
+    }
+    (command(first), 0)
+}
+
+/// A number of more than one byte, in the same way.
+#[inline(always)]
+fn number_at(first: u8, rest: &[u8]) -> (Token, usize)
+    requires { 246 < first }
+    ensures token { result.0 ≡ token_at first rest.now }
+    ensures more { result.1 ≡ min (more_of first) (length rest.now) }
+{
+    if first == 255 {
+        return if rest.len() < 4 {
+            (Token::Cut, rest.len())
+        } else {
+            (Token::Num(BigEndian::read_i32(rest)), 4)
+        };
+    }
+    let Some(second) = rest.first() else {
+        return (Token::Cut, 0);
+    };
+    if first < 251 {
+        (Token::Num(i32::from(long_size(first - 247, *second))), 1)
+    } else {
+        (Token::Num(-i32::from(long_size(first - 251, *second))), 1)
+    }
+}
+
+/// What begins with the escape byte, in the same way.
+#[inline(always)]
+fn escape_at(rest: &[u8]) -> (Token, usize)
+    ensures token { result.0 ≡ token_at 12 rest.now }
+    ensures more { result.1 ≡ min 1 (length rest.now) }
+{
+    match rest.first() {
+        Some(second) => (escape(*second), 1),
+        None => (Token::Cut, 0),
     }
 }
 
 /// The size of a number of two bytes.
+#[inline(always)]
 fn long_size(high: u8, low: u8) -> u16
     requires { high < 4 }
     ensures { result ≡ high * 256 + low + 108 }
@@ -104,19 +135,8 @@ fn long_size(high: u8, low: u8) -> u16
     u16::from(high) * 256 + u16::from(low) + 108
 }
 
-/// How many bytes a token that begins with `first` has after it.
-fn more_of(first: u8) -> usize
-    ensures { result ≡ more_of first }
-{
-    match first {
-        12 => 1,
-        0..=246 => 0,
-        247..=254 => 1,
-        255 => 4,
-    }
-}
-
 /// The command of one byte, if the byte is one.
+#[inline(always)]
 fn command(code: u8) -> Token
     ensures { result ≡ coded commands code code }
 {
@@ -143,6 +163,7 @@ fn command(code: u8) -> Token
 }
 
 /// The command of two bytes, by its second byte, if there is one.
+#[inline(always)]
 fn escape(code: u8) -> Token
     ensures { result ≡ coded escapes code (12 * 256 + code) }
 {

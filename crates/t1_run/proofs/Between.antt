@@ -15,10 +15,10 @@ use Rattle.t1_run.specs.declared.answer.Hints.{Hints}
 use Rattle.t1_run.specs.declared.answer.Hints.TheVariants.{Kept}
 use Rattle.t1_run.specs.State.{State, Ending, Failed, start}
 use Rattle.t1_run.specs.Rules.{Step, Goes, Ends}
-use Rattle.t1_run.specs.Run.{Subrs, Outcome, ends, taken, index_of, entry, then_run, spend, level_limit, call, with_indices, run_glyph, at_top, marks_after}
-use Rattle.t1_run.specs.Machine.{state_of, step_of, Does, is_one, ending_of, Runs}
+use Rattle.t1_run.specs.Run.{Subrs, Outcome, ends, taken, index_of, entry, then_run, level_limit, call, with_indices, run_glyph, at_top, marks_after}
+use Rattle.t1_run.specs.Machine.{state_of, step_of, is_one, Spent, SpendsNext, ending_of, Runs}
 use Rattle.t1_run.specs.Frames.{frame_left}
-use Rattle.t1_run.specs.Limits.{IsWithinLimits, EndsWithinLimits, Keeps}
+use Rattle.t1_run.specs.Limits.{EndsWithinLimits, Keeps}
 use Rattle.t1_run.proofs.Limits.{start_within}
 use Rattle.t1_run.proofs.Turns.{Turns, Turn, Ended, begins, turn, runs_out, length_push, on_goes, on_back, on_last, on_end, on_fault, on_call}
 use Rattle.t1_run.proofs.Mirrors.{Mirror, MirrorTurn, mirror_begins, mirror_turn, mirror_out, mirror_goes, mirror_back, mirror_last, mirror_end, mirror_fault, mirror_call}
@@ -31,12 +31,6 @@ pub record Between {P : Type 0} (subrs : Subrs) (hints : Hints) (c old : List �
   pub turns : Turns (run_glyph subrs hints c) old subrs hints frames (state_of m marks) now
   pub mirror : Mirror (run_glyph subrs hints c) (run_glyph subrs Kept c) subrs hints Kept one frames (state_of m marks)
 
--- The machine spent a token, and goes on so.
-pub record Spent {P : Type 0} (hints : Hints) (t : Token) (m m' : Machine P) (on : Flow) : Type 0 where
-  pub step : Does on m m' (spend hints t)
-  pub one : is_one on ≡ true → Does on m m' (spend Kept t)
-  pub within : (marks : List Mark) → IsWithinLimits (state_of m marks) → Keeps (m.allowed - 1) (step_of on (state_of m' marks))
-
 -- the run may go on
 abbrev IsGoing : Flow → Type 0
 IsGoing (flow.Fail fault) = ⊥
@@ -46,6 +40,11 @@ IsGoing _ = Unit {0}
 pub fewer : (on : Flow) (before after : ℕ) → IsGoing on → (before ≡ 0 → on ≡ flow.Fail TooLong) → after ≡ before - 1 → after < before
 fewer on zero after going spent e = absurd (subst IsGoing (spent refl) going)
 fewer on (suc n) after going spent e = omega (arith, e)
+
+-- what is known of the flow by which the machine goes on
+pub spent_as : {P : Type 0} {hints : Hints} {m m' : Machine P} {old new : List Token} (on : Flow) → SpendsNext hints m m' old new (Some on) →
+    (on' : Flow) → on ≡ on' → SpendsNext hints m m' old new (Some on')
+spent_as {hints = hints} {m = m} {m' = m'} on spent on' is = (spent.0, spent.1, subst (λ f. Spent hints spent.0 m m' f) is spent.2)
 
 -- before the first turn
 pub at_start : {P : Type 0} (subrs : Subrs) (hints : Hints) (c old : List ℕ) (Drawn : List Mark → Type 0) (frames : List Frame) (top : Frame) (m : Machine P) →

@@ -1,5 +1,5 @@
 -- What the frames of a run stand for: a glyph and the Subrs that are being run (Adobe Type 1 Font Format 1.1, chapter 8).
-use Rattle.std.specs.Prelude.{ℕ, zero, suc, List, [], ◌∷◌, length, drop, map, reverse}
+use Rattle.std.specs.Prelude.{ℕ, zero, suc, List, [], ◌∷◌, length, map, reverse}
 use Rattle.t1_char.specs.declared.token.Token.{Token}
 use Rattle.t1_char.specs.Tokens.{tokens}
 use Rattle.t1_run.specs.declared.frames.Frame.{Frame}
@@ -9,7 +9,7 @@ use Rattle.t1_run.specs.Run.{Subrs, Outcome, ends, deeper, resume, run}
 
 -- The tokens that a frame has left.
 abbrev pub frame_left : Frame → List Token
-frame_left f = tokens (drop f.offset f.charstring.now)
+frame_left f = tokens f.rest.now
 
 -- The token lists that frames have left, the top first; of the frames the last is on top.
 abbrev pub lists_of : List Frame → List (List Token)

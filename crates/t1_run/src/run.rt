@@ -106,10 +106,10 @@ pub(crate) fn run<'s, S: Subroutines, P: Pen>(
     let mut top = Frame::new(charstring);
     let mut is_one = true;
     'turns: loop {
-        let Some(token) = top.next() else {
+        let Some(flow) = machine.spend(hints, &mut top) else {
             return Ok((Halt::Failed(Fault::Unended), is_one));
         };
-        match machine.spend(hints, token) {
+        match flow {
             Flow::Go => {}
             Flow::Mark(mark) => {
                 pen.mark(mark)?;

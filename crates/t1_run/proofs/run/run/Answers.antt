@@ -6,7 +6,7 @@ use Rattle.t1_run.specs.declared.answer.Mark.TheVariants as mark
 use Rattle.t1_run.specs.declared.machine.Flow.TheVariants as flow
 use Rattle.t1_run.specs.Pens.{Draws}
 use Rattle.t1_run.proofs.Pages.{draws_more}
-use Rattle.t1_run.proofs.Between.{at_start, fewer, out, out_one, goes, ends_so, ends_one, back, last, last_one, fails_so, fails_one, calls}
+use Rattle.t1_run.proofs.Between.{at_start, fewer, out, out_one, goes, ends_so, ends_one, back, last, last_one, fails_so, fails_one, calls, spent_as}
 use Rattle.t1_run.proofs.run.run.Goals as goal
 
 pub turns-init : goal.turns-init
@@ -16,142 +16,142 @@ turns-init g c =
     (ap (λ (fs : List Frame). fs ++ c.new-top.result ∷ []) c.new-callers.ensures) c.new-machine.ensures c.new-top.ensures refl
 
 pub returns-in_default-clause-runs : goal.returns-in_default-clause-runs
-returns-in_default-clause-runs g c = out c.turns.invariant c.turns.callers.items c.turns.top refl c.in_default.ensures.0
+returns-in_default-clause-runs g c = out c.turns.invariant c.turns.callers.items c.turns.top refl c.in_default.ensures
 
 pub returns-in_default-clause-one : goal.returns-in_default-clause-one
-returns-in_default-clause-one g c = out_one c.turns.invariant c.turns.callers.items c.turns.top refl c.in_default.ensures.0
+returns-in_default-clause-one g c = out_one c.turns.invariant c.turns.callers.items c.turns.top refl c.in_default.ensures
 
 pub turns-preserved-in-Go : goal.turns-preserved-in-Go
 turns-preserved-in-Go g c =
-    let e = c.in-Go.ensures in
-    goes c.turns.invariant c.turns.callers.items c.turns.top refl c.next.new.self c.in-Some.token c.spend.new.self flow.Go c.in-Some.ensures
-    (record { step = e.step; one = e.one; within = e.within })
+    let e = spent_as _ c.in-Some.ensures flow.Go c.in-Go.is in
+    goes c.turns.invariant c.turns.callers.items c.turns.top refl c.spend.new.top e.0 c.spend.new.self flow.Go e.1
+    e.2
     c.turns.is_one _ c.turns.invariant.marks _ refl c.turns.invariant.drawn (λ h. (h, refl)) refl
 
 pub turns-preserved-in-Continue-1 : goal.turns-preserved-in-Continue-1
 turns-preserved-in-Continue-1 g c =
-    let e = c.in-Mark.ensures in
+    let e = spent_as _ c.in-Some.ensures (flow.Mark c.in-Mark.mark) c.in-Mark.is in
     let marks = c.turns.invariant.marks in
-    goes c.turns.invariant c.turns.callers.items c.turns.top refl c.next.new.self c.in-Some.token c.spend.new.self
-    (flow.Mark c.in-Mark.mark) c.in-Some.ensures (record { step = e.step; one = e.one; within = e.within })
+    goes c.turns.invariant c.turns.callers.items c.turns.top refl c.spend.new.top e.0 c.spend.new.self
+    (flow.Mark c.in-Mark.mark) e.1 e.2
     c.turns.is_one _ (marks ++ c.in-Mark.mark ∷ []) _ refl
     (draws_more g.P.Pen.marked _ _ _ marks (c.in-Mark.mark ∷ []) c.turns.invariant.drawn c.in_ok-mark-in-Mark.ensures) (λ h. (h, refl)) refl
 
 pub turns-preserved-in-Continue-branch-2 : goal.turns-preserved-in-Continue-branch-2
 turns-preserved-in-Continue-branch-2 g c =
-    let e = c.in-Flex.ensures in
+    let e = spent_as _ c.in-Some.ensures (flow.Flex c.in-Flex.height c.in-Flex.before c.in-Flex.after) c.in-Flex.is in
     let marks = c.turns.invariant.marks in
     let flex : List Mark = mark.Flex c.in-Flex.height ∷ mark.Curve c.in-Flex.before ∷ mark.Curve c.in-Flex.after ∷ [] in
     let drew : Draws g.P.Pen.marked (g.P.Pen.page c.turns.pen) (g.P.Pen.page c.draw_flex.new.pen) flex =
     let d = c.in_ok-draw_flex-in-Flex.ensures in search rules in
-    goes c.turns.invariant c.turns.callers.items c.turns.top refl c.next.new.self c.in-Some.token c.spend.new.self
-    (flow.Flex c.in-Flex.height c.in-Flex.before c.in-Flex.after) c.in-Some.ensures (record { step = e.step; one = e.one; within = e.within })
+    goes c.turns.invariant c.turns.callers.items c.turns.top refl c.spend.new.top e.0 c.spend.new.self
+    (flow.Flex c.in-Flex.height c.in-Flex.before c.in-Flex.after) e.1 e.2
     c.turns.is_one _ (marks ++ flex) _ refl (draws_more g.P.Pen.marked _ _ _ marks flex c.turns.invariant.drawn drew) (λ h. (h, refl)) refl
 
 pub turns-smaller-in-Continue-branch-2 : goal.turns-smaller-in-Continue-branch-2
 turns-smaller-in-Continue-branch-2 g c =
-    let e = c.in-Flex.ensures in
+    let e = spent_as _ c.in-Some.ensures (flow.Flex c.in-Flex.height c.in-Flex.before c.in-Flex.after) c.in-Flex.is in
     let inv = c.turns.invariant in
-    fewer (flow.Flex c.in-Flex.height c.in-Flex.before c.in-Flex.after) c.turns.machine.allowed c.spend.new.self.allowed tt e.spent
-    (e.within inv.marks inv.turns.within).1
+    fewer (flow.Flex c.in-Flex.height c.in-Flex.before c.in-Flex.after) c.turns.machine.allowed c.spend.new.self.allowed tt e.2.spent
+    (e.2.within inv.marks inv.turns.within).1
 
 pub turns-smaller : goal.turns-smaller
 turns-smaller g c =
-    let e = c.in-Call.ensures in
+    let e = spent_as _ c.in-Some.ensures (flow.Call c.in-Call.i) c.in-Call.is in
     let inv = c.turns.invariant in
-    fewer (flow.Call c.in-Call.i) c.turns.machine.allowed c.spend.new.self.allowed tt e.spent (e.within inv.marks inv.turns.within).1
+    fewer (flow.Call c.in-Call.i) c.turns.machine.allowed c.spend.new.self.allowed tt e.2.spent (e.2.within inv.marks inv.turns.within).1
 
 pub turns-preserved-in-Split : goal.turns-preserved-in-Split
 turns-preserved-in-Split g c =
-    let e = c.in-Split.ensures in
+    let e = spent_as _ c.in-Some.ensures flow.Split c.in-Split.is in
     let marks = c.turns.invariant.marks in
-    goes c.turns.invariant c.turns.callers.items c.turns.top refl c.next.new.self c.in-Some.token c.spend.new.self flow.Split c.in-Some.ensures
-    (record { step = e.step; one = e.one; within = e.within })
+    goes c.turns.invariant c.turns.callers.items c.turns.top refl c.spend.new.top e.0 c.spend.new.self flow.Split e.1
+    e.2
     _ _ (marks ++ mark.Replace ∷ []) _ refl
     (draws_more g.P.Pen.marked _ _ _ marks (mark.Replace ∷ []) c.turns.invariant.drawn c.in_ok-mark-in-Split.ensures) (λ h. search rules) refl
 
 pub turns-preserved-in-Some-pop : goal.turns-preserved-in-Some-pop
 turns-preserved-in-Some-pop g c =
-    let e = c.in-Back.ensures in
-    back c.turns.invariant c.turns.callers.items c.turns.top refl c.next.new.self c.in-Some.token c.spend.new.self c.in-Some.ensures
-    (record { step = e.step; one = e.one; within = e.within })
+    let e = spent_as _ c.in-Some.ensures flow.Back c.in-Back.is in
+    back c.turns.invariant c.turns.callers.items c.turns.top refl c.spend.new.top e.0 c.spend.new.self e.1
+    e.2
     (c.pop.new.self.items ++ c.in-Some-pop.caller ∷ []) (sym c.in-Some-pop.ensures.items)
 
 pub returns-in-Plain-clause-runs : goal.returns-in-Plain-clause-runs
 returns-in-Plain-clause-runs g c =
-    let e = c.in-Plain.ensures in
-    ends_so c.turns.invariant c.turns.callers.items c.turns.top refl c.next.new.self c.in-Some.token c.spend.new.self
-    (flow.Plain c.in-Plain.metrics) c.in-Some.ensures (record { step = e.step; one = e.one; within = e.within })
+    let e = spent_as _ c.in-Some.ensures (flow.Plain c.in-Plain.metrics) c.in-Plain.is in
+    ends_so c.turns.invariant c.turns.callers.items c.turns.top refl c.spend.new.top e.0 c.spend.new.self
+    (flow.Plain c.in-Plain.metrics) e.1 e.2
     (halt.Plain c.in-Plain.metrics) refl
 
 pub returns-in-Plain-clause-one : goal.returns-in-Plain-clause-one
 returns-in-Plain-clause-one g c =
-    let e = c.in-Plain.ensures in
-    ends_one c.turns.invariant c.turns.callers.items c.turns.top refl c.next.new.self c.in-Some.token c.spend.new.self
-    (flow.Plain c.in-Plain.metrics) c.in-Some.ensures (record { step = e.step; one = e.one; within = e.within })
+    let e = spent_as _ c.in-Some.ensures (flow.Plain c.in-Plain.metrics) c.in-Plain.is in
+    ends_one c.turns.invariant c.turns.callers.items c.turns.top refl c.spend.new.top e.0 c.spend.new.self
+    (flow.Plain c.in-Plain.metrics) e.1 e.2
     (halt.Plain c.in-Plain.metrics) refl refl
 
 pub returns-in-Seac-clause-runs : goal.returns-in-Seac-clause-runs
 returns-in-Seac-clause-runs g c =
-    let e = c.in-Seac.ensures in
-    ends_so c.turns.invariant c.turns.callers.items c.turns.top refl c.next.new.self c.in-Some.token c.spend.new.self
-    (flow.Seac c.in-Seac.accent) c.in-Some.ensures (record { step = e.step; one = e.one; within = e.within })
+    let e = spent_as _ c.in-Some.ensures (flow.Seac c.in-Seac.accent) c.in-Seac.is in
+    ends_so c.turns.invariant c.turns.callers.items c.turns.top refl c.spend.new.top e.0 c.spend.new.self
+    (flow.Seac c.in-Seac.accent) e.1 e.2
     (halt.Seac c.in-Seac.accent) refl
 
 pub returns-in-Seac-clause-one : goal.returns-in-Seac-clause-one
 returns-in-Seac-clause-one g c =
-    let e = c.in-Seac.ensures in
-    ends_one c.turns.invariant c.turns.callers.items c.turns.top refl c.next.new.self c.in-Some.token c.spend.new.self
-    (flow.Seac c.in-Seac.accent) c.in-Some.ensures (record { step = e.step; one = e.one; within = e.within })
+    let e = spent_as _ c.in-Some.ensures (flow.Seac c.in-Seac.accent) c.in-Seac.is in
+    ends_one c.turns.invariant c.turns.callers.items c.turns.top refl c.spend.new.top e.0 c.spend.new.self
+    (flow.Seac c.in-Seac.accent) e.1 e.2
     (halt.Seac c.in-Seac.accent) refl refl
 
 pub returns-in-Fail-clause-runs : goal.returns-in-Fail-clause-runs
 returns-in-Fail-clause-runs g c =
-    let e = c.in-Fail.ensures in
-    ends_so c.turns.invariant c.turns.callers.items c.turns.top refl c.next.new.self c.in-Some.token c.spend.new.self
-    (flow.Fail c.in-Fail.fault) c.in-Some.ensures (record { step = e.step; one = e.one; within = e.within })
+    let e = spent_as _ c.in-Some.ensures (flow.Fail c.in-Fail.fault) c.in-Fail.is in
+    ends_so c.turns.invariant c.turns.callers.items c.turns.top refl c.spend.new.top e.0 c.spend.new.self
+    (flow.Fail c.in-Fail.fault) e.1 e.2
     (halt.Failed c.in-Fail.fault) refl
 
 pub returns-in-Fail-clause-one : goal.returns-in-Fail-clause-one
 returns-in-Fail-clause-one g c =
-    let e = c.in-Fail.ensures in
-    ends_one c.turns.invariant c.turns.callers.items c.turns.top refl c.next.new.self c.in-Some.token c.spend.new.self
-    (flow.Fail c.in-Fail.fault) c.in-Some.ensures (record { step = e.step; one = e.one; within = e.within })
+    let e = spent_as _ c.in-Some.ensures (flow.Fail c.in-Fail.fault) c.in-Fail.is in
+    ends_one c.turns.invariant c.turns.callers.items c.turns.top refl c.spend.new.top e.0 c.spend.new.self
+    (flow.Fail c.in-Fail.fault) e.1 e.2
     (halt.Failed c.in-Fail.fault) refl refl
 
 pub returns-in-Err-clause-runs : goal.returns-in-Err-clause-runs
 returns-in-Err-clause-runs g c =
-    let e = c.in-Call.ensures in
-    fails_so c.turns.invariant c.turns.callers.items c.turns.top refl c.next.new.self c.in-Some.token c.spend.new.self c.in-Some.ensures
-    c.in-Call.i (record { step = e.step; one = e.one; within = e.within }) c.index_of-index.result c.remaining_capacity.result
+    let e = spent_as _ c.in-Some.ensures (flow.Call c.in-Call.i) c.in-Call.is in
+    fails_so c.turns.invariant c.turns.callers.items c.turns.top refl c.spend.new.top e.0 c.spend.new.self e.1
+    c.in-Call.i e.2 c.index_of-index.result c.remaining_capacity.result
     (search rules) c.remaining_capacity.ensures
     c.take.new.called c.in-Err.fault c.in_ok-take-in-Call.ensures.added c.in-Err.ensures
 
 pub returns-in-Err-clause-one : goal.returns-in-Err-clause-one
 returns-in-Err-clause-one g c =
-    let e = c.in-Call.ensures in
-    fails_one c.turns.invariant c.turns.callers.items c.turns.top refl c.next.new.self c.in-Some.token c.spend.new.self c.in-Some.ensures
-    c.in-Call.i (record { step = e.step; one = e.one; within = e.within }) c.index_of-index.result c.remaining_capacity.result
+    let e = spent_as _ c.in-Some.ensures (flow.Call c.in-Call.i) c.in-Call.is in
+    fails_one c.turns.invariant c.turns.callers.items c.turns.top refl c.spend.new.top e.0 c.spend.new.self e.1
+    c.in-Call.i e.2 c.index_of-index.result c.remaining_capacity.result
     (search rules) c.remaining_capacity.ensures
     c.in-Err.fault c.in-Err.ensures
 
 pub turns-preserved : goal.turns-preserved
 turns-preserved g c =
-    let e = c.in-Call.ensures in
-    calls c.turns.invariant c.turns.callers.items c.turns.top refl c.next.new.self c.in-Some.token c.spend.new.self c.in-Some.ensures
-    c.in-Call.i (record { step = e.step; one = e.one; within = e.within }) c.index_of-index.result c.remaining_capacity.result
+    let e = spent_as _ c.in-Some.ensures (flow.Call c.in-Call.i) c.in-Call.is in
+    calls c.turns.invariant c.turns.callers.items c.turns.top refl c.spend.new.top e.0 c.spend.new.self e.1
+    c.in-Call.i e.2 c.index_of-index.result c.remaining_capacity.result
     (search rules) c.remaining_capacity.ensures
     c.take.new.called c.in-Ok.charstring.now c.new-top-in-Ok.result c.push.new.self.items (c.push.new.self.items ++ c.new-top-in-Ok.result ∷ [])
     c.in_ok-take-in-Call.ensures.added c.in-Ok.ensures c.new-top-in-Ok.ensures c.push.ensures.items refl
 
 pub returns-in-None-clause-runs : goal.returns-in-None-clause-runs
 returns-in-None-clause-runs g c =
-    let e = c.in-Back.ensures in
-    last c.turns.invariant c.turns.callers.items c.turns.top refl c.next.new.self c.in-Some.token c.spend.new.self c.in-Some.ensures
-    (record { step = e.step; one = e.one; within = e.within }) (search rules)
+    let e = spent_as _ c.in-Some.ensures flow.Back c.in-Back.is in
+    last c.turns.invariant c.turns.callers.items c.turns.top refl c.spend.new.top e.0 c.spend.new.self e.1
+    e.2 (search rules)
 
 pub returns-in-None-clause-one : goal.returns-in-None-clause-one
 returns-in-None-clause-one g c =
-    let e = c.in-Back.ensures in
-    last_one c.turns.invariant c.turns.callers.items c.turns.top refl c.next.new.self c.in-Some.token c.spend.new.self c.in-Some.ensures
-    (record { step = e.step; one = e.one; within = e.within }) (search rules)
+    let e = spent_as _ c.in-Some.ensures flow.Back c.in-Back.is in
+    last_one c.turns.invariant c.turns.callers.items c.turns.top refl c.spend.new.top e.0 c.spend.new.self e.1
+    e.2 (search rules)
