@@ -54,8 +54,8 @@ class Progress:
 def main():
     progress = Progress()
     known = sum(made is not None for made in progress.made.values())
-    say(f"Proving and building {NAME}, {len(progress.crates)} crates, {known} of which have a library from before. From nothing this took 22")
-    say("minutes on four quiet cores, and 50 on busy ones; that was before t1_document was there.")
+    say(f"Proving and building {NAME}, {len(progress.crates)} crates, {known} of which have a library from before. From nothing this took some")
+    say("80 minutes of processor time, and 70 by the clock on four busy cores.")
     running = subprocess.Popen(WORD, cwd=os.path.join(TOP, "crates", NAME))
     try:
         while running.poll() is None:
