@@ -2,7 +2,7 @@
 //! growth of the first test after the other: a call that then answers want of memory gives the right answer when it is
 //! made again. In the second it refuses all.
 
-use super::{CLEAR, is_put_together};
+use super::{CLEAR, PRIVATE, is_put_together};
 use crate::{
     BytesFault, CHARSTRING_KEY, Cipher, decrypt, encrypt, find_cipher, flatten_vec, hex_lines,
     open, trailer,
@@ -14,9 +14,10 @@ use t1_tiny::{PFA, PFB};
 /// Whether the cipher of Tiny is found in the digits of its PFA, and written as lines of digits again.
 fn is_spelled(alloc: Global) -> Result<bool, BytesFault> {
     let (at, cipher) = find_cipher(alloc, PFA)?;
-    let Cipher::Spelled(bytes) = cipher else {
+    let Cipher::Spelled(mut bytes) = cipher else {
         return Ok(false);
     };
+    bytes.truncate(4 + PRIVATE);
     let lines = hex_lines(alloc, bytes.as_slice())?;
     let (_, digits) = PFA.split_at(CLEAR);
     Ok(at == CLEAR - 1 && digits.starts_with(lines.as_slice()))
