@@ -7,9 +7,9 @@ body that answers want of memory in place of another answer: for such an edit th
 fail (`caught by: TEST`). The edits are tried on copies of the repository, several side by side; the repository itself is
 not changed.
 
-Edits within the bodies of different functions are tried together by one check, since a function is proved over what others
-promise, and not over their bodies: each has to be refused for its own function and the clause that it names. What doesn't come
-out so is tried by itself.
+Edits within the bodies of different functions are tried together by one check of these functions alone, since a function is
+proved over what others promise, and not over their bodies: each has to be refused for its own function and the clause that it
+names. What doesn't come out so is tried by itself.
 
 usage: tools/wrong_bodies.py [--jobs N] [--only NAME] [CRATE...]      (all crates if none is named)
 Ends with status 1 if an edit can't be applied or read, or is neither refused nor caught.
@@ -186,9 +186,11 @@ def copy_with_work(room, crate):
         shutil.copytree(os.path.join(TOP, work), os.path.join(room, work), symlinks=True, copy_function=os.link)
 
 
-def checked(crate, room):
-    """What a check of a crate in a copy says."""
+def checked(crate, room, names):
+    """What a check of these functions of a crate in a copy says."""
     words = ["rt", "check"]
+    for name in names:
+        words += ["--only", name.split("::")[-1]]
     return subprocess.run(words, cwd=os.path.join(room, "crates", crate), capture_output=True, text=True, errors="replace").stdout
 
 
@@ -199,7 +201,7 @@ def refused_together(crate, changes):
         for path, first, last, lines in sorted((change for _, change in changes), key=lambda change: -change[1]):
             whole = text_of(room, "crates", crate, path).split("\n")
             put("\n".join(whole[:first] + lines + whole[last:]).encode(), room, "crates", crate, path)
-        told = told_of(checked(crate, room), crate)
+        told = told_of(checked(crate, room, map(function_of, (edit for edit, _ in changes))), crate)
     found = {edit: refusal(edit, told) for edit, _ in changes}
     good = [(os.path.basename(edit), f"must-fail {crate}/{os.path.basename(edit)}: {GOOD[0]}: {line[:160]}") for edit, line in found.items() if line]
     return good + refused(crate, [edit for edit, line in found.items() if not line])
