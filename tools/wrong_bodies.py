@@ -111,8 +111,21 @@ def function_of(edit):
     return re.match(r"refused by: ([\w:]+)", lines_of(edit)[0])[1]
 
 
+def called_of(path, lines, at, crate):
+    """The end of the path by which a check calls the function that begins in a line of a file: behind its module, or behind its type
+    and its trait."""
+    method = re.search(r"\bfn (\w+)", lines[at])[1]
+    head = next((line for line in lines[at::-1] if re.match(r"impl\b|\}", line)), "") if lines[at].startswith(" ") else ""
+    found = re.match(r"impl(?:<[^>]*>)? (?:([\w:<>&', ]+?) for )?(?:\w+::)*(\w+)", head)
+    if found:
+        return found[2] + re.sub(r"\w+::|\W", "", found[1] or "") + "::" + method
+    module = path[len("src/"):-len(".rt")].split("/")[-1]
+    return (crate if module == "lib" else module) + "::" + method
+
+
 def change_of(edit, crate):
-    """What an edit changes as a path, the first and the last line and the new lines, if that lies within its function."""
+    """What an edit changes as a path, the first and the last line, the new lines, and how a check calls its function, if that has
+    them all."""
     paths = {line[len("file: "):] for line in lines_of(edit) if line.startswith("file: ")}
     if len(paths) != 1:
         return None
@@ -131,7 +144,7 @@ def change_of(edit, crate):
     for at, line in enumerate(old):
         head = re.match(rf"( *)(?:pub(?:\(\w+\))? )?(?:const )?(?:extern \"C\" )?fn {name}\b", line)
         if head and at < first and last <= next(end for end in range(at, len(old)) if old[end] == head[1] + "}"):
-            return path, first, last, new[first:len(new) - same]
+            return path, first, last, new[first:len(new) - same], called_of(path, old, at, crate)
     return None
 
 
@@ -157,20 +170,11 @@ def told_of(output, crate):
     return told
 
 
-def is_method(path, name):
-    """Whether a check calls by this path what an edit calls by this name: a method by the block that has it, which is called after its type and its trait."""
-    *module, owner, method = path.split("::")
-    *others, said, wanted = [""] + name.split("::")
-    return method == wanted and "::".join(module) == "::".join(others[1:]) and (owner.startswith(said) or owner.endswith(said))
-
-
-def refusal(edit, told):
+def refusal(edit, called, told):
     """The line that refuses an edit for its function, and for no other clause than it names, or None. What a loop wants names no clause."""
-    name = function_of(edit)
     clause = re.search(r", clause (\w+)", lines_of(edit)[0])
     for path, (verdict, why) in told.items():
-        is_it = f"::{path}".endswith(f"::{name}") or "::" in path and "::" in name and is_method(path, name)
-        if is_it and verdict != "proved":
+        if f"::{path}".endswith(f"::{called}") and verdict != "proved":
             for line in why:
                 found = re.search(r"clause-(\w+)", line)
                 if not re.search(NAMES, line) and not (clause and found and found[1] != clause[1]):
@@ -190,7 +194,7 @@ def checked(crate, room, names):
     """What a check of these functions of a crate in a copy says."""
     words = ["rt", "check"]
     for name in names:
-        words += ["--only", name.split("::")[-1]]
+        words += ["--only", name]
     return subprocess.run(words, cwd=os.path.join(room, "crates", crate), capture_output=True, text=True, errors="replace").stdout
 
 
@@ -198,11 +202,12 @@ def refused_together(crate, changes):
     """What one check says of edits of different functions, and of each that it doesn't refuse by itself."""
     with tempfile.TemporaryDirectory(prefix="wrong-bodies-") as room:
         copy_with_work(room, crate)
-        for path, first, last, lines in sorted((change for _, change in changes), key=lambda change: -change[1]):
+        for path, first, last, lines, _ in sorted((change for _, change in changes), key=lambda change: -change[1]):
             whole = text_of(room, "crates", crate, path).split("\n")
             put("\n".join(whole[:first] + lines + whole[last:]).encode(), room, "crates", crate, path)
-        told = told_of(checked(crate, room, map(function_of, (edit for edit, _ in changes))), crate)
-    found = {edit: refusal(edit, told) for edit, _ in changes}
+        # Where a function is called in another way, nothing is told, and the whole crate is checked.
+        told = told_of(checked(crate, room, [change[-1] for _, change in changes]), crate) or told_of(checked(crate, room, []), crate)
+    found = {edit: refusal(edit, change[-1], told) for edit, change in changes}
     good = [(os.path.basename(edit), f"must-fail {crate}/{os.path.basename(edit)}: {GOOD[0]}: {line[:160]}") for edit, line in found.items() if line]
     return good + refused(crate, [edit for edit, line in found.items() if not line])
 
