@@ -1,21 +1,29 @@
 //! The first tables of a list that join.
 
-use super::{THREE, many_entries, tables_of};
+use super::{Numbered, THREE, many_entries, tables_of};
 use crate::many::join_first;
 use std::alloc::{AllocError, Global};
 use std::test::Fail;
 
-// The number of keys of the first tables that join, with one entry each, and how many these tables are.
+// The number of keys of the first tables that join, and how many these tables are.
+pub(super) fn keys_of_first_tables(
+    alloc: Global,
+    tables: &[Numbered],
+) -> Result<Option<(usize, usize)>, AllocError> {
+    if tables.is_empty() {
+        return Ok(None);
+    }
+    let (all, count) = join_first(alloc, tables)?;
+    Ok(Some((all.entries().count(), count)))
+}
+
+// The same of tables with one entry each.
 fn keys_of_first(
     alloc: Global,
     entries: &[(u16, u8)],
 ) -> Result<Option<(usize, usize)>, AllocError> {
     let tables = tables_of(alloc, entries)?;
-    if tables.is_empty() {
-        return Ok(None);
-    }
-    let (all, count) = join_first(alloc, tables.as_slice())?;
-    Ok(Some((all.entries().count(), count)))
+    keys_of_first_tables(alloc, tables.as_slice())
 }
 
 // meets join_first Ok at 1, 2, 3, 5, 100000, 100001 tables

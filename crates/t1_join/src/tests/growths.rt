@@ -5,6 +5,7 @@ use crate::hexadecimal::Hex;
 use crate::listing::{self, JoinFault, ListFault, Listing};
 use crate::partial::Join;
 use crate::tables::Table;
+use crate::tests::firsts::keys_of_first_tables;
 use crate::tests::{Numbered, keys_of_all, keys_of_both, small, table};
 use std::alloc::{AllocError, Global};
 use std::test::Fail;
@@ -72,7 +73,10 @@ fn four_tables_join(alloc: Global) -> Result<bool, AllocError> {
     for &(from, to) in KEYS {
         list.push(table(alloc, from, to, 1)?)?;
     }
-    Ok(keys_of_all(alloc, list.as_slice())? == Some(8))
+    Ok(
+        keys_of_all(alloc, list.as_slice())? == Some(8)
+            && keys_of_first_tables(alloc, list.as_slice())? == Some((8, 4)),
+    )
 }
 
 // Whether flats join to what is in one of them.
