@@ -78,7 +78,8 @@ lower_again i (a ∷ b ∷ rest) bytes h = by (lower_again (i + 2) rest) (hex_di
     by ih (Some x) None r p q e k = cc k
     by ih None y r p q e k = cc k
 
-lowered : (d : List ℕ) → SpellsBytes d → map to_ascii_lowercase d ≡ encode_lower (spelled d)
+-- the digits of bytes in lower case
+pub lowered : (d : List ℕ) → SpellsBytes d → map to_ascii_lowercase d ≡ encode_lower (spelled d)
 lowered d h =
     let k = decodes d h in
     let ok = decode_of-ok d k.0 k.1 in

@@ -1,8 +1,9 @@
 //! Bytes as they stand in the text of a listing.
-ghost use Rattle.std.specs.Prelude.{◌≡◌, IfOk, is_some, Some, None, if◌then◌else◌};
+ghost use Rattle.std.specs.Prelude.{◌≡◌, ◌++◌, ◌≤◌, length, take, drop, map, IfOk, OnOk, is_some, Some, None, if◌then◌else◌};
+ghost use Rattle.std.specs.Char.{to_ascii_lowercase};
 ghost use Rattle.std.specs.List.{list_all};
 ghost use Rattle.std.specs.Option.{option_map};
-ghost use Rattle.hex.specs.Hex.{is_hex_digit};
+ghost use Rattle.hex.specs.Hex.{encode_lower, is_hex_digit};
 ghost use Rattle.t1_join.specs.ListingText.{bytes_of};
 
 use crate::keys::Kept;
@@ -51,6 +52,16 @@ fn spells_bytes(text: &[u8]) -> bool
     are_digits(text)
 }
 
+/// Makes the letters of a text that stand from a place on lower case.
+fn lower_from(text: &mut Vec<u8>, from: usize)
+    requires { from ≤ length text.old.items }
+    ensures { text.new.items
+        ≡ take from text.old.items ++ map to_ascii_lowercase (drop from text.old.items) }
+{
+    let (_, rest) = text.as_mut_slice().split_at_mut(from);
+    rest.make_ascii_lowercase();
+}
+
 impl<'a> Hex<'a> {
     /// The bytes that a text spells.
     pub fn read(text: &'a [u8]) -> Option<Hex<'a>>
@@ -61,6 +72,16 @@ impl<'a> Hex<'a> {
         } else {
             None
         }
+    }
+
+    /// Adds the digits of the bytes, in lower case.
+    pub(crate) fn put_digits(&self, out: &mut Vec<u8>) -> Result<(), AllocError>
+        ensures { OnOk result (out.new.items ≡ out.old.items ++ encode_lower self.now) }
+    {
+        let start = out.len();
+        out.extend_from_slice(self.digits)?;
+        lower_from(out, start);
+        Ok(())
     }
 
     /// The bytes themselves.

@@ -258,14 +258,12 @@ pub fn read(alloc: Global, text: &[u8]) -> Result<Listing<'_>, ListFault>
 }
 
 /// The blank, the digits and the line feed that end a line.
-fn add_bytes(alloc: Global, out: &mut Vec<u8>, bytes: &Hex<'_>) -> Result<(), AllocError>
+fn add_bytes(out: &mut Vec<u8>, bytes: &Hex<'_>) -> Result<(), AllocError>
     ensures { OnOk result (out.new.items
         ≡ out.old.items ++ 32 ∷ (encode_lower bytes.now ++ 10 ∷ [])) }
 {
-    let bytes = bytes.bytes(alloc)?;
-    let digits = hex::encode(alloc, bytes.as_slice())?;
     out.push(b' ')?;
-    out.extend_from_slice(digits.as_bytes())?;
+    bytes.put_digits(out)?;
     out.push(b'\n')?;
     Ok(())
 }
@@ -282,20 +280,15 @@ fn add_subr_line(
     let number = index.to_string(alloc)?;
     out.extend_from_slice(b"S ")?;
     out.extend_from_slice(number.as_bytes())?;
-    add_bytes(alloc, out, bytes)
+    add_bytes(out, bytes)
 }
 
-fn add_glyph_line(
-    alloc: Global,
-    out: &mut Vec<u8>,
-    name: &[u8],
-    bytes: &Hex<'_>,
-) -> Result<(), AllocError>
+fn add_glyph_line(out: &mut Vec<u8>, name: &[u8], bytes: &Hex<'_>) -> Result<(), AllocError>
     ensures { OnOk result (out.new.items ≡ out.old.items ++ glyph_line (name.now, bytes.now)) }
 {
     out.extend_from_slice(b"G ")?;
     out.extend_from_slice(name)?;
-    add_bytes(alloc, out, bytes)
+    add_bytes(out, bytes)
 }
 
 /// The text of a listing: the Subrs upwards by index, then the glyphs upwards by the bytes of their names,
@@ -308,7 +301,7 @@ pub fn write(alloc: Global, listing: &Listing<'_>) -> Result<Vec<u8>, AllocError
         add_subr_line(alloc, &mut out, *index, bytes)?;
     }
     for (name, bytes) in listing.glyphs.entries() {
-        add_glyph_line(alloc, &mut out, name, bytes)?;
+        add_glyph_line(&mut out, name, bytes)?;
     }
     Ok(out)
 }
@@ -356,7 +349,7 @@ fn text_of_both(
         add_subr_line(alloc, &mut out, *index, hex)?;
     }
     for (name, hex) in left.glyphs.entries_with(&right.glyphs) {
-        add_glyph_line(alloc, &mut out, name, hex)?;
+        add_glyph_line(&mut out, name, hex)?;
     }
     Ok(out)
 }
