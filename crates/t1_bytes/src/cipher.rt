@@ -18,9 +18,9 @@ pub const EEXEC_LEAD: u8 = 4;
 pub const CHARSTRING_KEY: u16 = 4330;
 
 // What each key is made with, from the key before it and the cipher byte.
-const FACTOR: u64 = 52845;
+pub(crate) const FACTOR: u64 = 52845;
 
-const SUMMAND: u64 = 22719;
+pub(crate) const SUMMAND: u64 = 22719;
 
 /// The key after a cipher byte.
 pub(crate) fn key_after(key: u16, cipher: u8) -> u16

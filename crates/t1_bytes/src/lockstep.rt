@@ -4,13 +4,13 @@ ghost use Rattle.std.specs.Prelude.{◌≡◌, ◌++◌, ◌≤◌, take, drop, 
 ghost use Rattle.t1_bytes.specs.Cipher.{next_key, encrypted};
 ghost use Rattle.t1_bytes.specs.Keys.{key_behind};
 
-use crate::cipher::key_after;
+use crate::cipher::{FACTOR, SUMMAND, key_after};
 
 /// The key after a cipher byte, in narrower numbers: so the two chains of [`encrypt_both`] stay two for a compiler.
 fn narrow_key_after(key: u16, cipher: u8) -> u16
     ensures { result ≡ next_key key cipher }
 {
-    (((cipher as u32 + key as u32) * 52845 + 22719) % 65536) as u16
+    (((cipher as u32 + key as u32) * FACTOR as u32 + SUMMAND as u32) % 65536) as u16
 }
 
 /// Encrypts the bytes from a place on, under a cipher whose key is `key` there, and answers the key behind them.
