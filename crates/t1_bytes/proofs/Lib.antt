@@ -10,5 +10,6 @@ pub mod SpreadLines
 pub mod DigitsAhead
 pub mod EexecLemmas
 pub mod HexLines
+pub mod FileLengths
 pub mod ContainerLaws
 mod Rows

@@ -1,6 +1,6 @@
 //! A file around its cipher, made in the cipher's own vector.
 
-ghost use Rattle.std.specs.Prelude.{◌≡◌, ◌++◌, ◌≤◌, length, OnOk, IfOk};
+ghost use Rattle.std.specs.Prelude.{◌≡◌, ◌++◌, ◌≤◌, ◌-◌, ◌^◌, ℕ, List, min, length, OnOk, IfOk};
 ghost use Rattle.t1_bytes.specs.Limits.{file_limit};
 ghost use Rattle.t1_bytes.specs.Texts.{file_text, hex_lines, trailer};
 
@@ -32,7 +32,10 @@ fn put_lines(out: &mut Vec<u8>, clear: &[u8]) -> Result<(), AllocError>
 }
 
 /// How many bytes a file has in this form whose cipher has this many, and its clear part as many as that: room for [`file_around`].
-pub fn room_around(form: Form, cipher: usize, clear: usize) -> usize {
+pub fn room_around(form: Form, cipher: usize, clear: usize) -> usize
+    ensures { (front text : List ℕ) → length front ≡ clear → length text ≡ cipher
+        → result ≡ min (length (file_text form front text)) (2 ^ 64 - 1) }
+{
     let body = match form {
         Form::Pfa => lines_len(cipher),
         Form::Pfb => cipher.saturating_add(AROUND),

@@ -1,6 +1,6 @@
 //! Lines of hexadecimal digits, and the trailer that follows them.
 
-ghost use Rattle.std.specs.Prelude.{◌≡◌, ◌+◌, ◌*◌, ◌++◌, ◌≤◌, ◌<◌, [], ◌∷◌, length, take, drop, OnOk, OnErr, IfOk, IfErr};
+ghost use Rattle.std.specs.Prelude.{◌≡◌, ◌+◌, ◌-◌, ◌*◌, ◌^◌, ◌++◌, ◌≤◌, ◌<◌, ℕ, List, [], ◌∷◌, min, length, take, drop, OnOk, OnErr, IfOk, IfErr};
 ghost use Rattle.hex.specs.Hex.{encode_lower};
 ghost use Rattle.t1_bytes.specs.declared.fault.BytesFault.TheVariants.{Memory};
 ghost use Rattle.t1_bytes.specs.Texts.{hex_lines, trailer};
@@ -95,7 +95,10 @@ pub(crate) fn spread_hex_lines(text: &mut Vec<u8>, from: usize) -> Result<(), Al
 }
 
 /// How many bytes the lines of this many bytes have, if the number fits.
-pub(crate) fn lines_len(bytes: usize) -> usize {
+pub(crate) fn lines_len(bytes: usize) -> usize
+    ensures { (text : List ℕ) → length text ≡ bytes
+        → result ≡ min (length (hex_lines text)) (2 ^ 64 - 1) }
+{
     bytes.saturating_mul(2).saturating_add(bytes.div_ceil(LINE))
 }
 

@@ -54,7 +54,9 @@ pub(crate) fn all_join<'a>(
     ensures ok { IfOk result (λ all. ComesToStates (fonts_of callers.now) all) }
     ensures err { IfErr result (λ e. NotMerged (fonts_of callers.now) e) }
 {
-    let (joined, count) = join_first(alloc, states)?;
+    let Some((joined, count)) = join_first(alloc, states)? else {
+        return Err(Conflict::Empty);
+    };
     match states.get(count) {
         Some(next) => Err(conflict_of(alloc, &joined, next, &callers[..count + 1])),
         None => Ok(joined),

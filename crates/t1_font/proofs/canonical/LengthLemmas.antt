@@ -15,8 +15,7 @@ use Rattle.std.proofs.lemmas.List.{length-append, length-map}
 use Rattle.t1_bytes.specs.declared.form.Form.{Form}
 use Rattle.t1_bytes.specs.declared.form.Form.TheVariants.{Pfa, Pfb}
 use Rattle.t1_bytes.specs.Cipher.{private_cipher}
-use Rattle.t1_bytes.specs.Texts.{segment_text, hex_rest, hex_lines, trailer}
-use Rattle.t1_bytes.proofs.Ciphers.{length-sealed}
+use Rattle.t1_bytes.proofs.{Ciphers.{length-sealed}, FileLengths.{pfa_length, pfb_length}}
 use Rattle.t1_font.specs.Words.{word, phrase_of, phrase_after, is_access, passes}
 use Rattle.t1_font.specs.FontValue.{FontValue, Shell, SubrsShell, Encoding, Word, Codes, Numbered, total, subr_weight, glyph_weight, weight}
 use Rattle.t1_bytes.specs.Limits.{file_limit}
@@ -201,18 +200,6 @@ clear_long f h =
 
 -- ---- the file
 
-rest_long : (n : ℕ) (bs : List ℕ) → length (hex_rest n bs) ≤ 3 * length bs + 1
-rest_long n [] = omega arith
-rest_long zero (b ∷ bs) = omega (arith, rest_long 31 bs)
-rest_long (suc n) (b ∷ bs) = omega (arith, rest_long n bs)
-
-lines_long : (bs : List ℕ) → length (hex_lines bs) ≤ 3 * length bs + 1
-lines_long [] = omega arith
-lines_long (b ∷ bs) = omega (arith, rest_long 31 bs)
-
-trailer_long : length trailer ≡ 532
-trailer_long = refl
-
 -- a canonical file is not much longer than its font weighs
 pub canon_weighs : (f : FontValue) (form : Form) → IsFont f → length (canon f form) ≤ CanonLength form (weight f)
 canon_weighs f Pfa h =
@@ -220,23 +207,17 @@ canon_weighs f Pfa h =
     let c = private_cipher p in
     let clear = canon_clear f in
     let cipher : length c ≡ length p + 4 = omega (arith, length-sealed 55665 4 p) in
-    let a : length (canon f Pfa) ≡ length clear + (length (hex_lines c) + 532) =
-    omega (arith, length-append clear (hex_lines c ++ trailer), length-append (hex_lines c) trailer, trailer_long) in
     let b : length clear ≤ length f.shell.head + length f.shell.clear_tail + 36701 = clear_long f h in
     let d = private_long f h in
-    let e : length (hex_lines c) ≤ 3 * length c + 1 = lines_long c in
-    omega (arith, a, b, d, e, cipher)
+    omega (arith, pfa_length clear c, b, d, cipher)
 canon_weighs f Pfb h =
     let p = canon_private f in
     let c = private_cipher p in
     let clear = canon_clear f in
     let cipher : length c ≡ length p + 4 = omega (arith, length-sealed 55665 4 p) in
-    let t : List ℕ = segment_text 1 trailer ++ (128 ∷ 3 ∷ []) in
-    let a : length (canon f Pfb) ≡ length clear + length c + 532 + 20 =
-    omega (arith, length-append clear (segment_text 2 c ++ t), length-append c t, trailer_long) in
     let b : length clear ≤ length f.shell.head + length f.shell.clear_tail + 36701 = clear_long f h in
     let d = private_long f h in
-    omega (arith, a, b, d, cipher)
+    omega (arith, pfb_length clear c, b, d, cipher)
 
 -- and so within the file limit
 pub canon_short : (f : FontValue) (form : Form) → IsFont f → length (canon f form) ≤ file_limit

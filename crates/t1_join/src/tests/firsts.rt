@@ -10,11 +10,10 @@ pub(super) fn keys_of_first_tables(
     alloc: Global,
     tables: &[Numbered],
 ) -> Result<Option<(usize, usize)>, AllocError> {
-    if tables.is_empty() {
-        return Ok(None);
+    match join_first(alloc, tables)? {
+        Some((all, count)) => Ok(Some((all.entries().count(), count))),
+        None => Ok(None),
     }
-    let (all, count) = join_first(alloc, tables)?;
-    Ok(Some((all.entries().count(), count)))
 }
 
 // The same of tables with one entry each.
@@ -26,7 +25,8 @@ fn keys_of_first(
     keys_of_first_tables(alloc, tables.as_slice())
 }
 
-// meets join_first Ok at 1, 2, 3, 5, 100000, 100001 tables
+// meets join_first Some at 1, 2, 3, 5, 100000, 100001 tables
+// meets join_first None at 0 tables
 #[test]
 fn joins_the_first(rt: HostRuntime) -> Result<(), Fail> {
     const ROWS: &[(&[(u16, u8)], Option<(usize, usize)>, &str)] = &[

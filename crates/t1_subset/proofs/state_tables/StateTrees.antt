@@ -1,6 +1,6 @@
 -- Merges of fonts are joins of their states.
 use Rattle.std.proofs.Common.{◌≡◌, ◌<◌, ◌+◌, ℕ, zero, suc, List, [], ◌∷◌, map, length, take, get_or, refl, sym, ◌∙◌, ap, subst, arith, inl, Option, Some, option_map, Result, Ok, Err, IfErr}
-use Rattle.std.proofs.lemmas.List.{map-id, length-map, length-take}
+use Rattle.std.proofs.lemmas.List.{map-id, length-map, take-map}
 use Rattle.std.specs.List.{AllByRecursion}
 use Rattle.t1_join.specs.Groupings.{one, from_left, IsJoinOf}
 use Rattle.t1_join.proofs.OrderLemmas.{leaves_mapped, leaves_from_left, uses_its}
@@ -14,10 +14,11 @@ use Rattle.t1_algebra.specs.Conflicts.{conflict}
 use Rattle.t1_subset.proofs.state_tables.Walks.{JoinedSoFar, all_fonts, far_by, turn, stops, next_states, next_callers}
 
 -- if the code answers a join of the states of fonts, they come to a font of these states
-pub joined_come : (cs : List Callers) → 0 < length cs → AreNoted cs → (ss : List StatesValue) → ss ≡ map (states_of profile) (fonts_of cs) →
+pub joined_come : (cs : List Callers) → AreNoted cs → (ss : List StatesValue) → ss ≡ map (states_of profile) (fonts_of cs) →
     (o : Option StatesValue) (v : StatesValue) → o ≡ Some v → IsJoinOf FontStatesJoin (map (λ s. s) ss) (option_map (λ s. s) o) → ComesToStates (fonts_of cs) v
-joined_come [] l n ss is o v e h = absurd (omega arith)
-joined_come (c ∷ cs) l n ss is o v e h =
+joined_come [] n ss is o v e h =
+    absurd (let some = (subst (λ o. IsJoinOf FontStatesJoin (map (λ s. s) ss) (option_map (λ s. s) o)) e h).0 in omega (arith, some, ap length is, ap length (map-id ss)))
+joined_come (c ∷ cs) n ss is o v e h =
     let f = c.font.now in let fs = fonts_of cs in let t = from_left (one f) fs in
     let uses = uses_its (grouped profile t) (map (λ s. s) ss)
     (leaves_mapped (states_of profile) t ∙ ap (map (states_of profile)) (leaves_from_left (one f) fs) ∙ sym (map-id ss ∙ is)) in
@@ -26,11 +27,6 @@ joined_come (c ∷ cs) l n ss is o v e h =
     (r.0, r.1, r.2)
 
 -- ---- the first fonts of a list
-
-states_taken : (cs : List Callers) (n : ℕ) → take n (map (states_of profile) (fonts_of cs)) ≡ map (states_of profile) (fonts_of (take n cs))
-states_taken cs zero = refl
-states_taken [] (suc n) = refl
-states_taken (c ∷ cs) (suc n) = ap (λ (l : List StatesValue). states_of profile c.font.now ∷ l) (states_taken cs n)
 
 noted_taken : (cs : List Callers) → AreNoted cs → (n : ℕ) → AreNoted (take n cs)
 noted_taken cs h zero = tt
@@ -45,9 +41,8 @@ refused_next cs h ss is zero v j next l at r tells = absurd (let some = j.0 in o
 refused_next cs h ss is (suc n) v j next l at r tells =
     let inside : suc n < length cs =
     omega (arith, l, ap length is, length-map (fonts_of cs) (states_of profile), length-map cs (λ (c : Callers). c.font.now)) in
-    let some : 0 < length (take (suc n) cs) = omega (arith, inside, length-take (suc n) cs) in
-    let come = joined_come (take (suc n) cs) some (noted_taken cs h (suc n)) (take (suc n) ss)
-    (ap (take (suc n)) is ∙ states_taken cs (suc n)) (Some v) v refl j in
+    let states = take-map (states_of profile) (suc n) (fonts_of cs) ∙ ap (map (states_of profile)) (take-map (λ (c : Callers). c.font.now) (suc n) cs) in
+    let come = joined_come (take (suc n) cs) (noted_taken cs h (suc n)) (take (suc n) ss) (ap (take (suc n)) is ∙ states) (Some v) v refl j in
     let own = far_by cs h n (omega (arith, inside)) come.0 come.1 in
     let far : JoinedSoFar (take (suc n) cs) v = record { font = come.0; comes = come.1; is_font = own.0; states = come.2; callers = own.1 } in
     let t = turn cs h (suc n) inside in

@@ -18,6 +18,6 @@ returns-in-Some-clause-err c =
 pub returns-clause-ok : goal.returns-clause-ok
 returns-clause-ok c =
     let ss = c.args.states.now in
-    joined_come c.args.callers.now c.requires.some c.requires.noted ss c.requires.states (Some c.in_ok-joined.joined) c.in_ok-joined.joined refl
+    joined_come c.args.callers.now c.requires.noted ss c.requires.states (Some c.in_ok-joined.joined) c.in_ok-joined.joined refl
     (subst (λ (l : List StatesValue). IsJoinOf FontStatesJoin (map (λ s. s) l) (Some c.in_ok-joined.joined)) (take_all c.in_ok-joined.count ss
     c.in-None.ensures.lookup.3) c.in_ok-joined.ensures.joined)
