@@ -79,14 +79,14 @@ abbrev pub without_subrs : FontValue → FontValue
 without_subrs f = record f { subrs = maps.empty }
 
 -- the first part in which the first of some fonts whose shell differs from that of f differs from it, whichever Subrs are present
-abbrev pub shells_differ : FontValue → List FontValue → Option ShellPart
-shells_differ f [] = None
-shells_differ f (g ∷ gs) = found (λ p. p) (shell_conflict (without_subrs f) (without_subrs g)) (shells_differ f gs)
+abbrev pub shell_conflict_among : FontValue → List FontValue → Option ShellPart
+shell_conflict_among f [] = None
+shell_conflict_among f (g ∷ gs) = found (λ p. p) (shell_conflict (without_subrs f) (without_subrs g)) (shell_conflict_among f gs)
 
 -- the same of the fonts of a list and their first
 abbrev pub shells_conflict : List FontValue → Option ShellPart
 shells_conflict [] = None
-shells_conflict (f ∷ fs) = shells_differ f fs
+shells_conflict (f ∷ fs) = shell_conflict_among f fs
 
 -- ---- glyphs and Subrs
 

@@ -11,7 +11,7 @@ use Rattle.t1_font.specs.FontValue.{FontValue}
 use Rattle.t1_font.specs.ReadFont.{read_font_widely}
 use Rattle.t1_font.specs.FontTest.{untested_font}
 use Rattle.t1_document.specs.Documents.{Place, document_of}
-use Rattle.t1_document.specs.Laws.{Spells}
+use Rattle.t1_document.specs.Laws.{SpellsPlace}
 use Rattle.t1_document.proofs.Spelled.{places_spell}
 use Rattle.t1_cmd.specs.declared.faults.Reason.{Reason}
 use Rattle.t1_cmd.specs.Answers.{with_reason, if_there, MayRefuse}
@@ -27,9 +27,9 @@ both_have P [] qs a b = b
 both_have P (p ∷ ps) qs a b = (a.0, both_have P ps qs a.1 b)
 
 -- each place of documents spells a font
-all_spell : (ds : List (List ℕ)) → AllByRecursion Spells (places_of_all ds)
+all_spell : (ds : List (List ℕ)) → AllByRecursion SpellsPlace (places_of_all ds)
 all_spell [] = tt
-all_spell (d ∷ ds) = both_have Spells (document_of d).places (places_of_all ds) (places_spell d) (all_spell ds)
+all_spell (d ∷ ds) = both_have SpellsPlace (document_of d).places (places_of_all ds) (places_spell d) (all_spell ds)
 
 -- what is found among some has what all have
 found_has : (P : Place → Type 0) (test : Place → Bool) (ps : List Place) (p : Place) → AllByRecursion P ps → find test ps ≡ Some p → P p
@@ -68,10 +68,10 @@ first_before name (q ∷ ps) qs p some = by (bytes_eq q.name name) (λ k. first_
 pub read_or_memory : (name : List ℕ) (ds : List (List ℕ)) (p : Place) (r : Reason) → first_named name (places_of_all ds) ≡ Some p →
     MayRefuse (λ a. a ≡ with_reason font_reason (read_font_widely p.text)) r → MayRefuse (ExtractsTo name ds) r
 read_or_memory name ds p r found =
-    let spells = found_has Spells (λ q. bytes_eq q.name name) (places_of_all ds) p (all_spell ds) found in
+    let spells = found_has SpellsPlace (λ q. bytes_eq q.name name) (places_of_all ds) p (all_spell ds) found in
     by_answer (λ a. a ≡ with_reason font_reason (read_font_widely p.text)) (MayRefuse (ExtractsTo name ds)) r tt (λ s h. never s spells h)
   where
-    never : (s : Reason) → Spells p → Err s ≡ with_reason font_reason (read_font_widely p.text) → MayRefuse (ExtractsTo name ds) s
+    never : (s : Reason) → SpellsPlace p → Err s ≡ with_reason font_reason (read_font_widely p.text) → MayRefuse (ExtractsTo name ds) s
     never s spells h = absurd (unread s spells.font (h ∙ ap (λ (x : Result FontValue ReadFault). with_reason font_reason x) spells.spelled))
       where
         unread : (s : Reason) (f : FontValue) → ◌≡◌ {A = Result FontValue Reason} (Err s) (Ok f) → ⊥

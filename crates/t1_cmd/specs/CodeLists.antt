@@ -1,11 +1,11 @@
 -- Lists of codes as the program is given them, such as `65-90,97`.
 use Rattle.std.specs.Prelude.{ℕ, ◌+◌, ◌-◌, ◌==◌, ◌&&◌, nat_le, cond, List, [], ◌∷◌, ◌++◌, length, Option, Some, None, zero, suc, option_and_then}
 use Rattle.std.specs.Option.{option_map}
-use Rattle.t1_join.specs.ListingText.{split_at, digits_after, up_to}
+use Rattle.t1_join.specs.ListingText.{split_at, number_after, up_to}
 
 -- a code in one to three decimal digits
 abbrev pub code_of : List ℕ → Option ℕ
-code_of word = cond (nat_le 1 (length word) && nat_le (length word) 3) (option_and_then (up_to 255) (digits_after 0 word)) None
+code_of word = cond (nat_le 1 (length word) && nat_le (length word) 3) (option_and_then (up_to 255) (number_after 0 word)) None
 
 -- so many codes from one on, upwards
 abbrev pub codes_from : ℕ → ℕ → List ℕ
@@ -42,5 +42,5 @@ codes_in [] = Some []
 codes_in (word ∷ words) = option_and_then (λ ends. option_map (λ more. codes_between ends ++ more) (codes_in words)) (ends_of word)
 
 -- the codes that a list spells, in its order
-abbrev pub codes_of : List ℕ → Option (List ℕ)
-codes_of text = codes_in (words_of text)
+abbrev pub codes_listed : List ℕ → Option (List ℕ)
+codes_listed text = codes_in (words_of text)

@@ -8,7 +8,7 @@ use Rattle.t1_document.specs.declared.joins.Outcome.TheVariants.{Stays}
 use Rattle.t1_document.specs.Lines.{one_text}
 use Rattle.t1_document.specs.Documents.{Place, document_of}
 use Rattle.t1_document.specs.Joins.{Outcomes, AreOutcomes, PooledBy, kept_text, names_from}
-use Rattle.t1_document.specs.Families.{members}
+use Rattle.t1_document.specs.Families.{family_members}
 use Rattle.t1_document.specs.FamilyLaws.{PooledByFamilies}
 use Rattle.t1_cmd.specs.declared.faults.Reason.{Reason}
 use Rattle.t1_cmd.specs.declared.faults.Reason.TheVariants.{TooLong}
@@ -50,4 +50,4 @@ TellsKept ps lines = (outcomes : Outcomes) × AreOutcomes ps outcomes × (lines 
 abbrev pub TellsPooled : Bool → List ℕ → List ℕ → Type 0
 TellsPooled false text lines = TellsKept (document_of text).places lines
 TellsPooled true text lines = (pooled names families : List ℕ) × PooledBy text pooled × TellsKept (document_of text).places names
-    × TellsKept (members (document_of pooled).places) families × (lines ≡ names ++ families)
+    × TellsKept (family_members (document_of pooled).places) families × (lines ≡ names ++ families)

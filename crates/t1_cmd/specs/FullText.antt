@@ -16,28 +16,28 @@ use Rattle.t1_cmd.specs.ListText.{list_lines}
 -- ---- what the dictionary says
 
 -- a word goes on here
-abbrev pub goes_on : List ℕ → Bool
-goes_on [] = false
-goes_on (b ∷ bs) = not (ends_name b)
+abbrev pub name_goes_on : List ℕ → Bool
+name_goes_on [] = false
+name_goes_on (b ∷ bs) = not (ends_name b)
 
 -- what stands behind a key that comes here as a whole word, or else what is found later
 abbrev pub behind_or : Option (List ℕ × List ℕ) → Option (List ℕ) → Option (List ℕ)
-behind_or (Some x) later = if goes_on x.1 then later else Some x.1
+behind_or (Some x) later = if name_goes_on x.1 then later else Some x.1
 behind_or None later = later
 
 -- what stands behind the first place of a key
-abbrev pub behind : List ℕ → List ℕ → Option (List ℕ)
-behind key [] = None
-behind key (b ∷ bs) = behind_or ((fixed key).read (b ∷ bs)) (behind key bs)
+abbrev pub text_behind : List ℕ → List ℕ → Option (List ℕ)
+text_behind key [] = None
+text_behind key (b ∷ bs) = behind_or ((fixed key).read (b ∷ bs)) (text_behind key bs)
 
 -- the first, or else the second
-abbrev pub or_else : Option (List ℕ) → Option (List ℕ) → Option (List ℕ)
-or_else (Some x) other = Some x
-or_else None other = other
+abbrev pub first_some : Option (List ℕ) → Option (List ℕ) → Option (List ℕ)
+first_some (Some x) other = Some x
+first_some None other = other
 
 -- what stands behind a key in the clear text before the Encoding, or else in that behind it
 abbrev pub behind_clear : List ℕ → FontValue → Option (List ℕ)
-behind_clear key f = or_else (behind key f.shell.head) (behind key f.shell.clear_tail)
+behind_clear key f = first_some (text_behind key f.shell.head) (text_behind key f.shell.clear_tail)
 
 -- a byte of a value, as it is printed: white space as a blank, and others as in names
 abbrev pub value_byte : ℕ → List ℕ
@@ -52,13 +52,13 @@ value_text ends (b ∷ bs) = if ends b then [] else value_byte b ++ value_text e
 abbrev pub opens : ℕ → Bool
 opens b = b == 91 || b == 123
 
-abbrev pub closes : ℕ → Bool
-closes b = b == 93 || b == 125
+abbrev pub closes_name : ℕ → Bool
+closes_name b = b == 93 || b == 125
 
 -- a value: what stands within brackets or braces, or behind a slash, or a word
 abbrev pub value_at : List ℕ → List ℕ
 value_at [] = []
-value_at (b ∷ bs) = if opens b then value_text closes bs else if b == 47 then value_text ends_name bs else value_text ends_name (b ∷ bs)
+value_at (b ∷ bs) = if opens b then value_text closes_name bs else if b == 47 then value_text ends_name bs else value_text ends_name (b ∷ bs)
 
 -- a text without the white space at its front
 abbrev pub past_white : List ℕ → List ℕ
@@ -76,7 +76,7 @@ clear_line word key f = value_line word (behind_clear key f)
 
 -- the line of the UniqueID, which may stand in the private text
 abbrev pub unique_line : FontValue → List ℕ
-unique_line f = value_line (codes "unique ") (or_else (behind_clear (codes "/UniqueID") f) (behind (codes "/UniqueID") f.shell.private))
+unique_line f = value_line (codes "unique ") (first_some (behind_clear (codes "/UniqueID") f) (text_behind (codes "/UniqueID") f.shell.private))
 
 -- the font's name, its FontMatrix, its FontBBox and its UniqueID
 abbrev pub dictionary_lines : FontValue → List ℕ

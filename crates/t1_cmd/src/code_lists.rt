@@ -3,7 +3,7 @@ ghost use Rattle.std.specs.Prelude.{◌≡◌, ◌==◌, ◌++◌, position, IfO
 ghost use Rattle.std.specs.Option.{option_map};
 ghost use Rattle.t1_join.specs.ListingText.{split_at};
 ghost use Rattle.t1_join.specs.LineMeaning.{slice_pair};
-ghost use Rattle.t1_cmd.specs.CodeLists.{code_of, codes_between, ends_of, codes_of};
+ghost use Rattle.t1_cmd.specs.CodeLists.{code_of, codes_between, ends_of, codes_listed};
 
 use std::alloc::{AllocError, Global};
 
@@ -71,7 +71,7 @@ fn push_codes(codes: &mut Vec<u8>, first: u8, last: u8) -> Result<(), AllocError
 /// The codes that a list spells, in its order: codes and ranges `FIRST-LAST` with commas between them, each code in one to three
 /// decimal digits and at most 255. It answers `None` if the text is no such list.
 pub fn read_codes(alloc: Global, text: &[u8]) -> Result<Option<Vec<u8>>, AllocError>
-    ensures { IfOk result (λ list. option_map (λ v. v.items) list ≡ codes_of text.now) }
+    ensures { IfOk result (λ list. option_map (λ v. v.items) list ≡ codes_listed text.now) }
 {
     let mut codes = Vec::new(alloc);
     let mut rest = text;

@@ -17,7 +17,7 @@ ghost use Rattle.t1_cmd.specs.Answers.{MayRefuse};
 ghost use Rattle.t1_cmd.specs.Mergers.{inputs_of, InTurns, InputsStop};
 ghost use Rattle.t1_cmd.specs.Documents.{text_input, PooledAs, PoolsTo, kept_line, kept_lines, TellsKept, TellsPooled};
 ghost use Rattle.t1_document.specs.Joins.{PooledBy};
-ghost use Rattle.t1_document.specs.Families.{members};
+ghost use Rattle.t1_document.specs.Families.{family_members};
 ghost use Rattle.t1_document.specs.FamilyLaws.{AliasedBy};
 
 use crate::counting::Counted;
@@ -191,7 +191,7 @@ fn pool_names(alloc: Global, text: &[u8]) -> Result<Pooled, AllocError>
 // A text with one font for each family, and the lines of those that keep their fonts.
 fn pool_families(alloc: Global, text: &[u8]) -> Result<Pooled, AllocError>
     ensures text { IfOk result (λ p. AliasedBy text.now p.text.items) }
-    ensures kept { IfOk result (λ p. TellsKept (members (document_of text.now).places) p.kept.items) }
+    ensures kept { IfOk result (λ p. TellsKept (family_members (document_of text.now).places) p.kept.items) }
 {
     let document = read_document(alloc, text)?;
     let members = members_of(alloc, document.places.as_slice())?;

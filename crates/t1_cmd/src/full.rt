@@ -15,8 +15,8 @@ ghost use Rattle.t1_cmd.specs.Inputs.{input_of};
 ghost use Rattle.t1_cmd.specs.Runs.{RunEnds, Succeeds};
 ghost use Rattle.t1_cmd.specs.Answers.{Prints, MayRefuse};
 ghost use Rattle.t1_cmd.specs.Fonts.{font_input, of_file};
-ghost use Rattle.t1_cmd.specs.FullText.{goes_on, behind_or, behind, behind_clear, value_byte, value_text, opens, closes, value_at, past_white, value_line};
-ghost use Rattle.t1_cmd.specs.FullText.{or_else, clear_line, unique_line, dictionary_lines, width_told, width_line, full_answer};
+ghost use Rattle.t1_cmd.specs.FullText.{name_goes_on, behind_or, text_behind, behind_clear, value_byte, value_text, opens, closes_name, value_at, past_white, value_line};
+ghost use Rattle.t1_cmd.specs.FullText.{first_some, clear_line, unique_line, dictionary_lines, width_told, width_line, full_answer};
 
 use crate::counting::Counted;
 use crate::faults::{Reason, RunFault};
@@ -33,7 +33,7 @@ use t1_font::{Font, Layout, Part, lay_out};
 
 // Whether a word goes on here.
 fn goes_on(text: &[u8]) -> bool
-    ensures { result ≡ goes_on text.now }
+    ensures { result ≡ name_goes_on text.now }
 {
     match text.first() {
         Some(byte) => !ends_word(*byte),
@@ -51,7 +51,7 @@ fn key_at<'a>(key: &[u8], text: &'a [u8]) -> Option<&'a [u8]>
 
 // What stands behind the first place of a key.
 fn behind<'a>(key: &[u8], text: &'a [u8]) -> Option<&'a [u8]>
-    ensures { option_map (λ r. r.now) result ≡ behind key.now text.now }
+    ensures { option_map (λ r. r.now) result ≡ text_behind key.now text.now }
 {
     let mut rest = text;
     'places: while let Some((_, after)) = rest.split_first() {
@@ -86,7 +86,7 @@ fn opens(byte: u8) -> bool
 }
 
 fn closes(byte: u8) -> bool
-    ensures { result ≡ closes byte }
+    ensures { result ≡ closes_name byte }
 {
     byte == b']' || byte == b'}'
 }
@@ -140,7 +140,7 @@ fn push_byte(alloc: Global, out: &mut Vec<u8>, byte: u8) -> Result<(), AllocErro
 
 // The bytes of a value up to a bracket or brace that closes.
 fn push_inside(alloc: Global, out: &mut Vec<u8>, text: &[u8]) -> Result<(), AllocError>
-    ensures { OnOk result (out.new.items ≡ out.old.items ++ value_text closes text.now) }
+    ensures { OnOk result (out.new.items ≡ out.old.items ++ value_text closes_name text.now) }
 {
     'bytes: for byte in text {
         if closes(*byte) {
@@ -200,7 +200,7 @@ fn push_fact(
 // Where a font's UniqueID stands.
 fn unique_id<'a>(font: &Font<'a>) -> Option<&'a [u8]>
     ensures { option_map (λ r. r.now) result
-        ≡ or_else (behind_clear (codes "/UniqueID") font.now) (behind (codes "/UniqueID") font.now.shell.private) }
+        ≡ first_some (behind_clear (codes "/UniqueID") font.now) (text_behind (codes "/UniqueID") font.now.shell.private) }
 {
     match behind_clear(b"/UniqueID", font) {
         Some(found) => Some(found),

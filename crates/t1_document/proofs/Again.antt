@@ -15,8 +15,8 @@ use Rattle.t1_document.specs.declared.rewriting.Way.TheVariants.{Level, Pool}
 use Rattle.t1_document.specs.declared.joins.Outcome.{Outcome}
 use Rattle.t1_document.specs.declared.joins.Outcome.TheVariants.{Same, Joined, Stays}
 use Rattle.t1_document.specs.Documents.{Place, Document, document_bytes, document_of}
-use Rattle.t1_document.specs.Rewriting.{NewTexts, can_stand, is_barred, is_refused, standing, rewritten, levelled, with_new, renewed, ArePooled}
-use Rattle.t1_document.specs.Joins.{Outcomes, AreOutcomes, places_of_all, places_under, fonts_of, new_texts, text_of, ComeTo, OfPlaces, OfFonts, IsSame, PooledBy, LevelsTo}
+use Rattle.t1_document.specs.Rewriting.{NewTexts, can_stand, is_barred, is_refused, standing, document_rewritten, levelled, with_new, renewed, ArePooled}
+use Rattle.t1_document.specs.Joins.{Outcomes, AreOutcomes, places_of_all, places_under, fonts_of_places, new_texts, text_for_places, ComeTo, OfPlaces, OfFonts, IsSame, PooledBy, LevelsTo}
 use Rattle.t1_document.specs.Laws.{HasNew, NoneRefused}
 use Rattle.t1_document.specs.JoinLaws.{NewTextsStand, PooledAgain, LevelledAgain}
 use Rattle.t1_document.proofs.PlaceLemmas.{document_text}
@@ -84,26 +84,26 @@ module _ (name : List ℕ) (p : Place) (ps : List Place) where
   abbrev Stand : List ℕ → Type 0
   Stand text = AllByRecursion (MayHave text) (p ∷ ps)
 
-  of_fonts : (r : Result (List FontValue) ReadFault) (o : Outcome) (text : List ℕ) → OfFonts name (p ∷ ps) r o → text_of o ≡ Some text → Stand text
-  of_fonts (Err fault) o text h e = absurd (none-some text (ap text_of (sym h) ∙ e))
+  of_fonts : (r : Result (List FontValue) ReadFault) (o : Outcome) (text : List ℕ) → OfFonts name (p ∷ ps) r o → text_for_places o ≡ Some text → Stand text
+  of_fonts (Err fault) o text h e = absurd (none-some text (ap text_for_places (sym h) ∙ e))
   of_fonts (Ok fs) (Same t) text h e = absurd h
   of_fonts (Ok fs) (Stays why) text h e = absurd (none-some text e)
   of_fonts (Ok fs) (Joined t) text h e = subst Stand (same_Some t.items text e) (listed_stand t.items (p ∷ ps) h.1)
 
   of_places : (b : Bool) → list_all (λ q. bytes_eq p.text q.text) ps ≡ b → (o : Outcome) (text : List ℕ) → OfPlaces name (p ∷ ps) p.text b o →
-      text_of o ≡ Some text → Stand text
+      text_for_places o ≡ Some text → Stand text
   of_places true all o text h e = subst Stand (same_Some p.text text (sym (same_text p.text o h) ∙ e)) ((λ own. own), same_stand p.text ps all)
-  of_places false all o text h e = of_fonts (fonts_of (p ∷ ps)) o text h e
+  of_places false all o text h e = of_fonts (fonts_of_places (p ∷ ps)) o text h e
 
 -- what the places of a name get can stand at each
 stand_for : (name : List ℕ) (ps : List Place) (o : Option Outcome) → ComeTo name ps o →
-    AllByRecursion (λ p. (text : List ℕ) → option_and_then text_of o ≡ Some text → MayHave text p) ps
+    AllByRecursion (λ p. (text : List ℕ) → option_and_then text_for_places o ≡ Some text → MayHave text p) ps
 stand_for name [] o h = tt
 stand_for name (p ∷ ps) None h = absurd h
 stand_for name (p ∷ ps) (Some o) h = each (p ∷ ps) (λ text e. of_places name p ps (list_all (λ q. bytes_eq p.text q.text) ps) refl o text h e)
   where
-    each : (qs : List Place) → ((text : List ℕ) → text_of o ≡ Some text → AllByRecursion (MayHave text) qs) →
-        AllByRecursion (λ q. (text : List ℕ) → text_of o ≡ Some text → MayHave text q) qs
+    each : (qs : List Place) → ((text : List ℕ) → text_for_places o ≡ Some text → AllByRecursion (MayHave text) qs) →
+        AllByRecursion (λ q. (text : List ℕ) → text_for_places o ≡ Some text → MayHave text q) qs
     each [] k = tt
     each (q ∷ qs) k = (λ text e. (k text e).0, each qs (λ text e. (k text e).1))
 
@@ -164,8 +164,8 @@ have_same text other (p ∷ ps) e h =
 
 -- places of one text get no other
 pub one_had : (name t : List ℕ) (ps : List Place) → HaveText t ps → (o : Option Outcome) (text : List ℕ) → ComeTo name ps o →
-    option_and_then text_of o ≡ Some text → t ≡ text
-one_had name t [] all o text h e = absurd (none-some text (ap (option_and_then text_of) (sym h) ∙ e))
+    option_and_then text_for_places o ≡ Some text → t ≡ text
+one_had name t [] all o text h e = absurd (none-some text (ap (option_and_then text_for_places) (sym h) ∙ e))
 one_had name t (p ∷ ps) all None text h e = absurd h
 one_had name t (p ∷ ps) all (Some o) text h e =
     let same : IsSame p.text o = subst (λ (b : Bool). OfPlaces name (p ∷ ps) p.text b o) (have_same p.text t ps all.0 all.1) h in
@@ -213,7 +213,7 @@ pub were_pooled : (text a : List ℕ) (h : PooledBy text a) → WerePooled (docu
 were_pooled text a h =
     let new = new_texts h.0 in
     let d = document_of text in
-    let left = rewritten Pool new d in
+    let left = document_rewritten Pool new d in
     let read : document_of a ≡ left = ap document_of h.2 ∙ rewritten_is_read Pool new text in
     let stand : standing new d.places ≡ new = all_standing new d.places (unrefused new d.places (all_can_have d.places h.0 (own_texts_stand text) h.1)) in
     let left_are : WerePooled d.places h.0 left.places = record {
@@ -223,7 +223,7 @@ were_pooled text a h =
     subst (λ (x : Document). WerePooled d.places h.0 x.places) (sym read) left_are
 
 -- places that are pooled so stay, with texts that they have
-pub pooled_keeps : (new : NewTexts) (d : Document) → ArePooled (standing new d.places) d.places → rewritten Pool new d ≡ d
+pub pooled_keeps : (new : NewTexts) (d : Document) → ArePooled (standing new d.places) d.places → document_rewritten Pool new d ≡ d
 pooled_keeps new d all =
     pooled_stays d.last (standing new d.places) (standing new d.places) (λ name. refl) [] d.places all (λ name t s e. absurd (true≢false (sym s)))
 

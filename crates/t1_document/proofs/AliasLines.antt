@@ -10,10 +10,10 @@ use Rattle.t1_font.specs.Words.{is_regular, all_regular}
 use Rattle.t1_font.specs.Rewriting.{parted}
 use Rattle.t1_font.specs.Tags.{name_marker, name_in}
 use Rattle.t1_document.specs.declared.marks.Mark.{Mark}
-use Rattle.t1_document.specs.Lines.{closes, lf_comes, ends_line, into_first, lines_of}
+use Rattle.t1_document.specs.Lines.{line_closes, lf_comes, is_line_end, into_first, lines_of}
 use Rattle.t1_document.specs.Marks.{mark_of}
 use Rattle.t1_document.specs.Documents.{Place, document_of}
-use Rattle.t1_document.specs.Laws.{Spells}
+use Rattle.t1_document.specs.Laws.{SpellsPlace}
 use Rattle.t1_document.specs.Families.{alias_line}
 use Rattle.t1_document.proofs.Breaks.{mark_starts}
 use Rattle.t1_document.proofs.Retold.{IsLine, slash_or_percent}
@@ -51,7 +51,7 @@ IsNamed p = IsRegular p.name
 pub places_named : (text : List ℕ) → AllByRecursion IsNamed (document_of text).places
 places_named text = each (document_of text).places (places_spell text)
   where
-    each : (ps : List Place) → AllByRecursion Spells ps → AllByRecursion IsNamed ps
+    each : (ps : List Place) → AllByRecursion SpellsPlace ps → AllByRecursion IsNamed ps
     each [] h = tt
     each (p ∷ ps) h = (name_regular h.0.font.shell.head p.name h.0.named, each ps h.1)
 
@@ -60,9 +60,9 @@ places_named text = each (document_of text).places (places_spell text)
 -- no line ends in a text
 abbrev no_end : List ℕ → Bool
 no_end [] = true
-no_end (b ∷ bs) = not (ends_line b) && no_end bs
+no_end (b ∷ bs) = not (is_line_end b) && no_end bs
 
-regular_ends_no_line : (b : ℕ) → is_regular b ≡ true → not (ends_line b) ≡ true
+regular_ends_no_line : (b : ℕ) → is_regular b ≡ true → not (is_line_end b) ≡ true
 regular_ends_no_line b h = elim (cases_Bool (b == 10)) [
   | inl e ↦ absurd (ten (subst (λ (c : ℕ). is_regular c ≡ true) (eqb-true b 10 e) h))
   | inr e ↦ elim (cases_Bool (b == 13)) [
@@ -86,7 +86,7 @@ regular_ends (b ∷ bs) h =
 no_end-append : (a b : List ℕ) → no_end a ≡ true → no_end b ≡ true → no_end (a ++ b) ≡ true
 no_end-append [] b h k = k
 no_end-append (c ∷ a) b h k =
-    let parts = and_parts (not (ends_line c)) (no_end a) h in
+    let parts = and_parts (not (is_line_end c)) (no_end a) h in
     ap (λ (t : Bool). t && no_end (a ++ b)) parts.0 ∙ no_end-append a b parts.1 k
 
 -- a text in which no line ends is one line with an LF behind it
@@ -94,12 +94,12 @@ whole_line : (u : List ℕ) → no_end u ≡ true → lines_of (u ++ 10 ∷ []) 
 unfolding lines_of
 whole_line [] h = refl
 whole_line (b ∷ bs) h =
-    let parts = and_parts (not (ends_line b)) (no_end bs) h in
+    let parts = and_parts (not (is_line_end b)) (no_end bs) h in
     let rest = bs ++ 10 ∷ [] in
     ap (λ (t : Bool). cond t ((b ∷ []) ∷ lines_of rest) (into_first b (lines_of rest))) (not_closed parts.0 rest)
     ∙ ap (into_first b) (whole_line bs parts.1)
   where
-    not_closed : not (ends_line b) ≡ true → (behind : List ℕ) → closes b behind ≡ false
+    not_closed : not (is_line_end b) ≡ true → (behind : List ℕ) → line_closes b behind ≡ false
     not_closed k behind = elim (cases_Bool (b == 10)) [
       | inl e ↦ absurd (true≢false (sym k ∙ ap (λ (t : Bool). not (t || b == 13)) e))
       | inr e ↦ elim (cases_Bool (b == 13)) [

@@ -12,7 +12,7 @@ use Rattle.t1_document.specs.Documents.{Place, Document, document_bytes, documen
 use Rattle.t1_document.specs.Rewriting.{NewTexts, is_seen, Fate, Becomes, Gives}
 use Rattle.t1_document.specs.Joins.{Outcomes, new_texts, places_under}
 use Rattle.t1_document.specs.Families.{family, has_several, can_lead, leader_by, leader_in, if_leads, led_by, Led, names_behind}
-use Rattle.t1_document.specs.Families.{led_from, with_leaders, with_member, members_of, members, alias_line, fate_under, fate_led, led_fate, aliased}
+use Rattle.t1_document.specs.Families.{led_from, with_leaders, with_member, members_of, family_members, alias_line, fate_under, fate_led, led_fate, aliased}
 use Rattle.t1_document.specs.FamilyLaws.{AreOfFamilies, AliasedBy, AliasedIsRead, AliasedMarksStay, AliasedOthersStay, AliasesDraw, OneAliased, OneByFamilies}
 use Rattle.t1_document.proofs.Retold.{Fits, fated_by, AllFit}
 use Rattle.t1_document.proofs.Rewritten.{document_is, lines_stay, fated_is, fated_written}
@@ -174,7 +174,7 @@ module _ (text : List ℕ) (outcomes : Outcomes) (are : AreOfFamilies text outco
       (all_fitted new (with_leaders d.places)
       (led_holds IsRegular d.places (places_named text) [] d.places (places_named text))
       (each_led Own (has_several d.places) (leader_in d.places) [] d.places (own_texts_stand text))
-      (each_member (May new) (with_leaders d.places) (all_may_have (members d.places) outcomes are))))
+      (each_member (May new) (with_leaders d.places) (all_may_have (family_members d.places) outcomes are))))
 
   is_read : document_of (document_bytes (aliased new d)) ≡ aliased new d
   is_read = ap (λ (x : Document). document_of (document_bytes x)) aliased_is ∙ (document_is (fates_of new d) text each_fits ∙ sym aliased_is)
@@ -211,17 +211,17 @@ aliases_draw text bytes outcomes are leader new e =
     let ps = (document_of text).places in
     let sound = places_sound text bytes in
     let names = names_bytes ps sound in
-    let all : AllByRecursion IsSound (members ps) =
+    let all : AllByRecursion IsSound (family_members ps) =
     from_members IsSound (with_leaders ps)
     (members_sound (with_leaders ps) (led_holds AreBytes ps names [] ps names) (each_led IsSound (has_several ps) (leader_in ps) [] ps sound)) in
-    come_to leader (places_under leader (members ps)) (sound_under leader (members ps) all) (outcomes leader) new (are leader) e
+    come_to leader (places_under leader (family_members ps)) (sound_under leader (family_members ps) all) (outcomes leader) new (are leader) e
 
 -- ---- one result
 
 pub one_aliased : OneAliased
 one_aliased text a b h k =
     let d = document_of text in
-    let same : new_texts h.0 ≡ new_texts k.0 = λ i name. one_outcome (members d.places) h.0 k.0 h.1 k.1 name i in
+    let same : new_texts h.0 ≡ new_texts k.0 = λ i name. one_outcome (family_members d.places) h.0 k.0 h.1 k.1 name i in
     h.2 ∙ (ap (λ (new : NewTexts). document_bytes (aliased new d)) same ∙ sym k.2)
 
 pub one_by_families : OneByFamilies

@@ -7,9 +7,9 @@ use Rattle.std.proofs.lemmas.Option.{none-some}
 use Rattle.t1_document.specs.declared.rewriting.Way.TheVariants.{Pool}
 use Rattle.t1_document.specs.declared.joins.Outcome.{Outcome}
 use Rattle.t1_document.specs.Documents.{Place, Document, document_bytes, document_of}
-use Rattle.t1_document.specs.Rewriting.{NewTexts, is_refused, standing, rewritten, ArePooled}
-use Rattle.t1_document.specs.Joins.{Outcomes, AreOutcomes, places_under, new_texts, text_of, ComeTo, OfPlaces}
-use Rattle.t1_document.specs.Families.{has_several, with_leaders, members, aliased}
+use Rattle.t1_document.specs.Rewriting.{NewTexts, is_refused, standing, document_rewritten, ArePooled}
+use Rattle.t1_document.specs.Joins.{Outcomes, AreOutcomes, places_under, new_texts, text_for_places, ComeTo, OfPlaces}
+use Rattle.t1_document.specs.Families.{has_several, with_leaders, family_members, aliased}
 use Rattle.t1_document.specs.FamilyLaws.{AliasedBy, FamiliesAgain}
 use Rattle.t1_document.proofs.PlaceLemmas.{document_text}
 use Rattle.t1_document.proofs.Rewritten.{where_stands}
@@ -24,7 +24,7 @@ use Rattle.t1_document.proofs.LeftPooled.{HaveAll, all_pooled}
 
 -- places of one text get it
 gets_own : (name text : List ℕ) (p : Place) (ps : List Place) → HaveText text (p ∷ ps) → (o : Option Outcome) → ComeTo name (p ∷ ps) o →
-    option_and_then text_of o ≡ Some p.text
+    option_and_then text_for_places o ≡ Some p.text
 gets_own name text p ps all None h = absurd h
 gets_own name text p ps all (Some o) h =
     same_text p.text o (subst (λ (b : Bool). OfPlaces name (p ∷ ps) p.text b o) (have_same p.text text ps all.0 all.1) h)
@@ -119,11 +119,11 @@ families_again text a b (before, before_by, first) (between, between_by, second)
     let gets = new_texts between_by.0 in
     let pooled : ArePooled gets e.places =
     left_pooled d.places all e.places before_by.0 before_by.1 (were_pooled text before before_by) new left between_by.0 between_by.1 in
-    let stays : rewritten Pool gets e ≡ e =
+    let stays : document_rewritten Pool gets e ≡ e =
     pooled_keeps gets e (pooled_by_fewer gets (standing gets e.places)
     (λ name t s. (where_stands (is_refused gets e.places name) (gets name) t s).1) e.places pooled) in
     let same : between ≡ a = between_by.2 ∙ (ap document_bytes stays ∙ document_text a) in
     let then : AliasedBy a b = subst (λ (t : List ℕ). AliasedBy t b) same second in
-    let inside = among (members all) (members e.places) first.0 then.0 first.1 then.1 (all_members_have all new e.places left)
+    let inside = among (family_members all) (family_members e.places) first.0 then.0 first.1 then.1 (all_members_have all new e.places left)
     (members_stay all new e.places left) in
     then.2 ∙ (ap document_bytes (aliased_stays all new e.places left (new_texts then.0) inside e.last) ∙ document_text a)

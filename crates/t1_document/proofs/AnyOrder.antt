@@ -22,7 +22,7 @@ use Rattle.t1_font.specs.Cut.{stub}
 use Rattle.t1_font.specs.Maps.{merged}
 use Rattle.t1_font.specs.ReadFont.{read_font_widely}
 use Rattle.t1_font.specs.FontBoxes.{Box, box_of, joined_box, can_have, font_with, boxes_of, boxed_by, boxed}
-use Rattle.t1_font.specs.Evening.{even, stubs_at, below, with_stubs, filled, largest_count, indices_of_all, each_even, evened_shells, filled_all}
+use Rattle.t1_font.specs.Evening.{even, stubs_at, below_count, with_stubs, filled, largest_count, indices_of_all, each_even, evened_shells, filled_all}
 use Rattle.t1_font.specs.FontNames.{named, evened_named}
 use Rattle.t1_font.proofs.even_fonts.BoxOrder.{in_any_order}
 use Rattle.t1_font.proofs.even_fonts.Filled.{find_stub}
@@ -37,7 +37,7 @@ use Rattle.t1_document.specs.declared.joins.Outcome.{Outcome}
 use Rattle.t1_document.specs.declared.joins.Outcome.TheVariants.{Same, Joined, Stays}
 use Rattle.t1_document.specs.Documents.{Place, document_of}
 use Rattle.t1_document.specs.Rewriting.{can_stand}
-use Rattle.t1_document.specs.Joins.{places_of_all, places_under, fonts_of, with_font, new_texts, text_of, ComeTo, OfPlaces, OfFonts, IsSame}
+use Rattle.t1_document.specs.Joins.{places_of_all, places_under, fonts_of_places, with_font, new_texts, text_for_places, ComeTo, OfPlaces, OfFonts, IsSame}
 use Rattle.t1_document.specs.JoinLaws.{InAnyOrder}
 use Rattle.t1_document.proofs.Exchanges.{Exchanged, exchanged_first, in_each_order, flat_in_order, filter_in_order, all_in_order}
 use Rattle.t1_document.proofs.Drawn.{shells_are_fonts, each_filled, each_named}
@@ -160,12 +160,12 @@ stubs_in_order is js moved = same_map nat_cmp_total nat_cmp-IsAntisymmetric _ _ 
 filled_same : (is js : List ℕ) → IsPermutation is js → (f : FontValue) → filled is f ≡ filled js f
 filled_same is js moved f =
     let n = declared_count f.shell.subrs in
-    let same : stubs_at (below n is) ≡ stubs_at (below n js) =
-    stubs_in_order (below n is) (below n js) (filter_in_order (λ i. nat_lt i n) is js moved) in
+    let same : stubs_at (below_count n is) ≡ stubs_at (below_count n js) =
+    stubs_in_order (below_count n is) (below_count n js) (filter_in_order (λ i. nat_lt i n) is js moved) in
     λ k. record { shell = f.shell; encoding = f.encoding; subrs = by_entries (maps.entries f.subrs) same k; glyphs = f.glyphs }
   where
-    by_entries : (es : List (ℕ × List ℕ)) → stubs_at (below (declared_count f.shell.subrs) is) ≡ stubs_at (below (declared_count f.shell.subrs) js) →
-        with_stubs (below (declared_count f.shell.subrs) is) f.subrs es ≡ with_stubs (below (declared_count f.shell.subrs) js) f.subrs es
+    by_entries : (es : List (ℕ × List ℕ)) → stubs_at (below_count (declared_count f.shell.subrs) is) ≡ stubs_at (below_count (declared_count f.shell.subrs) js) →
+        with_stubs (below_count (declared_count f.shell.subrs) is) f.subrs es ≡ with_stubs (below_count (declared_count f.shell.subrs) js) f.subrs es
     by_entries [] same = refl
     by_entries (e ∷ es) same = ap (merged f.subrs) same
 
@@ -257,7 +257,7 @@ fonts_are [] (f ∷ fs) h = absurd h
 fonts_are (p ∷ ps) [] h = absurd h
 fonts_are (p ∷ ps) (f ∷ fs) h = λ k. listed (sym h.0 k) ++ fonts_are ps fs h.1 k
 
-spelled_fonts : (name : List ℕ) (ps : List Place) → AllByRecursion (IsUnder name) ps → fonts_of ps ≡ Ok (all_fonts ps)
+spelled_fonts : (name : List ℕ) (ps : List Place) → AllByRecursion (IsUnder name) ps → fonts_of_places ps ≡ Ok (all_fonts ps)
 spelled_fonts name [] u = refl
 spelled_fonts name (p ∷ ps) u =
     let e = u.0.0.spelled in
@@ -267,7 +267,7 @@ spelled_fonts name (p ∷ ps) u =
 
 -- the places of the name get this text
 abbrev Gets : List ℕ → List Place → List ℕ → Type 0
-Gets name ps text = (o : Outcome) × ComeTo name ps (Some o) × (text_of o ≡ Some text)
+Gets name ps text = (o : Outcome) × ComeTo name ps (Some o) × (text_for_places o ≡ Some text)
 
 have_of : (text : List ℕ) (ps : List Place) → list_all (λ q. bytes_eq text q.text) ps ≡ true → HaveText text ps
 have_of text [] h = tt
@@ -280,7 +280,7 @@ module _ (name : List ℕ) (p q : Place) (ps qs : List Place) (moved : IsPermuta
   abbrev all_same : Bool
   all_same = list_all (λ r. bytes_eq p.text r.text) ps
 
-  same_there : (o : Outcome) (text : List ℕ) → all_same ≡ true → IsSame p.text o → text_of o ≡ Some text → Gets name (q ∷ qs) text
+  same_there : (o : Outcome) (text : List ℕ) → all_same ≡ true → IsSame p.text o → text_for_places o ≡ Some text → Gets name (q ∷ qs) text
   same_there o text t h e =
       let have : HaveText p.text (q ∷ qs) = all_in_order (λ r. r.text ≡ p.text) (p ∷ ps) (q ∷ qs) moved (refl, have_of p.text ps t) in
       let test : list_all (λ r. bytes_eq q.text r.text) qs ≡ true = have_same q.text p.text qs have.0 have.1 in (
@@ -300,9 +300,9 @@ module _ (name : List ℕ) (p q : Place) (ps qs : List Place) (moved : IsPermuta
           all_in_order (λ r. r.text ≡ q.text) (q ∷ qs) (p ∷ ps) (IsPermutation-sym (p ∷ ps) (q ∷ qs) moved) (refl, have_of q.text qs e) in
           absurd (true≢false (sym (have_same p.text q.text ps have.0 have.1) ∙ t))
 
-  joined_there : (r : Result (List FontValue) ReadFault) → fonts_of (p ∷ ps) ≡ r → (o : Outcome) (text : List ℕ) → all_same ≡ false →
-      OfFonts name (p ∷ ps) r o → text_of o ≡ Some text → Gets name (q ∷ qs) text
-  joined_there (Err fault) k o text t h e = absurd (none-some text (ap text_of (sym h) ∙ e))
+  joined_there : (r : Result (List FontValue) ReadFault) → fonts_of_places (p ∷ ps) ≡ r → (o : Outcome) (text : List ℕ) → all_same ≡ false →
+      OfFonts name (p ∷ ps) r o → text_for_places o ≡ Some text → Gets name (q ∷ qs) text
+  joined_there (Err fault) k o text t h e = absurd (none-some text (ap text_for_places (sym h) ∙ e))
   joined_there (Ok fs) k (Same x) text t h e = absurd h
   joined_there (Ok fs) k (Stays why) text t h e = absurd (none-some text e)
   joined_there (Ok fs) k (Joined x) text t h e =
@@ -320,10 +320,10 @@ module _ (name : List ℕ) (p q : Place) (ps qs : List Place) (moved : IsPermuta
         e,
       )
 
-  by_places : (b : Bool) → all_same ≡ b → (o : Outcome) (text : List ℕ) → OfPlaces name (p ∷ ps) p.text b o → text_of o ≡ Some text →
+  by_places : (b : Bool) → all_same ≡ b → (o : Outcome) (text : List ℕ) → OfPlaces name (p ∷ ps) p.text b o → text_for_places o ≡ Some text →
       Gets name (q ∷ qs) text
   by_places true t o text h e = same_there o text t h e
-  by_places false t o text h e = joined_there (fonts_of (p ∷ ps)) refl o text t h e
+  by_places false t o text h e = joined_there (fonts_of_places (p ∷ ps)) refl o text t h e
 
 gets_in_order : (name : List ℕ) (ps qs : List Place) (text : List ℕ) → IsPermutation ps qs → AllByRecursion (IsUnder name) ps → Gets name ps text →
     Gets name qs text
@@ -334,13 +334,13 @@ gets_in_order name (p ∷ ps) (q ∷ qs) text moved u (o, h, e) =
     by_places name p q ps qs moved u v (list_all (λ r. bytes_eq p.text r.text) ps) refl o text h e
 
 -- if there is a text it is that of an outcome
-gets_of : (name : List ℕ) (ps : List Place) (o : Option Outcome) (text : List ℕ) → ComeTo name ps o → option_and_then text_of o ≡ Some text → Gets name ps text
+gets_of : (name : List ℕ) (ps : List Place) (o : Option Outcome) (text : List ℕ) → ComeTo name ps o → option_and_then text_for_places o ≡ Some text → Gets name ps text
 gets_of name ps None text h e = absurd (none-some text e)
 gets_of name ps (Some o) text h e = (o, h, e)
 
 -- what one list of places gets the other gets
 one_way : (name : List ℕ) (ps qs : List Place) (a b : Option Outcome) (text : List ℕ) → IsPermutation ps qs → AllByRecursion (IsUnder name) ps →
-    ComeTo name ps a → ComeTo name qs b → option_and_then text_of a ≡ Some text → option_and_then text_of b ≡ Some text
+    ComeTo name ps a → ComeTo name qs b → option_and_then text_for_places a ≡ Some text → option_and_then text_for_places b ≡ Some text
 one_way name ps qs a b text moved u h k e =
     let g = gets_in_order name ps qs text moved u (gets_of name ps a text h e) in
     one_text_for name qs b (Some g.0) k g.1 ∙ g.2

@@ -12,10 +12,10 @@ use Rattle.t1_document.specs.declared.joins.Outcome.{Outcome}
 use Rattle.t1_document.specs.declared.joins.Outcome.TheVariants.{Same, Joined, Stays}
 use Rattle.t1_document.specs.Documents.{Place}
 use Rattle.t1_document.specs.Rewriting.{can_stand}
-use Rattle.t1_document.specs.Joins.{fonts_of, with_font, ComeTo, OfPlaces, OfFonts, OfEvened}
+use Rattle.t1_document.specs.Joins.{fonts_of_places, with_font, ComeTo, OfPlaces, OfFonts, OfEvened}
 use Rattle.t1_document.proofs.Pooled.{bare}
 
-fonts_bare : (ps : List Place) → fonts_of (map bare ps) ≡ fonts_of ps
+fonts_bare : (ps : List Place) → fonts_of_places (map bare ps) ≡ fonts_of_places ps
 fonts_bare [] = refl
 fonts_bare (p ∷ ps) = ap (with_font (read_font_widely p.text)) (fonts_bare ps)
 
@@ -42,7 +42,7 @@ places_to : (name : List ℕ) (ps : List Place) (text : List ℕ) (same : Bool) 
     OfPlaces name (map bare ps) text same o
 places_to name ps text true o h = h
 places_to name ps text false o h =
-    subst (λ (r : Result (List FontValue) ReadFault). OfFonts name (map bare ps) r o) (sym (fonts_bare ps)) (fonts_to name ps (fonts_of ps) o h)
+    subst (λ (r : Result (List FontValue) ReadFault). OfFonts name (map bare ps) r o) (sym (fonts_bare ps)) (fonts_to name ps (fonts_of_places ps) o h)
 
 -- places come to the same without the bytes before them
 pub to_bare : (name : List ℕ) (ps : List Place) (o : Option Outcome) → ComeTo name ps o → ComeTo name (map bare ps) o
@@ -69,7 +69,7 @@ places_from : (name : List ℕ) (ps : List Place) (text : List ℕ) (same : Bool
     OfPlaces name ps text same o
 places_from name ps text true o h = h
 places_from name ps text false o h =
-    fonts_from name ps (fonts_of ps) o (subst (λ (r : Result (List FontValue) ReadFault). OfFonts name (map bare ps) r o) (fonts_bare ps) h)
+    fonts_from name ps (fonts_of_places ps) o (subst (λ (r : Result (List FontValue) ReadFault). OfFonts name (map bare ps) r o) (fonts_bare ps) h)
 
 from_bare : (name : List ℕ) (ps : List Place) (o : Option Outcome) → ComeTo name (map bare ps) o → ComeTo name ps o
 from_bare name [] o h = h

@@ -8,7 +8,7 @@ use Rattle.t1_document.specs.declared.marks.Side.{Side}
 use Rattle.t1_document.specs.declared.marks.Side.TheVariants.{Begin, End}
 use Rattle.t1_document.specs.declared.marks.Mark.{Mark}
 use Rattle.t1_document.specs.Lines.{breaks}
-use Rattle.t1_document.specs.Marks.{marked, mark_of}
+use Rattle.t1_document.specs.Marks.{mark_behind, mark_of}
 use Rattle.t1_document.proofs.FontLemmas.{fixed_is}
 
 -- two texts begin with the same byte, or both are empty
@@ -56,7 +56,7 @@ ends_again old new (r ∷ rest) front b bs e h =
 
 -- ---- marks
 
-marked_read : (side : Side) (o : Option (List ℕ × List ℕ)) (m : Mark) → marked side o ≡ Some m → (x : List ℕ × List ℕ) × (o ≡ Some x)
+marked_read : (side : Side) (o : Option (List ℕ × List ℕ)) (m : Mark) → mark_behind side o ≡ Some m → (x : List ℕ × List ℕ) × (o ≡ Some x)
 marked_read side None m e = absurd (none-some m e)
 marked_read side (Some x) m e = (x, refl)
 
@@ -68,7 +68,7 @@ begun w line x e =
 -- the line of a mark begins with `%`
 pub mark_starts : (line : List ℕ) (m : Mark) → mark_of line ≡ Some m → (inner : List ℕ) × (line ≡ 37 ∷ inner)
 unfolding mark_of
-mark_starts line m e = elim (choice_some (marked Begin ((fixed (codes "%%Begin")).read line)) (marked End ((fixed (codes "%%End")).read line)) m e) [
+mark_starts line m e = elim (choice_some (mark_behind Begin ((fixed (codes "%%Begin")).read line)) (mark_behind End ((fixed (codes "%%End")).read line)) m e) [
   | inl h ↦ let x = marked_read Begin ((fixed (codes "%%Begin")).read line) m h in (codes "%Begin" ++ x.0.1, begun (codes "%%Begin") line x.0 x.1)
   | inr h ↦ let x = marked_read End ((fixed (codes "%%End")).read line) m h.1 in (codes "%End" ++ x.0.1, begun (codes "%%End") line x.0 x.1)
 ]

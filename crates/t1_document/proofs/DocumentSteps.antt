@@ -5,8 +5,8 @@ use Rattle.t1_document.specs.declared.marks.Side.{Side}
 use Rattle.t1_document.specs.declared.marks.Side.TheVariants.{Begin, End}
 use Rattle.t1_document.specs.declared.marks.Open.{Open}
 use Rattle.t1_document.specs.Lines.{line_of}
-use Rattle.t1_document.specs.Marks.{mark_of, counted, holds_data, is_document}
-use Rattle.t1_document.specs.Stretches.{Stretch, Stretches, stretches, bytes_of}
+use Rattle.t1_document.specs.Marks.{mark_of, open_count, holds_data, is_document}
+use Rattle.t1_document.specs.Stretches.{Stretch, Stretches, stretches, stretches_bytes}
 use Rattle.t1_document.specs.Documents.{Place, Document, none_open, open_behind, next_mark, place_at, prepended, at_stretch, document_from, document_of}
 use Rattle.t1_document.proofs.StretchLemmas.{no_more, no_stretches, front_whole, behind_front}
 
@@ -57,7 +57,7 @@ walk_starts text rest e =
     }
   where
     front : take (length (stretches text).0) text ≡ (stretches text).0
-    front = ap (take (length (stretches text).0)) (front_whole text) ∙ take_at (stretches text).0 (bytes_of (stretches text).1) _ refl
+    front = ap (take (length (stretches text).0)) (front_whole text) ∙ take_at (stretches text).0 (stretches_bytes (stretches text).1) _ refl
 
 -- what is known of the stretch that comes next
 pub record Comes (rest behind : List ℕ) (s : Stretch) : Type 0 where
@@ -66,11 +66,11 @@ pub record Comes (rest behind : List ℕ) (s : Stretch) : Type 0 where
   pub none : (stretches behind).0 ≡ []
   pub shorter : length behind < length rest
 
-counted_le : (side : Side) (n : ℕ) → counted side n ≤ n + 1
+counted_le : (side : Side) (n : ℕ) → open_count side n ≤ n + 1
 counted_le Begin n = omega arith
 counted_le End n = omega arith
 
-if_le : (b : Bool) (side : Side) (n : ℕ) → cond b (counted side n) n ≤ n + 1
+if_le : (b : Bool) (side : Side) (n : ℕ) → cond b (open_count side n) n ≤ n + 1
 if_le true side n = counted_le side n
 if_le false side n = omega arith
 

@@ -6,7 +6,7 @@ use Rattle.t1_font.specs.Tags.{tag, behind_tags}
 use Rattle.t1_document.specs.declared.marks.Kind.TheVariants.{Font}
 use Rattle.t1_document.specs.Documents.{Place}
 use Rattle.t1_document.specs.Rewriting.{NewTexts, fated_bytes}
-use Rattle.t1_document.specs.Families.{family, led_from, with_leaders, members, led_fate}
+use Rattle.t1_document.specs.Families.{family, led_from, with_leaders, family_members, led_fate}
 
 -- ---- families
 
@@ -69,7 +69,7 @@ unfolding fated_bytes led_from behind_tags tag
 other_leader = refl
 
 -- who takes part does so under the leader's name
-under_the_leader : members (place_in 0 a (codes "1") ∷ place_in 0 (codes "Y") (codes "2") ∷ place_in 0 g (codes "3") ∷ [])
+under_the_leader : family_members (place_in 0 a (codes "1") ∷ place_in 0 (codes "Y") (codes "2") ∷ place_in 0 g (codes "3") ∷ [])
     ≡ place_in 0 a (codes "1") ∷ place_in 0 (codes "Y") (codes "2") ∷ place_in 0 a (codes "3") ∷ []
 unfolding led_from behind_tags tag
 under_the_leader = refl

@@ -4,7 +4,7 @@ use Rattle.std.proofs.lemmas.List.{take_at, take-append-drop, length-append, len
 use Rattle.t1_document.specs.declared.marks.Mark.{Mark}
 use Rattle.t1_document.specs.Lines.{lines_of, line_len, line_of}
 use Rattle.t1_document.specs.Marks.{mark_of}
-use Rattle.t1_document.specs.Stretches.{Stretches, stretches, bytes_of}
+use Rattle.t1_document.specs.Stretches.{Stretches, stretches, stretches_bytes}
 use Rattle.t1_document.proofs.LineLemmas.{line_within, line_has}
 use Rattle.t1_document.proofs.StretchLemmas.{past_line, at_mark, mark_has, front_whole, behind_front}
 
@@ -80,7 +80,7 @@ stretch_first bytes line rest text behind m parts mark front back =
     let is : mark_of (line_of bytes).0 ≡ Some m = ap mark_of (sym at) ∙ mark in
     let has : 0 < length bytes = mark_has bytes m is in
     let own : text ≡ (stretches rest).0 =
-    front ∙ (ap (take (length (stretches rest).0)) (front_whole rest) ∙ take_at (stretches rest).0 (bytes_of (stretches rest).1) _ refl) in
+    front ∙ (ap (take (length (stretches rest).0)) (front_whole rest) ∙ take_at (stretches rest).0 (stretches_bytes (stretches rest).1) _ refl) in
     let left : stretches behind ≡ ([], (stretches rest).1) = ap stretches back ∙ behind_front rest in
     let whole : stretches bytes ≡ ([], record { mark = m; line = line; text = (stretches rest).0 } ∷ (stretches rest).1) =
     at_mark bytes has m is ∙ rw (at, after) refl in

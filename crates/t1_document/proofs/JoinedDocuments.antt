@@ -9,7 +9,7 @@ use Rattle.t1_document.specs.Lines.{lines_of, breaks}
 use Rattle.t1_document.specs.Marks.{mark_of, holds_fonts, same_kind}
 use Rattle.t1_document.specs.Stretches.{Stretch, Stretches, at_line, gathered, stretches}
 use Rattle.t1_document.specs.Fonts.{font_in}
-use Rattle.t1_document.specs.Documents.{Place, Document, none_open, open_behind, begins, ends, next_mark, placed, place_at, prepended}
+use Rattle.t1_document.specs.Documents.{Place, Document, none_open, open_behind, begins_part, ends_part, next_mark, place_with, place_at, prepended}
 use Rattle.t1_document.specs.Documents.{at_stretch, document_from, document_of_stretches, document_of, open_at_end, ends_in_part, IsClosed, followed}
 use Rattle.t1_document.proofs.LineLemmas.{lines_apart}
 use Rattle.t1_document.proofs.DocumentSteps.{prepended-prepended}
@@ -60,10 +60,10 @@ stretch_followed s None d e = prepended_followed (s.line ++ s.text) d e
 stretch_followed s (Some p) d e = refl
 
 -- a stretch that begins no part is no place
-begins_no_place : (o : Open) (s : Stretch) (next : Option Mark) → (begins s.mark.side && holds_fonts s.mark.kind) ≡ false → place_at o s next ≡ None
+begins_no_place : (o : Open) (s : Stretch) (next : Option Mark) → (begins_part s.mark.side && holds_fonts s.mark.kind) ≡ false → place_at o s next ≡ None
 begins_no_place o s None h = refl
 begins_no_place o s (Some next) h =
-    ap (λ (b : Bool). cond (b && ends next.side && same_kind s.mark.kind next.kind && (o.raw == 0)) (option_map (placed o s) (font_in s.text)) None) h
+    ap (λ (b : Bool). cond (b && ends_part next.side && same_kind s.mark.kind next.kind && (o.raw == 0)) (option_map (place_with o s) (font_in s.text)) None) h
 
 next_glued : (u : Stretch) (us : List Stretch) (y : Stretches) → next_mark (glue u us y) ≡ Some u.mark
 unfolding glue

@@ -12,7 +12,7 @@ use Rattle.t1_document.specs.Documents.{Place, Document, behind_bytes}
 use Rattle.t1_document.specs.Rewriting.{NewTexts, is_seen, Becomes, Gives, at_fate, fated}
 use Rattle.t1_document.specs.Joins.{places_under}
 use Rattle.t1_document.specs.Families.{family, has_several, can_lead, leader_by, leader_in, if_leads, led_by, Led, names_behind}
-use Rattle.t1_document.specs.Families.{led_from, with_leaders, with_member, members_of, members, aliased, alias_line, fate_under, fate_led, led_fate}
+use Rattle.t1_document.specs.Families.{led_from, with_leaders, with_member, members_of, family_members, aliased, alias_line, fate_under, fate_led, led_fate}
 use Rattle.t1_document.proofs.SettledNames.{skipped, both_under, text_under, text_over, text_bare, settled_have, have_settled}
 use Rattle.t1_document.proofs.Rewritten.{same_bytes}
 use Rattle.t1_document.proofs.Pooled.{bare, other_text}
@@ -461,7 +461,7 @@ module _ (all : List Place) (new : NewTexts) where
             ∙ ap (map bare) (sym (member_apart name none p (led_by several leader (is_seen seen) p.name) l text (taking (names_behind p seen) ps) leads n))
 
     pub members_stay : (name : List ℕ) → new name ≡ None →
-        map bare (places_under name (members qs)) ≡ map bare (places_under name (members all))
+        map bare (places_under name (family_members qs)) ≡ map bare (places_under name (family_members all))
     members_stay name none =
         ap (λ (s : List ℕ → Bool). map bare (places_under name (members_of (led_from s (leader_in qs) [] qs)))) (λ i n. several_same n i)
         ∙ (ap (λ (g : List ℕ → Option (List ℕ)). map bare (places_under name (members_of (led_from several g [] qs)))) (λ i n. leaders_same n i)
@@ -483,7 +483,7 @@ module _ (all : List Place) (new : NewTexts) where
               | inr has ↦ same_Some y.place.text text (sym has.1 ∙ new_here)
             ]) more
 
-    pub all_members_have : (name text : List ℕ) → new name ≡ Some text → HaveText text (places_under name (members qs))
+    pub all_members_have : (name text : List ℕ) → new name ≡ Some text → HaveText text (places_under name (family_members qs))
     all_members_have = members_have (with_leaders qs) all_kept
 
     -- ---- they stay

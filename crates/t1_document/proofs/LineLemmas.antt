@@ -4,7 +4,7 @@ use Rattle.std.specs.Prelude.{◌||◌, ◌==◌, not}
 use Rattle.std.specs.List.{concat, prefix_len}
 use Rattle.std.proofs.lemmas.Bool.{cases_Bool, eqb-true}
 use Rattle.std.proofs.lemmas.List.{append-nil}
-use Rattle.t1_document.specs.Lines.{lf_comes, closes, into_first, lines_of, line_len, ends_line, end_len, is_nil, breaks}
+use Rattle.t1_document.specs.Lines.{lf_comes, line_closes, into_first, lines_of, line_len, is_line_end, end_len, no_bytes, breaks}
 
 concat_into : (b : ℕ) (ls : List (List ℕ)) → concat (into_first b ls) ≡ b ∷ concat ls
 concat_into b [] = refl
@@ -14,7 +14,7 @@ concat_into b (l ∷ ls) = refl
 pub lines_joined : (t : List ℕ) → concat (lines_of t) ≡ t
 unfolding lines_of
 lines_joined [] = refl
-lines_joined (b ∷ bs) = elim (cases_Bool (closes b bs)) [
+lines_joined (b ∷ bs) = elim (cases_Bool (line_closes b bs)) [
   | inl e ↦ rw e (ap (λ (t : List ℕ). b ∷ t) (lines_joined bs))
   | inr e ↦ rw (e, concat_into b (lines_of bs)) (ap (λ (t : List ℕ). b ∷ t) (lines_joined bs))
 ]
@@ -23,7 +23,7 @@ lines_joined (b ∷ bs) = elim (cases_Bool (closes b bs)) [
 
 one_byte : (b : ℕ) → lines_of (b ∷ []) ≡ (b ∷ []) ∷ []
 unfolding lines_of
-one_byte b = elim (cases_Bool (closes b [])) [
+one_byte b = elim (cases_Bool (line_closes b [])) [
   | inl e ↦ rw e refl
   | inr e ↦ rw e refl
 ]
@@ -31,7 +31,7 @@ one_byte b = elim (cases_Bool (closes b [])) [
 -- a text that has bytes has lines
 pub some_lines : (b : ℕ) (bs : List ℕ) → (line : List ℕ) × (lines : List (List ℕ)) × (lines_of (b ∷ bs) ≡ line ∷ lines)
 unfolding lines_of
-some_lines b bs = elim (cases_Bool (closes b bs)) [
+some_lines b bs = elim (cases_Bool (line_closes b bs)) [
   | inl e ↦ (b ∷ [], lines_of bs, rw e refl)
   | inr e ↦ let some : (l : List ℕ) × (ls : List (List ℕ)) × (into_first b (lines_of bs) ≡ l ∷ ls) = into_some (lines_of bs) in (some.0, some.1, rw e some.2)
 ]
@@ -52,7 +52,7 @@ lines_apart (x ∷ []) (y ∷ b) h = rw (h, one_byte x) refl
 lines_apart (x ∷ y ∷ a) b h =
     let rest = lines_apart (y ∷ a) b h in
     let some = some_lines y a in
-    elim (cases_Bool (closes x (y ∷ a))) [
+    elim (cases_Bool (line_closes x (y ∷ a))) [
       | inl e ↦ rw (e, rest) refl
       | inr e ↦ rw (e, rest) (into_append x (lines_of (y ∷ a)) (lines_of b) some.0 some.1 some.2)
     ]
@@ -74,8 +74,8 @@ breaks-nil (x ∷ y ∷ a) = breaks-nil (y ∷ a)
 pub are_lines : (t : List ℕ) → AreLines (lines_of t)
 unfolding lines_of
 are_lines [] = tt
-are_lines (b ∷ bs) = elim (cases_Bool (closes b bs)) [
-  | inl e ↦ rw e (one_byte b, rw (lines_joined bs, e) (or_true (is_nil bs)), are_lines bs)
+are_lines (b ∷ bs) = elim (cases_Bool (line_closes b bs)) [
+  | inl e ↦ rw e (one_byte b, rw (lines_joined bs, e) (or_true (no_bytes bs)), are_lines bs)
   | inr e ↦ rw e (into_lines (lines_of bs) (are_lines bs) (rw lines_joined e))
 ]
   where
@@ -83,7 +83,7 @@ are_lines (b ∷ bs) = elim (cases_Bool (closes b bs)) [
     or_true true = refl
     or_true false = refl
 
-    into_lines : (ls : List (List ℕ)) → AreLines ls → closes b (concat ls) ≡ false → AreLines (into_first b ls)
+    into_lines : (ls : List (List ℕ)) → AreLines ls → line_closes b (concat ls) ≡ false → AreLines (into_first b ls)
     into_lines [] all e = (one_byte b, refl, tt)
     into_lines ([] ∷ ls) all e = absurd cc
     into_lines ((c ∷ l) ∷ ls) all e = (rw (e, all.0) refl, all.1, all.2)
@@ -116,7 +116,7 @@ lf_is_a_line (b ∷ bs) h = rw h refl
 
 -- how many bytes stand before the first end of a line
 abbrev pub body_len : List ℕ → ℕ
-body_len t = prefix_len (λ b. not (ends_line b)) t
+body_len t = prefix_len (λ b. not (is_line_end b)) t
 
 -- these bytes, and that end
 pub line_len_is : (t : List ℕ) → line_len t ≡ body_len t + end_len (drop (body_len t) t)
@@ -137,7 +137,7 @@ line_len_is (b ∷ bs) = elim (cases_Bool (b == 10)) [
 pub line_within : (t : List ℕ) → line_len t ≤ length t
 unfolding line_len
 line_within [] = omega arith
-line_within (b ∷ bs) = elim (cases_Bool (closes b bs)) [
+line_within (b ∷ bs) = elim (cases_Bool (line_closes b bs)) [
   | inl e ↦ rw e (omega arith)
   | inr e ↦ rw e (omega (arith, line_within bs))
 ]
@@ -145,7 +145,7 @@ line_within (b ∷ bs) = elim (cases_Bool (closes b bs)) [
 -- a text that has bytes has a first line with bytes
 pub line_has : (b : ℕ) (bs : List ℕ) → 1 ≤ line_len (b ∷ bs)
 unfolding line_len
-line_has b bs = elim (cases_Bool (closes b bs)) [
+line_has b bs = elim (cases_Bool (line_closes b bs)) [
   | inl e ↦ rw e (omega arith)
   | inr e ↦ rw e (omega arith)
 ]
@@ -153,11 +153,11 @@ line_has b bs = elim (cases_Bool (closes b bs)) [
 -- the lines of a text are its first line and the lines behind it
 pub first_line : (b : ℕ) (bs : List ℕ) → lines_of (b ∷ bs) ≡ take (line_len (b ∷ bs)) (b ∷ bs) ∷ lines_of (drop (line_len (b ∷ bs)) (b ∷ bs))
 unfolding lines_of line_len
-first_line b [] = one_byte b ∙ elim (cases_Bool (closes b [])) [
+first_line b [] = one_byte b ∙ elim (cases_Bool (line_closes b [])) [
   | inl e ↦ rw e refl
   | inr e ↦ rw e refl
 ]
-first_line b (c ∷ bs) = elim (cases_Bool (closes b (c ∷ bs))) [
+first_line b (c ∷ bs) = elim (cases_Bool (line_closes b (c ∷ bs))) [
   | inl e ↦ rw e refl
   | inr e ↦ rw (e, first_line c bs) refl
 ]
@@ -165,7 +165,7 @@ first_line b (c ∷ bs) = elim (cases_Bool (closes b (c ∷ bs))) [
 -- ---- between two texts
 
 -- there are no bytes where their number is 0
-pub nil_is : (bytes : List ℕ) → (length bytes == 0) ≡ is_nil bytes
+pub nil_is : (bytes : List ℕ) → (length bytes == 0) ≡ no_bytes bytes
 nil_is [] = refl
 nil_is (b ∷ bs) = elim (cases_Bool (length (b ∷ bs) == 0)) [
   | inl t ↦ let none : length (b ∷ bs) ≡ 0 = eqb-true (length (b ∷ bs)) 0 t in absurd (omega (arith, none))
@@ -173,7 +173,7 @@ nil_is (b ∷ bs) = elim (cases_Bool (length (b ∷ bs) == 0)) [
 ]
 
 -- a line ends behind a text as it does behind its last byte
-pub breaks_behind : (front : List ℕ) (b : ℕ) (behind : List ℕ) → breaks (front ++ b ∷ []) behind ≡ (is_nil behind || closes b behind)
+pub breaks_behind : (front : List ℕ) (b : ℕ) (behind : List ℕ) → breaks (front ++ b ∷ []) behind ≡ (no_bytes behind || line_closes b behind)
 breaks_behind [] b behind = refl
 breaks_behind (x ∷ []) b behind = refl
 breaks_behind (x ∷ y ∷ front) b behind = breaks_behind (y ∷ front) b behind

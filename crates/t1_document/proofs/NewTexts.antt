@@ -7,8 +7,8 @@ use Rattle.std.specs.Str.{bytes_eq}
 use Rattle.std.proofs.lemmas.Bool.{cases_Bool, cond-true, cond-false, true≢false}
 use Rattle.t1_document.specs.declared.rewriting.Way.TheVariants.{Pool}
 use Rattle.t1_document.specs.Documents.{Place, Document, document_bytes, document_of}
-use Rattle.t1_document.specs.Rewriting.{NewTexts, lacks_name, rewritten, pooled}
-use Rattle.t1_document.specs.Joins.{places_under, ComeTo, Outcomes, AreOutcomes, text_of, new_texts}
+use Rattle.t1_document.specs.Rewriting.{NewTexts, lacks_name, document_rewritten, pooled}
+use Rattle.t1_document.specs.Joins.{places_under, ComeTo, Outcomes, AreOutcomes, text_for_places, new_texts}
 use Rattle.t1_document.proofs.WriteLoop.{same_test}
 
 -- ---- new texts
@@ -35,14 +35,14 @@ module _ (ps : List Place) (outcomes : Outcomes) (are : AreOutcomes ps outcomes)
       one : (name : List ℕ) → texts name ≡ new_texts outcomes name
       one name = elim (cases_Bool (lacks_name name ps)) [
         | inl t ↦ h name ∙ (cond-true (lacks_name name ps) None (new_texts outcomes name) t
-            ∙ ap (option_and_then text_of) (sym (none_out name t)))
+            ∙ ap (option_and_then text_for_places) (sym (none_out name t)))
         | inr f ↦ h name ∙ cond-false (lacks_name name ps) None (new_texts outcomes name) f
       ]
 
   -- a document with them, of a text
   pub pooled_so : (text : List ℕ) (last : List ℕ) (texts : NewTexts) (out : List ℕ) → record { places = ps; last = last } ≡ document_of text →
       ((name : List ℕ) → texts name ≡ cond (lacks_name name ps) None (new_texts outcomes name)) →
-      out ≡ document_bytes (rewritten Pool texts (record { places = ps; last = last })) → out ≡ pooled (new_texts outcomes) text
+      out ≡ document_bytes (document_rewritten Pool texts (record { places = ps; last = last })) → out ≡ pooled (new_texts outcomes) text
   pooled_so text last texts out is new e =
-      e ∙ (ap (λ (n : NewTexts). document_bytes (rewritten Pool n (record { places = ps; last = last }))) (texts_are texts new)
-      ∙ ap (λ (x : Document). document_bytes (rewritten Pool (new_texts outcomes) x)) is)
+      e ∙ (ap (λ (n : NewTexts). document_bytes (document_rewritten Pool n (record { places = ps; last = last }))) (texts_are texts new)
+      ∙ ap (λ (x : Document). document_bytes (document_rewritten Pool (new_texts outcomes) x)) is)

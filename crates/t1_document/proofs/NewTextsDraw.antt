@@ -25,8 +25,8 @@ use Rattle.t1_document.specs.Fonts.{FontText, font_in, canon_text}
 use Rattle.t1_document.specs.Marks.{has_mark}
 use Rattle.t1_document.specs.Documents.{Place, place_bytes, document_of}
 use Rattle.t1_document.specs.Rewriting.{is_font, can_stand}
-use Rattle.t1_document.specs.Joins.{places_of_all, places_under, fonts_of, with_font, text_of, ComeTo, OfPlaces, OfFonts, OfEvened, IsSame}
-use Rattle.t1_document.specs.Laws.{Spells}
+use Rattle.t1_document.specs.Joins.{places_of_all, places_under, fonts_of_places, with_font, text_for_places, ComeTo, OfPlaces, OfFonts, OfEvened, IsSame}
+use Rattle.t1_document.specs.Laws.{SpellsPlace}
 use Rattle.t1_document.specs.JoinLaws.{StaysIn, FontStaysIn, NewTextsDraw}
 use Rattle.t1_document.proofs.PlaceLemmas.{document_text}
 use Rattle.t1_document.proofs.FontLemmas.{font_stands}
@@ -53,12 +53,12 @@ places_bytes (p ∷ ps) last h =
     (bytes_left p.text p.rest (bytes_right p.before (p.text ++ p.rest) own), places_bytes ps [] (subst AreBytes (sym (append-nil rest)) behind))
 
 -- the name of a font in bytes is bytes
-sound : (p : Place) → AreBytes p.text → Spells p → IsSound p
+sound : (p : Place) → AreBytes p.text → SpellsPlace p → IsSound p
 sound p b s =
     let font = read_is_font wide p.text s.font b s.spelled in
     record { name = name_bytes s.font.shell.head p.name (has_bytes s.font font).texts.head s.named; text = b; font = s.font; spelled = s.spelled }
 
-both : (ps : List Place) → AllByRecursion (λ p. AreBytes p.text) ps → AllByRecursion Spells ps → AllByRecursion IsSound ps
+both : (ps : List Place) → AllByRecursion (λ p. AreBytes p.text) ps → AllByRecursion SpellsPlace ps → AllByRecursion IsSound ps
 both [] b s = tt
 both (p ∷ ps) b s = (sound p b.0 s.0, both ps b.1 s.1)
 
@@ -108,13 +108,13 @@ AreFonts [] (f ∷ fs) = ⊥
 AreFonts (p ∷ ps) [] = ⊥
 AreFonts (p ∷ ps) (f ∷ fs) = (read_font_widely p.text ≡ Ok f) × AreFonts ps fs
 
-pub fonts_read : (ps : List Place) (fs : List FontValue) → fonts_of ps ≡ Ok fs → AreFonts ps fs
+pub fonts_read : (ps : List Place) (fs : List FontValue) → fonts_of_places ps ≡ Ok fs → AreFonts ps fs
 fonts_read [] [] e = tt
 fonts_read [] (f ∷ fs) e = absurd cc
-fonts_read (p ∷ ps) fs e = by_read (read_font_widely p.text) (fonts_of ps) refl refl fs e (λ gs k. fonts_read ps gs k)
+fonts_read (p ∷ ps) fs e = by_read (read_font_widely p.text) (fonts_of_places ps) refl refl fs e (λ gs k. fonts_read ps gs k)
   where
-    by_read : (r : Result FontValue ReadFault) (more : Result (List FontValue) ReadFault) → read_font_widely p.text ≡ r → fonts_of ps ≡ more →
-        (fs : List FontValue) → with_font r more ≡ Ok fs → ((gs : List FontValue) → fonts_of ps ≡ Ok gs → AreFonts ps gs) → AreFonts (p ∷ ps) fs
+    by_read : (r : Result FontValue ReadFault) (more : Result (List FontValue) ReadFault) → read_font_widely p.text ≡ r → fonts_of_places ps ≡ more →
+        (fs : List FontValue) → with_font r more ≡ Ok fs → ((gs : List FontValue) → fonts_of_places ps ≡ Ok gs → AreFonts ps gs) → AreFonts (p ∷ ps) fs
     by_read (Ok f) (Ok gs) h k fs w others =
         let same : f ∷ gs ≡ fs = cc in
         subst (AreFonts (p ∷ ps)) same (h, others gs k)
@@ -153,7 +153,7 @@ abbrev pub IsGood : List Place → List ℕ → Type 0
 IsGood ps text = (j : FontValue) × (read_font_widely text ≡ Ok j) × AllByRecursion (FontStaysIn j) ps
 
 of_evened : (name : List ℕ) (p : Place) (ps : List Place) (fs : List FontValue) → AllByRecursion (IsUnder name) (p ∷ ps) → AreFonts (p ∷ ps) fs →
-    (o : Outcome) (text : List ℕ) → OfEvened (evened_named name fs) (p ∷ ps) o → text_of o ≡ Some text → IsGood (p ∷ ps) text
+    (o : Outcome) (text : List ℕ) → OfEvened (evened_named name fs) (p ∷ ps) o → text_for_places o ≡ Some text → IsGood (p ∷ ps) text
 of_evened name p ps fs u r (Same t) text h e = absurd h
 of_evened name p ps fs u r (Stays why) text h e = absurd (none-some text e)
 of_evened name p ps fs u r (Joined t) text h e =
@@ -166,12 +166,12 @@ of_evened name p ps fs u r (Joined t) text h e =
     (j, ap read_font_widely same ∙ canon_read j stay.0 (stands_plain (canon_text j) p stands), fonts_stay j (p ∷ ps) fs r stay.1)
 
 of_fonts : (name : List ℕ) (p : Place) (ps : List Place) → AllByRecursion (IsUnder name) (p ∷ ps) → (r : Result (List FontValue) ReadFault) →
-    fonts_of (p ∷ ps) ≡ r → (o : Outcome) (text : List ℕ) → OfFonts name (p ∷ ps) r o → text_of o ≡ Some text → IsGood (p ∷ ps) text
+    fonts_of_places (p ∷ ps) ≡ r → (o : Outcome) (text : List ℕ) → OfFonts name (p ∷ ps) r o → text_for_places o ≡ Some text → IsGood (p ∷ ps) text
 of_fonts name p ps u (Ok fs) k o text h e = of_evened name p ps fs u (fonts_read (p ∷ ps) fs k) o text h e
-of_fonts name p ps u (Err fault) k o text h e = absurd (none-some text (ap text_of (sym h) ∙ e))
+of_fonts name p ps u (Err fault) k o text h e = absurd (none-some text (ap text_for_places (sym h) ∙ e))
 
 of_same : (p : Place) (ps : List Place) → IsSound p → list_all (λ q. bytes_eq p.text q.text) ps ≡ true → (o : Outcome) (text : List ℕ) → IsSame p.text o →
-    text_of o ≡ Some text → IsGood (p ∷ ps) text
+    text_for_places o ≡ Some text → IsGood (p ∷ ps) text
 of_same p ps s all (Joined t) text h e = absurd h
 of_same p ps s all (Stays why) text h e = absurd h
 of_same p ps s all (Same t) text h e =
@@ -182,13 +182,13 @@ of_same p ps s all (Same t) text h e =
     )
 
 of_places : (name : List ℕ) (p : Place) (ps : List Place) → AllByRecursion (IsUnder name) (p ∷ ps) → (b : Bool) →
-    list_all (λ q. bytes_eq p.text q.text) ps ≡ b → (o : Outcome) (text : List ℕ) → OfPlaces name (p ∷ ps) p.text b o → text_of o ≡ Some text →
+    list_all (λ q. bytes_eq p.text q.text) ps ≡ b → (o : Outcome) (text : List ℕ) → OfPlaces name (p ∷ ps) p.text b o → text_for_places o ≡ Some text →
     IsGood (p ∷ ps) text
 of_places name p ps u true all o text h e = of_same p ps u.0.0 all o text h e
-of_places name p ps u false all o text h e = of_fonts name p ps u (fonts_of (p ∷ ps)) refl o text h e
+of_places name p ps u false all o text h e = of_fonts name p ps u (fonts_of_places (p ∷ ps)) refl o text h e
 
 pub come_to : (name : List ℕ) (ps : List Place) → AllByRecursion (IsUnder name) ps → (o : Option Outcome) (text : List ℕ) → ComeTo name ps o →
-    option_and_then text_of o ≡ Some text → IsGood ps text
+    option_and_then text_for_places o ≡ Some text → IsGood ps text
 come_to name ps u None text h e = absurd (none-some text e)
 come_to name [] u (Some o) text h e = absurd (none-some o (sym h))
 come_to name (p ∷ ps) u (Some o) text h e = of_places name p ps u (list_all (λ q. bytes_eq p.text q.text) ps) refl o text h e

@@ -28,7 +28,7 @@ use Rattle.t1_document.specs.declared.joins.Outcome.TheVariants.{Same, Joined, S
 use Rattle.t1_document.specs.Fonts.{canon_text}
 use Rattle.t1_document.specs.Documents.{Place, document_of}
 use Rattle.t1_document.specs.Rewriting.{NewTexts, can_stand, pooled, levelled}
-use Rattle.t1_document.specs.Joins.{is_full, wants_memory, places_under, fonts_of, new_texts, text_of, ComeTo, OfPlaces, OfFonts, OfEvened, IsSame}
+use Rattle.t1_document.specs.Joins.{is_full, wants_memory, places_under, fonts_of_places, new_texts, text_for_places, ComeTo, OfPlaces, OfFonts, OfEvened, IsSame}
 use Rattle.t1_document.specs.JoinLaws.{OneOutcome, OnePooled, OneLevelled}
 
 -- ---- fonts that rejoin
@@ -70,7 +70,7 @@ joined_or_stay es ps t Barred a b =
     let same : t.items ≡ b.0 = a.0.2 ∙ (ap canon_text (one_font (filled_all es) a.0.0 b.1.0 a.0.1.comes b.1.1.comes) ∙ sym b.1.2) in
     true≢false (sym a.1 ∙ (ap (λ (u : List ℕ). list_all (can_stand u) ps) same ∙ b.2))
 
-one_of_evened : (es : List FontValue) (ps : List Place) (a b : Outcome) → OfEvened es ps a → OfEvened es ps b → text_of a ≡ text_of b
+one_of_evened : (es : List FontValue) (ps : List Place) (a b : Outcome) → OfEvened es ps a → OfEvened es ps b → text_for_places a ≡ text_for_places b
 one_of_evened es ps (Same t) b h k = absurd h
 one_of_evened es ps (Joined t) (Same u) h k = absurd k
 one_of_evened es ps (Joined t) (Joined u) h k =
@@ -81,24 +81,24 @@ one_of_evened es ps (Stays why) (Joined u) h k = absurd (joined_or_stay es ps u 
 one_of_evened es ps (Stays why) (Stays other) h k = refl
 
 one_of_fonts : (name : List ℕ) (ps : List Place) (r : Result (List FontValue) ReadFault) (a b : Outcome) → OfFonts name ps r a → OfFonts name ps r b →
-    text_of a ≡ text_of b
+    text_for_places a ≡ text_for_places b
 one_of_fonts name ps (Ok fs) a b h k = one_of_evened (evened_named name fs) ps a b h k
-one_of_fonts name ps (Err fault) a b h k = ap text_of (h ∙ sym k)
+one_of_fonts name ps (Err fault) a b h k = ap text_for_places (h ∙ sym k)
 
-pub same_text : (text : List ℕ) (o : Outcome) → IsSame text o → text_of o ≡ Some text
+pub same_text : (text : List ℕ) (o : Outcome) → IsSame text o → text_for_places o ≡ Some text
 same_text text (Same t) h = ap (λ (u : List ℕ). Some u) h
 same_text text (Joined t) h = absurd h
 same_text text (Stays why) h = absurd h
 
 one_of_places : (name : List ℕ) (ps : List Place) (text : List ℕ) (same : Bool) (a b : Outcome) → OfPlaces name ps text same a →
-    OfPlaces name ps text same b → text_of a ≡ text_of b
+    OfPlaces name ps text same b → text_for_places a ≡ text_for_places b
 one_of_places name ps text true a b h k = same_text text a h ∙ sym (same_text text b k)
-one_of_places name ps text false a b h k = one_of_fonts name ps (fonts_of ps) a b h k
+one_of_places name ps text false a b h k = one_of_fonts name ps (fonts_of_places ps) a b h k
 
 -- places of a name come to one text, or to none
 pub one_text_for : (name : List ℕ) (ps : List Place) (a b : Option Outcome) → ComeTo name ps a → ComeTo name ps b →
-    option_and_then text_of a ≡ option_and_then text_of b
-one_text_for name [] a b h k = ap (option_and_then text_of) (h ∙ sym k)
+    option_and_then text_for_places a ≡ option_and_then text_for_places b
+one_text_for name [] a b h k = ap (option_and_then text_for_places) (h ∙ sym k)
 one_text_for name (p ∷ ps) None b h k = absurd h
 one_text_for name (p ∷ ps) (Some a) None h k = absurd k
 one_text_for name (p ∷ ps) (Some a) (Some b) h k =

@@ -5,9 +5,9 @@ use Rattle.std.specs.Option.{option_map}
 use Rattle.std.proofs.lemmas.Option.{none-some, same_Some}
 use Rattle.t1_document.specs.declared.marks.Open.{Open}
 use Rattle.t1_document.specs.declared.marks.Mark.{Mark}
-use Rattle.t1_document.specs.Stretches.{Stretch, stretches, bytes_of}
+use Rattle.t1_document.specs.Stretches.{Stretch, stretches, stretches_bytes}
 use Rattle.t1_document.specs.Fonts.{FontText, font_in}
-use Rattle.t1_document.specs.Documents.{Place, Document, place_bytes, document_bytes, none_open, open_behind, encloses, next_mark, placed, place_at, prepended, at_stretch, document_from, document_of}
+use Rattle.t1_document.specs.Documents.{Place, Document, place_bytes, document_bytes, none_open, open_behind, encloses, next_mark, place_with, place_at, prepended, at_stretch, document_from, document_of}
 use Rattle.t1_document.proofs.StretchLemmas.{stretches_joined}
 use Rattle.t1_document.proofs.FontLemmas.{font_stands}
 
@@ -18,7 +18,7 @@ pub record IsPlace (o : Open) (s : Stretch) (next : Option Mark) (p : Place) : T
   pub font : FontText
   pub test : (encloses s.mark next && (o.raw == 0)) ≡ true
   pub found : font_in s.text ≡ Some font
-  pub is : p ≡ placed o s font
+  pub is : p ≡ place_with o s font
 
 mapped : {A B : Type 0} (f : A → B) (o : Option A) (y : B) → option_map f o ≡ Some y → (x : A) × (o ≡ Some x) × (f x ≡ y)
 mapped f None y e = absurd (none-some y e)
@@ -31,8 +31,8 @@ if_some false o y e = absurd (none-some y e)
 -- a place has one
 pub is_place : (o : Open) (s : Stretch) (next : Option Mark) (p : Place) → place_at o s next ≡ Some p → IsPlace o s next p
 is_place o s next p e =
-    let t = if_some (encloses s.mark next && (o.raw == 0)) (option_map (placed o s) (font_in s.text)) p e in
-    let f = mapped (placed o s) (font_in s.text) p t.1 in
+    let t = if_some (encloses s.mark next && (o.raw == 0)) (option_map (place_with o s) (font_in s.text)) p e in
+    let f = mapped (place_with o s) (font_in s.text) p t.1 in
     record { font = f.0; test = t.0; found = f.1; is = sym f.2 }
 
 -- its text is that of the place, with the rest
@@ -64,12 +64,12 @@ stretch_bytes o s next d behind same (Some p) e =
     append_assoc (place_bytes p) _ d.last ∙ (ap (λ (t : List ℕ). place_bytes p ++ t) same ∙ ap (λ (t : List ℕ). t ++ behind) own)
 
 -- the bytes of the document of stretches are those of the stretches
-pub from_bytes : (o : Open) (ss : List Stretch) → document_bytes (document_from o ss) ≡ bytes_of ss
+pub from_bytes : (o : Open) (ss : List Stretch) → document_bytes (document_from o ss) ≡ stretches_bytes ss
 unfolding document_from
 from_bytes o [] = refl
 from_bytes o (s ∷ ss) =
     let behind = open_behind o s.mark in
-    stretch_bytes o s (next_mark ss) (document_from behind ss) (bytes_of ss) (from_bytes behind ss) (place_at o s (next_mark ss)) refl
+    stretch_bytes o s (next_mark ss) (document_from behind ss) (stretches_bytes ss) (from_bytes behind ss) (place_at o s (next_mark ss)) refl
 
 -- the bytes of a text's document are the text
 pub document_text : (text : List ℕ) → document_bytes (document_of text) ≡ text

@@ -10,7 +10,7 @@ use Rattle.std.proofs.lemmas.Slice.Eq.{bytes_eq-Decides}
 use Rattle.t1_document.specs.declared.rewriting.Way.TheVariants.{Pool}
 use Rattle.t1_document.specs.Documents.{Place, Document, document_bytes, behind_bytes, document_of}
 use Rattle.t1_document.specs.Rewriting.{NewTexts, can_stand, is_barred, is_refused, standing, Fate, Stays, Becomes, Goes, is_seen, fate_of, seen_behind, at_fate}
-use Rattle.t1_document.specs.Rewriting.{rewritten_from, rewritten, pooled, lacks_name, ArePooled}
+use Rattle.t1_document.specs.Rewriting.{rewritten_from, document_rewritten, pooled, lacks_name, ArePooled}
 use Rattle.t1_document.specs.Joins.{places_under}
 use Rattle.t1_document.proofs.Retold.{not_true}
 use Rattle.t1_document.proofs.Rewritten.{AllStand, standing_stands, where_stands, same_bytes, rewritten_is_read}
@@ -194,7 +194,7 @@ module _ (last : List ℕ) where
             ∙ (others next ∙ ap (map bare) (sym (not_under p ps apart))))
 
 -- what is pooled are places so
-pub pools_all : (new : NewTexts) (d : Document) → ArePooled (standing new d.places) (rewritten Pool new d).places
+pub pools_all : (new : NewTexts) (d : Document) → ArePooled (standing new d.places) (document_rewritten Pool new d).places
 pools_all new d = left_pooled d.last (standing new d.places) [] d.places
 
 -- ---- pooled twice
@@ -290,10 +290,10 @@ pub pooled_twice : (new : NewTexts) (text : List ℕ) → pooled new (pooled new
 pooled_twice new text =
     let d = document_of text in
     let stand = standing new d.places in
-    let e = rewritten Pool new d in
+    let e = document_rewritten Pool new d in
     let among : (name t : List ℕ) → stand name ≡ Some t → new name ≡ Some t = λ name t h. (where_stands (is_refused new d.places name) (new name) t h).1 in
     let same : (name : List ℕ) → standing new e.places name ≡ stand name = λ name.
     ap (λ (b : Bool). cond b None (new name)) (refused_left d.last new stand among [] d.places (standing_stands new d.places) name) in
-    let again : rewritten Pool new e ≡ e =
+    let again : document_rewritten Pool new e ≡ e =
     pooled_stays e.last stand (standing new e.places) same [] e.places (pools_all new d) (λ name t s k. absurd (true≢false (sym s))) in
-    ap (λ (x : Document). document_bytes (rewritten Pool new x)) (rewritten_is_read Pool new text) ∙ ap document_bytes again
+    ap (λ (x : Document). document_bytes (document_rewritten Pool new x)) (rewritten_is_read Pool new text) ∙ ap document_bytes again

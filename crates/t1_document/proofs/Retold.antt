@@ -7,11 +7,11 @@ use Rattle.std.proofs.lemmas.Bool.{and_parts, false≢true}
 use Rattle.std.proofs.lemmas.Slice.Eq.{bytes_eq-Decides}
 use Rattle.t1_document.specs.declared.marks.Open.{Open}
 use Rattle.t1_document.specs.declared.marks.Mark.{Mark}
-use Rattle.t1_document.specs.Lines.{is_nil, breaks}
+use Rattle.t1_document.specs.Lines.{no_bytes, breaks}
 use Rattle.t1_document.specs.Marks.{has_mark}
-use Rattle.t1_document.specs.Stretches.{Stretch, bytes_of, IsStretch, AreStretches}
+use Rattle.t1_document.specs.Stretches.{Stretch, stretches_bytes, IsStretch, AreStretches}
 use Rattle.t1_document.specs.Fonts.{FontText, font_in}
-use Rattle.t1_document.specs.Documents.{Place, Document, open_behind, encloses, next_mark, placed, place_at, behind_bytes, prepended, at_stretch, document_from}
+use Rattle.t1_document.specs.Documents.{Place, Document, open_behind, encloses, next_mark, place_with, place_at, behind_bytes, prepended, at_stretch, document_from}
 use Rattle.t1_document.specs.Rewriting.{is_font, can_stand, Fate, Stays, Becomes, Gives, at_fate}
 use Rattle.t1_document.proofs.StretchLemmas.{none_in_nothing}
 use Rattle.t1_document.proofs.FontLemmas.{Stands, font_stands, no_font}
@@ -154,8 +154,8 @@ place_becomes : (o : Open) (s : Stretch) (next : Option Mark) (p : Place) (text 
     place_at o (record s { text = text ++ p.rest }) next ≡ Some (record p { text = text })
 place_becomes o s next p text e h =
     let i = is_place o s next p e in
-    ap (λ (b : Bool). cond b (option_map (placed o (record s { text = text ++ p.rest })) (font_in (text ++ p.rest))) None) i.test
-    ∙ (ap (option_map (placed o (record s { text = text ++ p.rest }))) (stands_font text p h)
+    ap (λ (b : Bool). cond b (option_map (place_with o (record s { text = text ++ p.rest })) (font_in (text ++ p.rest))) None) i.test
+    ∙ (ap (option_map (place_with o (record s { text = text ++ p.rest }))) (stands_font text p h)
     ∙ ap (λ (q : Place). Some (record { before = q.before; kind = q.kind; depth = q.depth; name = p.name; text = text; rest = p.rest })) (sym i.is))
 
 -- a text that begins with `/` doesn't begin with `%`
@@ -184,8 +184,8 @@ place_gives : (o : Open) (s : Stretch) (next : Option Mark) (bytes : List ℕ) �
     place_at o (record s { text = bytes }) next ≡ None
 place_gives o s next bytes h = by_test (encloses s.mark next && (o.raw == 0))
   where
-    by_test : (b : Bool) → cond b (option_map (placed o (record s { text = bytes })) (font_in bytes)) None ≡ None
-    by_test true = ap (option_map (placed o (record s { text = bytes }))) (given_no_font bytes h)
+    by_test : (b : Bool) → cond b (option_map (place_with o (record s { text = bytes })) (font_in bytes)) None ≡ None
+    by_test true = ap (option_map (place_with o (record s { text = bytes }))) (given_no_font bytes h)
     by_test false = refl
 
 -- with other bytes before it a place has the same fate
@@ -248,23 +248,23 @@ document_retold o fs (s ∷ ss) all =
 
 -- a place is followed by another stretch
 followed : (o : Open) (s : Stretch) (ss : List Stretch) (p : Place) → place_at o s (next_mark ss) ≡ Some p → AreStretches ss →
-    (inner : List ℕ) × (bytes_of ss ≡ 37 ∷ inner)
+    (inner : List ℕ) × (stretches_bytes ss ≡ 37 ∷ inner)
 followed o s [] p e all = let i = is_place o s None p e in absurd (false≢true i.test)
 followed o s (t ∷ ss) p e all =
     let m = mark_starts t.line t.mark all.0.mark in
-    ((m.0 ++ t.text) ++ bytes_of ss, ap (λ (l : List ℕ). (l ++ t.text) ++ bytes_of ss) m.1)
+    ((m.0 ++ t.text) ++ stretches_bytes ss, ap (λ (l : List ℕ). (l ++ t.text) ++ stretches_bytes ss) m.1)
 
 -- the bytes behind a stretch begin as they did
-pub start_same : (o : Open) (fs : List Fate) (ss : List Stretch) → AreStretches ss → SameStart (bytes_of ss) (bytes_of (retold o fs ss))
+pub start_same : (o : Open) (fs : List Fate) (ss : List Stretch) → AreStretches ss → SameStart (stretches_bytes ss) (stretches_bytes (retold o fs ss))
 unfolding retold
 start_same o fs [] all = tt
 start_same o fs (s ∷ ss) all =
     let q = place_at o s (next_mark ss) in
     let m = mark_starts s.line s.mark all.0.mark in
-    let rest = bytes_of (retold (open_behind o s.mark) (left_at fs q) ss) in
+    let rest = stretches_bytes (retold (open_behind o s.mark) (left_at fs q) ss) in
     let told_text = (told_at fs q s).text in
-    subst (λ (l : List ℕ). SameStart ((s.line ++ s.text) ++ bytes_of ss) ((l ++ told_text) ++ rest)) (sym (line_same fs q s))
-    (subst (λ (l : List ℕ). SameStart ((l ++ s.text) ++ bytes_of ss) ((l ++ told_text) ++ rest)) (sym m.1) refl)
+    subst (λ (l : List ℕ). SameStart ((s.line ++ s.text) ++ stretches_bytes ss) ((l ++ told_text) ++ rest)) (sym (line_same fs q s))
+    (subst (λ (l : List ℕ). SameStart ((l ++ s.text) ++ stretches_bytes ss) ((l ++ told_text) ++ rest)) (sym m.1) refl)
 
 -- a stretch before bytes that begin alike
 moved : (s : Stretch) (behind other : List ℕ) → IsStretch s behind → SameStart behind other → IsStretch s other
@@ -290,7 +290,7 @@ given_ends x own bytes behind (b ∷ bs) inner e h (inr line) k =
 -- a line ends behind it
 given_closed : (bytes other : List ℕ) → (bytes ≡ []) ⊎ IsLine bytes → breaks bytes other ≡ true
 given_closed bytes other (inl none) = ap (λ (t : List ℕ). breaks t other) none
-given_closed bytes other (inr line) = ap (λ (t : List ℕ). breaks t other) line.ends ∙ (breaks-behind line.front 10 [] other ∙ either (is_nil other))
+given_closed bytes other (inr line) = ap (λ (t : List ℕ). breaks t other) line.ends ∙ (breaks-behind line.front 10 [] other ∙ either (no_bytes other))
   where
     either : (b : Bool) → (b || true) ≡ true
     either true = refl
@@ -334,13 +334,13 @@ is_told s p f behind other inner i stands rest starts same (Gives bytes) h =
 
 -- one stretch that may be a place
 step_stretch : (o : Open) (fs : List Fate) (s : Stretch) (ss : List Stretch) (d : Document) (other : List ℕ) →
-    IsStretch s (bytes_of ss) → AreStretches ss → SameStart (bytes_of ss) other → (q : Option Place) → place_at o s (next_mark ss) ≡ q →
+    IsStretch s (stretches_bytes ss) → AreStretches ss → SameStart (stretches_bytes ss) other → (q : Option Place) → place_at o s (next_mark ss) ≡ q →
     AllFit fs (at_stretch s q d).places → IsStretch (told_at fs q s) other
-step_stretch o fs s ss d other i each same None e all = moved s (bytes_of ss) other i same
+step_stretch o fs s ss d other i each same None e all = moved s (stretches_bytes ss) other i same
 step_stretch o fs s ss d other i each same (Some p) e all =
     let is = is_place o s (next_mark ss) p e in
     let next = followed o s ss p e each in
-    is_told s p is.font (bytes_of ss) other next.0 i (font_stands s.text is.font is.found) (ap (λ (q : Place). q.rest) (sym is.is)) next.1 same
+    is_told s p is.font (stretches_bytes ss) other next.0 i (font_stands s.text is.font is.found) (ap (λ (q : Place). q.rest) (sym is.is)) next.1 same
     (first_fate fs) all.0
 
 others_fit : (fs : List Fate) (s : Stretch) (q : Option Place) (d : Document) → AllFit fs (at_stretch s q d).places → AllFit (left_at fs q) d.places
@@ -355,6 +355,6 @@ are_retold o fs (s ∷ ss) each all =
     let q = place_at o s (next_mark ss) in
     let behind = open_behind o s.mark in
     let d = document_from behind ss in (
-      step_stretch o fs s ss d (bytes_of (retold behind (left_at fs q) ss)) each.0 each.1 (start_same behind (left_at fs q) ss each.1) q refl all,
+      step_stretch o fs s ss d (stretches_bytes (retold behind (left_at fs q) ss)) each.0 each.1 (start_same behind (left_at fs q) ss each.1) q refl all,
       are_retold behind (left_at fs q) ss each.1 (others_fit fs s q d all),
     )

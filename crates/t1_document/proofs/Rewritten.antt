@@ -9,10 +9,10 @@ use Rattle.t1_document.specs.declared.marks.Open.{Open}
 use Rattle.t1_document.specs.declared.marks.Mark.{Mark}
 use Rattle.t1_document.specs.declared.rewriting.Way.{Way}
 use Rattle.t1_document.specs.declared.rewriting.Way.TheVariants.{Level}
-use Rattle.t1_document.specs.Stretches.{Stretch, Stretches, stretches, bytes_of, joined, mark_lines, AreThose}
+use Rattle.t1_document.specs.Stretches.{Stretch, Stretches, stretches, stretches_bytes, stretches_text, mark_lines, AreThose}
 use Rattle.t1_document.specs.Documents.{Place, Document, document_bytes, place_bytes, none_open, open_behind, next_mark, place_at, prepended, document_from, document_of_stretches, document_of}
 use Rattle.t1_document.specs.Rewriting.{NewTexts, can_stand, is_barred, is_refused, standing, Fate, Stays, Becomes, Gives, Goes, is_pool, is_seen, fate_of, seen_behind, at_fate}
-use Rattle.t1_document.specs.Rewriting.{fated, fated_bytes, rewritten_from, rewritten, fate_bytes, written_from, levelled, with_new, renewed}
+use Rattle.t1_document.specs.Rewriting.{fated, fated_bytes, rewritten_from, document_rewritten, fate_bytes, written_from, levelled, with_new, renewed}
 use Rattle.t1_document.proofs.StretchLemmas.{stretches_those, stretches_again}
 use Rattle.t1_document.proofs.PlaceLemmas.{prepended_bytes, from_bytes}
 use Rattle.t1_document.proofs.Breaks.{breaks-same}
@@ -82,11 +82,11 @@ module _ (fs : List Fate) (text : List ℕ) where
       let same = start_same none_open fs x.1 those.each in
       record {
         unmarked = those.unmarked;
-        front_ends = sym (breaks-same x.0 (bytes_of x.1) (bytes_of (retold none_open fs x.1)) same) ∙ those.front_ends;
+        front_ends = sym (breaks-same x.0 (stretches_bytes x.1) (stretches_bytes (retold none_open fs x.1)) same) ∙ those.front_ends;
         each = are_retold none_open fs x.1 those.each (all_behind fs x.0 (document_from none_open x.1) all);
       }
 
-  bytes_written : (x : Stretches) → document_bytes (document_of_stretches x) ≡ joined x
+  bytes_written : (x : Stretches) → document_bytes (document_of_stretches x) ≡ stretches_text x
   bytes_written x = prepended_bytes x.0 (document_from none_open x.1) ∙ ap (λ (t : List ℕ). x.0 ++ t) (from_bytes none_open x.1)
 
   -- the stretches of the bytes
@@ -153,17 +153,17 @@ module _ (way : Way) (new : NewTexts) where
 
 -- what is written is read as it was meant
 pub rewritten_is_read : (way : Way) (new : NewTexts) (text : List ℕ) →
-    document_of (document_bytes (rewritten way new (document_of text))) ≡ rewritten way new (document_of text)
+    document_of (document_bytes (document_rewritten way new (document_of text))) ≡ document_rewritten way new (document_of text)
 rewritten_is_read way new text =
     let d = document_of text in
     let stand = standing new d.places in
-    let is : rewritten way new d ≡ fated_by (fates_from way stand [] d.places) d.places d.last = rewritten_fated way stand [] d.places d.last in
+    let is : document_rewritten way new d ≡ fated_by (fates_from way stand [] d.places) d.places d.last = rewritten_fated way stand [] d.places d.last in
     ap (λ (x : Document). document_of (document_bytes x)) is
     ∙ (document_is (fates_from way stand [] d.places) text (all_fit way stand [] d.places (standing_stands new d.places)) ∙ sym is)
 
 -- the marks stay
 pub marks_stay : (way : Way) (new : NewTexts) (text : List ℕ) →
-    mark_lines (stretches (document_bytes (rewritten way new (document_of text)))).1 ≡ mark_lines (stretches text).1
+    mark_lines (stretches (document_bytes (document_rewritten way new (document_of text)))).1 ≡ mark_lines (stretches text).1
 marks_stay way new text =
     let d = document_of text in
     let stand = standing new d.places in
@@ -218,7 +218,7 @@ level_is new seen (p ∷ ps) last =
     ∙ ap (λ (d : Document). record { places = renewed new p ∷ d.places; last = d.last }) (level_is new (seen_behind f p seen) ps last)
 
 -- a levelled document has the new texts, and is else the same
-pub level_renews : (new : NewTexts) (d : Document) → rewritten Level new d ≡ record { places = map (renewed (standing new d.places)) d.places; last = d.last }
+pub level_renews : (new : NewTexts) (d : Document) → document_rewritten Level new d ≡ record { places = map (renewed (standing new d.places)) d.places; last = d.last }
 level_renews new d = level_is (standing new d.places) [] d.places d.last
 
 -- a place that has a new text bars what it barred
@@ -263,10 +263,10 @@ levelled_twice new text =
     let d = document_of text in
     let stand = standing new d.places in
     let e : Document = record { places = map (renewed stand) d.places; last = d.last } in
-    let first : rewritten Level new d ≡ e = level_renews new d in
-    let again : rewritten Level new e ≡ e =
+    let first : document_rewritten Level new d ≡ e = level_renews new d in
+    let again : document_rewritten Level new e ≡ e =
     level_renews new e
     ∙ ap (λ (ps : List Place). record { places = ps; last = d.last })
     (renewed_twice stand (standing new e.places) (same_standing new stand d.places) d.places) in
-    ap (λ (x : Document). document_bytes (rewritten Level new x)) (rewritten_is_read Level new text ∙ first)
+    ap (λ (x : Document). document_bytes (document_rewritten Level new x)) (rewritten_is_read Level new text ∙ first)
     ∙ (ap document_bytes again ∙ ap document_bytes (sym first))

@@ -13,16 +13,16 @@ use Rattle.t1_document.specs.declared.marks.Mark.{Mark}
 use Rattle.t1_document.specs.Stretches.{Stretch, stretches}
 use Rattle.t1_document.specs.Fonts.{if_any, name_read, spelled_name}
 use Rattle.t1_document.specs.Documents.{Place, Document, none_open, open_behind, next_mark, place_at, behind_bytes, at_stretch, document_from, document_of}
-use Rattle.t1_document.specs.Laws.{Spells}
+use Rattle.t1_document.specs.Laws.{SpellsPlace}
 use Rattle.t1_document.proofs.FontLemmas.{font_stands}
 use Rattle.t1_document.proofs.PlaceLemmas.{is_place}
 
 -- a name that was read is that of a font
-spells_name : (p : Place) → spelled_name p.text ≡ Some p.name → Spells p
+spells_name : (p : Place) → spelled_name p.text ≡ Some p.name → SpellsPlace p
 unfolding spelled_name
 spells_name p e = by_read (read_font_widely p.text) refl e
   where
-    by_read : (r : Result FontValue ReadFault) → read_font_widely p.text ≡ r → name_read r ≡ Some p.name → Spells p
+    by_read : (r : Result FontValue ReadFault) → read_font_widely p.text ≡ r → name_read r ≡ Some p.name → SpellsPlace p
     by_read (Ok font) h k = option_and_then_some if_any (name_in font.shell.head) p.name k (λ name n s.
         let c = cond_some (has_bytes name) name p.name s in
         record {
@@ -33,24 +33,24 @@ spells_name p e = by_read (read_font_widely p.text) refl e
         })
     by_read (Err fault) h k = absurd (none-some p.name k)
 
-place_spells : (o : Open) (s : Stretch) (next : Option Mark) (p : Place) → place_at o s next ≡ Some p → Spells p
+place_spells : (o : Open) (s : Stretch) (next : Option Mark) (p : Place) → place_at o s next ≡ Some p → SpellsPlace p
 place_spells o s next p e =
     let i = is_place o s next p e in
     let f = font_stands s.text i.font i.found in
     spells_name p (subst (λ (q : Place). spelled_name q.text ≡ Some q.name) (sym i.is) f.name)
 
-prepended_spell : (b : List ℕ) (ps : List Place) (last : List ℕ) → AllByRecursion Spells ps → AllByRecursion Spells (behind_bytes b ps last).places
+prepended_spell : (b : List ℕ) (ps : List Place) (last : List ℕ) → AllByRecursion SpellsPlace ps → AllByRecursion SpellsPlace (behind_bytes b ps last).places
 prepended_spell b [] last all = tt
 prepended_spell b (p ∷ ps) last all =
     let s = all.0 in
     (record { font = s.font; spelled = s.spelled; named = s.named; some = s.some }, all.1)
 
-step_spells : (o : Open) (s : Stretch) (next : Option Mark) (d : Document) → AllByRecursion Spells d.places → (q : Option Place) → place_at o s next ≡ q →
-    AllByRecursion Spells (at_stretch s q d).places
+step_spells : (o : Open) (s : Stretch) (next : Option Mark) (d : Document) → AllByRecursion SpellsPlace d.places → (q : Option Place) → place_at o s next ≡ q →
+    AllByRecursion SpellsPlace (at_stretch s q d).places
 step_spells o s next d all None e = prepended_spell (s.line ++ s.text) d.places d.last all
 step_spells o s next d all (Some p) e = (place_spells o s next p e, all)
 
-from_spells : (o : Open) (ss : List Stretch) → AllByRecursion Spells (document_from o ss).places
+from_spells : (o : Open) (ss : List Stretch) → AllByRecursion SpellsPlace (document_from o ss).places
 unfolding document_from
 from_spells o [] = tt
 from_spells o (s ∷ ss) =
@@ -58,7 +58,7 @@ from_spells o (s ∷ ss) =
     step_spells o s (next_mark ss) (document_from behind ss) (from_spells behind ss) (place_at o s (next_mark ss)) refl
 
 -- each place of a text's document spells one
-pub places_spell : (text : List ℕ) → AllByRecursion Spells (document_of text).places
+pub places_spell : (text : List ℕ) → AllByRecursion SpellsPlace (document_of text).places
 unfolding document_of
 places_spell text =
     let x = stretches text in

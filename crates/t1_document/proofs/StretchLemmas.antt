@@ -6,22 +6,22 @@ use Rattle.std.proofs.lemmas.List.{append-nil, length-append, length-take-le, dr
 use Rattle.t1_document.specs.declared.marks.Mark.{Mark}
 use Rattle.t1_document.specs.Lines.{lines_of, line_len, line_of, breaks}
 use Rattle.t1_document.specs.Marks.{mark_of, has_mark}
-use Rattle.t1_document.specs.Stretches.{Stretch, Stretches, at_line, gathered, stretches, bytes_of, joined, AreStretches, AreThose}
+use Rattle.t1_document.specs.Stretches.{Stretch, Stretches, at_line, gathered, stretches, stretches_bytes, stretches_text, AreStretches, AreThose}
 use Rattle.t1_document.specs.Documents.{next_mark}
 use Rattle.t1_document.proofs.LineLemmas.{lines_joined, lines_apart, AreLines, are_lines, line_within, line_has, first_line, breaks-front, breaks-append, breaks-nil}
 
 -- ---- joined
 
-line_joined : (line : List ℕ) (m : Option Mark) (x : Stretches) → joined (at_line line m x) ≡ line ++ joined x
-line_joined line None x = append_assoc line x.0 (bytes_of x.1)
-line_joined line (Some m) x = append_assoc line x.0 (bytes_of x.1)
+line_joined : (line : List ℕ) (m : Option Mark) (x : Stretches) → stretches_text (at_line line m x) ≡ line ++ stretches_text x
+line_joined line None x = append_assoc line x.0 (stretches_bytes x.1)
+line_joined line (Some m) x = append_assoc line x.0 (stretches_bytes x.1)
 
-gathered_joined : (lines : List (List ℕ)) → joined (gathered lines) ≡ concat lines
+gathered_joined : (lines : List (List ℕ)) → stretches_text (gathered lines) ≡ concat lines
 gathered_joined [] = refl
 gathered_joined (line ∷ lines) = line_joined line (mark_of line) (gathered lines) ∙ ap (λ (t : List ℕ). line ++ t) (gathered_joined lines)
 
 -- the stretches of a text, joined, are the text
-pub stretches_joined : (t : List ℕ) → joined (stretches t) ≡ t
+pub stretches_joined : (t : List ℕ) → stretches_text (stretches t) ≡ t
 unfolding stretches
 stretches_joined t = gathered_joined (lines_of t) ∙ lines_joined t
 
@@ -47,12 +47,12 @@ at_those : (line : List ℕ) (lines : List (List ℕ)) → lines_of line ≡ lin
     AreThose (gathered lines) → (m : Option Mark) → mark_of line ≡ m → AreThose (at_line line m (gathered lines))
 at_those line lines whole ends those None e =
     let x = gathered lines in
-    let before : breaks line (x.0 ++ bytes_of x.1) ≡ true = subst (λ (t : List ℕ). breaks line t ≡ true) (sym (gathered_joined lines)) ends in
+    let before : breaks line (x.0 ++ stretches_bytes x.1) ≡ true = subst (λ (t : List ℕ). breaks line t ≡ true) (sym (gathered_joined lines)) ends in
     let both : lines_of (line ++ x.0) ≡ line ∷ lines_of x.0 =
-    lines_apart line x.0 (breaks-front line x.0 (bytes_of x.1) before) ∙ ap (λ (l : List (List ℕ)). l ++ lines_of x.0) whole in
+    lines_apart line x.0 (breaks-front line x.0 (stretches_bytes x.1) before) ∙ ap (λ (l : List (List ℕ)). l ++ lines_of x.0) whole in
     record {
       unmarked = rw both (unmarked_line line (lines_of x.0) e those.unmarked);
-      front_ends = breaks-append line x.0 (bytes_of x.1) before those.front_ends;
+      front_ends = breaks-append line x.0 (stretches_bytes x.1) before those.front_ends;
       each = those.each;
     }
 at_those line lines whole ends those (Some m) e =
@@ -107,10 +107,10 @@ unmarked_before t behind none ends =
     ∙ (gathered_unmarked (lines_of t) (lines_of behind) none
     ∙ ap (λ (u : List ℕ). (u ++ x.0, x.1)) (lines_joined t))
 
-each_read : (ss : List Stretch) → AreStretches ss → gathered (lines_of (bytes_of ss)) ≡ ([], ss)
+each_read : (ss : List Stretch) → AreStretches ss → gathered (lines_of (stretches_bytes ss)) ≡ ([], ss)
 each_read [] all = nothing_gathered
 each_read (s ∷ ss) all =
-    let rest = bytes_of ss in
+    let rest = stretches_bytes ss in
     let lines : lines_of ((s.line ++ s.text) ++ rest) ≡ s.line ∷ lines_of (s.text ++ rest) =
     ap lines_of (append_assoc s.line s.text rest)
     ∙ (lines_apart s.line (s.text ++ rest) all.0.line_ends ∙ ap (λ (l : List (List ℕ)). l ++ lines_of (s.text ++ rest)) all.0.whole) in
@@ -123,10 +123,10 @@ each_read (s ∷ ss) all =
     ∙ ap (at_line s.line (Some s.mark)) behind)
 
 -- stretches that are those of a text are read again
-pub stretches_again : (x : Stretches) → AreThose x → stretches (joined x) ≡ x
+pub stretches_again : (x : Stretches) → AreThose x → stretches (stretches_text x) ≡ x
 unfolding stretches
 stretches_again x those =
-    unmarked_before x.0 (bytes_of x.1) those.unmarked those.front_ends
+    unmarked_before x.0 (stretches_bytes x.1) those.unmarked those.front_ends
     ∙ (ap (λ (y : Stretches). (x.0 ++ y.0, y.1)) (each_read x.1 those.each)
     ∙ ap (λ (t : List ℕ). (t, x.1)) (append-nil x.0))
 
@@ -189,18 +189,18 @@ mark_next t none = by_mark (mark_of (line_of t).0) refl
 -- ---- what stands before the first mark
 
 -- it is at the front of the text
-pub front_whole : (t : List ℕ) → t ≡ (stretches t).0 ++ bytes_of (stretches t).1
+pub front_whole : (t : List ℕ) → t ≡ (stretches t).0 ++ stretches_bytes (stretches t).1
 front_whole t = sym (stretches_joined t)
 
 -- it is no longer than the text
 pub front_len : (t : List ℕ) → length (stretches t).0 ≤ length t
-front_len t = omega (arith, ap length (front_whole t), length-append (stretches t).0 (bytes_of (stretches t).1))
+front_len t = omega (arith, ap length (front_whole t), length-append (stretches t).0 (stretches_bytes (stretches t).1))
 
 -- behind it stand the stretches
 pub behind_front : (t : List ℕ) → stretches (drop (length (stretches t).0) t) ≡ ([], (stretches t).1)
 behind_front t =
     let x = stretches t in
-    let rest : drop (length x.0) t ≡ bytes_of x.1 = ap (drop (length x.0)) (front_whole t) ∙ drop_at x.0 (bytes_of x.1) (length x.0) refl in
+    let rest : drop (length x.0) t ≡ stretches_bytes x.1 = ap (drop (length x.0)) (front_whole t) ∙ drop_at x.0 (stretches_bytes x.1) (length x.0) refl in
     ap stretches rest ∙ stretches_again ([], x.1) (record { unmarked = none_in_nothing; front_ends = refl; each = (stretches_those t).each })
 
 -- ---- whether there is a mark
@@ -213,8 +213,8 @@ mark_test t = elim (cases_Bool (has_mark t)) [
     | inl lt ↦ lt-ltb _ _ lt ∙ sym e
     | inr ge ↦
         let x = stretches t in
-        let none : bytes_of x.1 ≡ [] =
-        nil_from_length (bytes_of x.1) (omega (arith, ge, ap length (front_whole t), length-append x.0 (bytes_of x.1))) in
+        let none : stretches_bytes x.1 ≡ [] =
+        nil_from_length (stretches_bytes x.1) (omega (arith, ge, ap length (front_whole t), length-append x.0 (stretches_bytes x.1))) in
         let same : t ≡ x.0 = front_whole t ∙ (ap (λ (u : List ℕ). x.0 ++ u) none ∙ append-nil x.0) in
         absurd (true≢false (sym e ∙ (ap has_mark same ∙ (stretches_those t).unmarked)))
   ]

@@ -7,7 +7,7 @@ use Rattle.t1_document.specs.declared.marks.Side.TheVariants.{Begin, End}
 use Rattle.t1_document.specs.declared.marks.Kind.{Kind}
 use Rattle.t1_document.specs.declared.marks.Mark.{Mark}
 use Rattle.t1_document.specs.declared.marks.Open.{Open}
-use Rattle.t1_document.specs.Marks.{holds_fonts, holds_data, is_document, same_kind, counted}
+use Rattle.t1_document.specs.Marks.{holds_fonts, holds_data, is_document, same_kind, open_count}
 use Rattle.t1_document.specs.Stretches.{Stretch, Stretches, stretches}
 use Rattle.t1_document.specs.Fonts.{FontText, font_in}
 
@@ -48,26 +48,26 @@ none_open = record { documents = 0; raw = 0 }
 -- what is open behind a mark
 abbrev pub open_behind : Open → Mark → Open
 open_behind o m = record {
-  documents = if is_document m.kind then counted m.side o.documents else o.documents;
-  raw = if holds_data m.kind then counted m.side o.raw else o.raw;
+  documents = if is_document m.kind then open_count m.side o.documents else o.documents;
+  raw = if holds_data m.kind then open_count m.side o.raw else o.raw;
 }
 
 -- ---- places
 
 -- a part begins
-abbrev pub begins : Side → Bool
-begins Begin = true
-begins End = false
+abbrev pub begins_part : Side → Bool
+begins_part Begin = true
+begins_part End = false
 
 -- a part ends
-abbrev pub ends : Side → Bool
-ends Begin = false
-ends End = true
+abbrev pub ends_part : Side → Bool
+ends_part Begin = false
+ends_part End = true
 
 -- the mark begins a part that may be a font, and this next mark ends a part of its kind
 abbrev pub encloses : Mark → Option Mark → Bool
 encloses m None = false
-encloses m (Some next) = begins m.side && holds_fonts m.kind && ends next.side && same_kind m.kind next.kind
+encloses m (Some next) = begins_part m.side && holds_fonts m.kind && ends_part next.side && same_kind m.kind next.kind
 
 -- the mark of the next stretch
 abbrev pub next_mark : List Stretch → Option Mark
@@ -75,12 +75,12 @@ next_mark [] = None
 next_mark (s ∷ ss) = Some s.mark
 
 -- a font text of a stretch as a place, behind the line of the mark
-abbrev pub placed : Open → Stretch → FontText → Place
-placed o s f = record { before = s.line; kind = s.mark.kind; depth = o.documents; name = f.name; text = f.text; rest = f.rest }
+abbrev pub place_with : Open → Stretch → FontText → Place
+place_with o s f = record { before = s.line; kind = s.mark.kind; depth = o.documents; name = f.name; text = f.text; rest = f.rest }
 
 -- A stretch is a place if its mark and the next one enclose it, no raw data is open there, and its text begins with a font text.
 abbrev pub place_at : Open → Stretch → Option Mark → Option Place
-place_at o s next = if encloses s.mark next && (o.raw == 0) then option_map (placed o s) (font_in s.text) else None
+place_at o s next = if encloses s.mark next && (o.raw == 0) then option_map (place_with o s) (font_in s.text) else None
 
 -- ---- documents
 
@@ -121,7 +121,7 @@ open_at_end o (s ∷ ss) = open_at_end (open_behind o s.mark) ss
 -- the last mark begins a part that may be a font
 abbrev pub ends_in_part : List Stretch → Bool
 ends_in_part [] = false
-ends_in_part (s ∷ []) = begins s.mark.side && holds_fonts s.mark.kind
+ends_in_part (s ∷ []) = begins_part s.mark.side && holds_fonts s.mark.kind
 ends_in_part (s ∷ t ∷ ss) = ends_in_part (t ∷ ss)
 
 -- a text leaves nothing open: no document, no raw data, and no part that may be a font

@@ -90,8 +90,8 @@ members_of [] = []
 members_of (x ∷ xs) = with_member x.place x.leader (members_of xs)
 
 -- the places that take part, each under the name of its leader
-abbrev pub members : List Place → List Place
-members ps = members_of (with_leaders ps)
+abbrev pub family_members : List Place → List Place
+family_members ps = members_of (with_leaders ps)
 
 -- ---- what becomes of them
 

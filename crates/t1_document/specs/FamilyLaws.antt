@@ -8,12 +8,12 @@ use Rattle.t1_document.specs.Stretches.{stretches, mark_lines}
 use Rattle.t1_document.specs.Documents.{document_bytes, document_of}
 use Rattle.t1_document.specs.Rewriting.{fated_bytes}
 use Rattle.t1_document.specs.Joins.{Outcomes, AreOutcomes, places_under, new_texts, PooledBy}
-use Rattle.t1_document.specs.Families.{with_leaders, members, led_fate, aliased}
+use Rattle.t1_document.specs.Families.{with_leaders, family_members, led_fate, aliased}
 use Rattle.t1_document.specs.JoinLaws.{FontStaysIn}
 
 -- the outcomes are those of the families of a text, each under the name of its leader
 abbrev pub AreOfFamilies : List ℕ → Outcomes → Type 0
-AreOfFamilies text outcomes = AreOutcomes (members (document_of text).places) outcomes
+AreOfFamilies text outcomes = AreOutcomes (family_members (document_of text).places) outcomes
 
 -- the outcomes are those of the families of a text, and the text with them is this
 abbrev pub AliasedBy : List ℕ → List ℕ → Type 0
@@ -43,7 +43,7 @@ AliasedOthersStay = (text : List ℕ) (outcomes : Outcomes) →
 abbrev pub AliasesDraw : Type 0
 AliasesDraw = (text : List ℕ) → AreBytes text → (outcomes : Outcomes) → AreOfFamilies text outcomes → (leader new : List ℕ) →
     new_texts outcomes leader ≡ Some new →
-    (j : FontValue) × (read_font_widely new ≡ Ok j) × AllByRecursion (FontStaysIn j) (places_under leader (members (document_of text).places))
+    (j : FontValue) × (read_font_widely new ≡ Ok j) × AllByRecursion (FontStaysIn j) (places_under leader (family_members (document_of text).places))
 
 -- the families of a text are joined to one text
 abbrev pub OneAliased : Type 0

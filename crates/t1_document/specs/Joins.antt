@@ -45,9 +45,9 @@ with_font (Ok f) (Err e) = Err e
 with_font (Err e) more = Err e
 
 -- the fonts that places spell widely, or the fault of the first that spells none
-abbrev pub fonts_of : List Place → Result (List FontValue) ReadFault
-fonts_of [] = Ok []
-fonts_of (p ∷ ps) = with_font (read_font_widely p.text) (fonts_of ps)
+abbrev pub fonts_of_places : List Place → Result (List FontValue) ReadFault
+fonts_of_places [] = Ok []
+fonts_of_places (p ∷ ps) = with_font (read_font_widely p.text) (fonts_of_places ps)
 
 -- ---- what they come to
 
@@ -87,7 +87,7 @@ IsSame text (Stays why) = ⊥
 -- places of this name, of which the first has this text, that have one text, or not
 abbrev pub OfPlaces : List ℕ → List Place → List ℕ → Bool → Outcome → Type 0
 OfPlaces name ps text true o = IsSame text o
-OfPlaces name ps text false o = OfFonts name ps (fonts_of ps) o
+OfPlaces name ps text false o = OfFonts name ps (fonts_of_places ps) o
 
 -- What the places of a name come to. There is nothing to say of none. If all have one text, it is that; else the fonts that they spell are made even, keep the
 -- name, and rejoin.
@@ -99,10 +99,10 @@ ComeTo name (p ∷ ps) (Some o) = OfPlaces name (p ∷ ps) p.text (list_all (λ 
 -- ---- the new texts of a document
 
 -- the text that all places of the name get
-abbrev pub text_of : Outcome → Option (List ℕ)
-text_of (Same text) = Some text.now
-text_of (Joined text) = Some text.items
-text_of (Stays why) = None
+abbrev pub text_for_places : Outcome → Option (List ℕ)
+text_for_places (Same text) = Some text.now
+text_for_places (Joined text) = Some text.items
+text_for_places (Stays why) = None
 
 -- for each name what its places come to
 abbrev pub Outcomes : Type 0
@@ -114,7 +114,7 @@ AreOutcomes ps outcomes = (name : List ℕ) → ComeTo name (places_under name p
 
 -- the new texts of names
 abbrev pub new_texts : Outcomes → NewTexts
-new_texts outcomes name = option_and_then text_of (outcomes name)
+new_texts outcomes name = option_and_then text_for_places (outcomes name)
 
 -- ---- documents
 

@@ -10,22 +10,22 @@ use Rattle.t1_font.specs.Tags.{name_in}
 use Rattle.t1_document.specs.declared.rewriting.Way.{Way}
 use Rattle.t1_document.specs.declared.rewriting.Way.TheVariants.{Level, Pool}
 use Rattle.t1_document.specs.Lines.{breaks}
-use Rattle.t1_document.specs.Stretches.{Stretches, stretches, joined, mark_lines, AreThose}
+use Rattle.t1_document.specs.Stretches.{Stretches, stretches, stretches_text, mark_lines, AreThose}
 use Rattle.t1_document.specs.Marks.{has_mark}
 use Rattle.t1_document.specs.Fonts.{font_in, canon_text}
 use Rattle.t1_document.specs.Documents.{Place, Document, document_bytes, document_of, IsClosed, followed}
-use Rattle.t1_document.specs.Rewriting.{NewTexts, can_stand, is_refused, standing, rewritten, written_from, levelled, pooled, renewed, ArePooled}
+use Rattle.t1_document.specs.Rewriting.{NewTexts, can_stand, is_refused, standing, document_rewritten, written_from, levelled, pooled, renewed, ArePooled}
 
 -- ---- stretches
 
 -- the stretches of a text, joined, are the text, and they are those of a text
 pub record StretchesOfText : Type 0 where
-  pub joined : (t : List ℕ) → joined (stretches t) ≡ t
+  pub joined : (t : List ℕ) → stretches_text (stretches t) ≡ t
   pub those : (t : List ℕ) → AreThose (stretches t)
 
 -- stretches that are those of a text are the stretches of what they are joined to
 abbrev pub ReadAgain : Type 0
-ReadAgain = (x : Stretches) → AreThose x → stretches (joined x) ≡ x
+ReadAgain = (x : Stretches) → AreThose x → stretches (stretches_text x) ≡ x
 
 -- ---- places
 
@@ -34,7 +34,7 @@ abbrev pub DocumentOfText : Type 0
 DocumentOfText = (text : List ℕ) → document_bytes (document_of text) ≡ text
 
 -- the font that a place spells widely, whose head says the place's name
-pub record Spells (p : Place) : Type 0 where
+pub record SpellsPlace (p : Place) : Type 0 where
   pub font : FontValue
   pub spelled : read_font_widely p.text ≡ Ok font
   pub named : name_in font.shell.head ≡ Some p.name
@@ -42,7 +42,7 @@ pub record Spells (p : Place) : Type 0 where
 
 -- each place of a document spells one
 abbrev pub PlacesSpell : Type 0
-PlacesSpell = (text : List ℕ) → AllByRecursion Spells (document_of text).places
+PlacesSpell = (text : List ℕ) → AllByRecursion SpellsPlace (document_of text).places
 
 -- where a line ends behind a text that leaves nothing open, the document of it and a text behind it is that of both
 abbrev pub JoinedDocuments : Type 0
@@ -53,22 +53,22 @@ JoinedDocuments = (a b : List ℕ) → breaks a b ≡ true → IsClosed a → do
 -- what is written is read as the document that was to be written
 abbrev pub RewrittenIsRead : Type 0
 RewrittenIsRead = (way : Way) (new : NewTexts) (text : List ℕ) →
-    document_of (document_bytes (rewritten way new (document_of text))) ≡ rewritten way new (document_of text)
+    document_of (document_bytes (document_rewritten way new (document_of text))) ≡ document_rewritten way new (document_of text)
 
 -- its marks stay, each in its line
 abbrev pub MarksStay : Type 0
 MarksStay = (way : Way) (new : NewTexts) (text : List ℕ) →
-    mark_lines (stretches (document_bytes (rewritten way new (document_of text)))).1 ≡ mark_lines (stretches text).1
+    mark_lines (stretches (document_bytes (document_rewritten way new (document_of text)))).1 ≡ mark_lines (stretches text).1
 
 -- its bytes are, place by place, those before the place and what becomes of the place, and then the last bytes
 abbrev pub OthersStay : Type 0
 OthersStay = (way : Way) (new : NewTexts) (d : Document) →
-    document_bytes (rewritten way new d) ≡ written_from way (standing new d.places) [] d.places d.last
+    document_bytes (document_rewritten way new d) ≡ written_from way (standing new d.places) [] d.places d.last
 
 -- where fonts are levelled, each place has the new text of its name, and all else stays
 abbrev pub LevelRenews : Type 0
 LevelRenews = (new : NewTexts) (d : Document) →
-    rewritten Level new d ≡ record { places = map (renewed (standing new d.places)) d.places; last = d.last }
+    document_rewritten Level new d ≡ record { places = map (renewed (standing new d.places)) d.places; last = d.last }
 
 -- the font text of each place of a document can stand there
 abbrev pub OwnTextsStand : Type 0
@@ -112,7 +112,7 @@ LevelledApart = (new : NewTexts) (a b : List ℕ) → breaks a b ≡ true → Is
 
 -- where fonts are pooled, each place of a name has its new text, and behind one at depth 0 there is no other
 abbrev pub PoolsAll : Type 0
-PoolsAll = (new : NewTexts) (d : Document) → ArePooled (standing new d.places) (rewritten Pool new d).places
+PoolsAll = (new : NewTexts) (d : Document) → ArePooled (standing new d.places) (document_rewritten Pool new d).places
 
 -- to pool twice is to pool once
 abbrev pub PooledTwice : Type 0

@@ -26,13 +26,13 @@ kind_of text =
     else None
 
 -- a mark of this side, and of the kind whose word comes behind what was read
-abbrev pub marked : Side → Option (List ℕ × List ℕ) → Option Mark
-marked side None = None
-marked side (Some x) = option_map (λ kind. record { side = side; kind = kind }) (kind_of x.1)
+abbrev pub mark_behind : Side → Option (List ℕ × List ℕ) → Option Mark
+mark_behind side None = None
+mark_behind side (Some x) = option_map (λ kind. record { side = side; kind = kind }) (kind_of x.1)
 
 -- the mark that a line is: it begins with `%%Begin` or `%%End` and the word of a kind
 unfoldable pub mark_of : List ℕ → Option Mark
-mark_of line = choice (marked Begin ((fixed (codes "%%Begin")).read line)) (marked End ((fixed (codes "%%End")).read line))
+mark_of line = choice (mark_behind Begin ((fixed (codes "%%Begin")).read line)) (mark_behind End ((fixed (codes "%%End")).read line))
 
 -- some line of a text is a mark
 abbrev pub has_mark : List ℕ → Bool
@@ -42,12 +42,12 @@ has_mark text = list_any (λ line. is_some (mark_of line)) (lines_of text)
 
 -- one answer for each kind
 abbrev pub by_kind : Bool → Bool → Bool → Bool → Bool → Bool → Kind → Bool
-by_kind font proc_set resource document counted bytes Font = font
-by_kind font proc_set resource document counted bytes ProcSet = proc_set
-by_kind font proc_set resource document counted bytes Resource = resource
-by_kind font proc_set resource document counted bytes Document = document
-by_kind font proc_set resource document counted bytes Data = counted
-by_kind font proc_set resource document counted bytes Binary = bytes
+by_kind font proc_set resource document open_count bytes Font = font
+by_kind font proc_set resource document open_count bytes ProcSet = proc_set
+by_kind font proc_set resource document open_count bytes Resource = resource
+by_kind font proc_set resource document open_count bytes Document = document
+by_kind font proc_set resource document open_count bytes Data = open_count
+by_kind font proc_set resource document open_count bytes Binary = bytes
 
 -- what stands between marks of this kind may be a font
 abbrev pub holds_fonts : Kind → Bool
@@ -73,6 +73,6 @@ same_kind Binary other = by_kind false false false false false true other
 -- ---- what is open
 
 -- one more that is open behind a Begin, one fewer behind an End, and never fewer than none
-abbrev pub counted : Side → ℕ → ℕ
-counted Begin n = n + 1
-counted End n = n - 1
+abbrev pub open_count : Side → ℕ → ℕ
+open_count Begin n = n + 1
+open_count End n = n - 1

@@ -91,8 +91,8 @@ rewritten_from way new seen (p ∷ ps) last =
     at_fate (fate_of way seen p (new p.name)) p (rewritten_from way new (seen_behind (fate_of way seen p (new p.name)) p seen) ps last)
 
 -- a document whose fonts get the new texts that can stand
-abbrev pub rewritten : Way → NewTexts → Document → Document
-rewritten way new d = rewritten_from way (standing new d.places) [] d.places d.last
+abbrev pub document_rewritten : Way → NewTexts → Document → Document
+document_rewritten way new d = rewritten_from way (standing new d.places) [] d.places d.last
 
 -- ---- its bytes
 
@@ -117,15 +117,15 @@ written_from way new seen (p ∷ ps) last = p.before ++ (fate_bytes (fate_of way
 
 -- the bytes of a document with new texts at each place of a name
 abbrev pub document_levelled : NewTexts → Document → List ℕ
-document_levelled new d = document_bytes (rewritten Level new d)
+document_levelled new d = document_bytes (document_rewritten Level new d)
 
 -- each place of a name that is not refused has its new text
 abbrev pub levelled : NewTexts → List ℕ → List ℕ
-levelled new text = document_bytes (rewritten Level new (document_of text))
+levelled new text = document_bytes (document_rewritten Level new (document_of text))
 
 -- the same, but a place behind one at depth 0 of the same name has neither font text nor rest
 abbrev pub pooled : NewTexts → List ℕ → List ℕ
-pooled new text = document_bytes (rewritten Pool new (document_of text))
+pooled new text = document_bytes (document_rewritten Pool new (document_of text))
 
 -- ---- levelled
 

@@ -30,20 +30,20 @@ unfoldable pub stretches : List ℕ → Stretches
 stretches text = gathered (lines_of text)
 
 -- the bytes of stretches
-abbrev pub bytes_of : List Stretch → List ℕ
-bytes_of ss = flat_map (λ s. s.line ++ s.text) ss
+abbrev pub stretches_bytes : List Stretch → List ℕ
+stretches_bytes ss = flat_map (λ s. s.line ++ s.text) ss
 
 -- the text that stretches are those of
-abbrev pub joined : Stretches → List ℕ
-joined x = x.0 ++ bytes_of x.1
+abbrev pub stretches_text : Stretches → List ℕ
+stretches_text x = x.0 ++ stretches_bytes x.1
 
 -- the mark of a stretch, and its line
-abbrev pub mark_line : Stretch → Mark × List ℕ
-mark_line s = (s.mark, s.line)
+abbrev pub marked_line : Stretch → Mark × List ℕ
+marked_line s = (s.mark, s.line)
 
 -- the marks of stretches, each with its line
 abbrev pub mark_lines : List Stretch → List (Mark × List ℕ)
-mark_lines ss = map mark_line ss
+mark_lines ss = map marked_line ss
 
 -- ---- which stretches are those of a text
 
@@ -59,10 +59,10 @@ pub record IsStretch (s : Stretch) (behind : List ℕ) : Type 0 where
 -- each of these is one, before the bytes of those behind it
 abbrev pub AreStretches : List Stretch → Type 0
 AreStretches [] = Unit {0}
-AreStretches (s ∷ ss) = IsStretch s (bytes_of ss) × AreStretches ss
+AreStretches (s ∷ ss) = IsStretch s (stretches_bytes ss) × AreStretches ss
 
 -- the text before them has no mark, and a line ends behind it
 pub record AreThose (x : Stretches) : Type 0 where
   pub unmarked : has_mark x.0 ≡ false
-  pub front_ends : breaks x.0 (bytes_of x.1) ≡ true
+  pub front_ends : breaks x.0 (stretches_bytes x.1) ≡ true
   pub each : AreStretches x.1

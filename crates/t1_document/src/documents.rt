@@ -6,10 +6,10 @@ ghost use Rattle.std.specs.Option.{option_map};
 ghost use Rattle.t1_font.specs.Answers.{Answers};
 ghost use Rattle.t1_font.specs.FontModel.{clamp};
 ghost use Rattle.t1_font.specs.ReadFont.{read_font_widely};
-ghost use Rattle.t1_document.specs.Marks.{counted};
+ghost use Rattle.t1_document.specs.Marks.{open_count};
 ghost use Rattle.t1_document.specs.Stretches.{stretches};
-ghost use Rattle.t1_document.specs.Documents.{open_behind, begins, ends, encloses, next_mark, placed, place_at, place_bytes, offsets_from, document_bytes, document_of};
-ghost use Rattle.t1_document.specs.Laws.{Spells};
+ghost use Rattle.t1_document.specs.Documents.{open_behind, begins_part, ends_part, encloses, next_mark, place_with, place_at, place_bytes, offsets_from, document_bytes, document_of};
+ghost use Rattle.t1_document.specs.Laws.{SpellsPlace};
 ghost use Rattle.t1_document.specs.Views.{stretch_view, font_view, place_view, document_view};
 
 use crate::fonts::{FontText, font_in};
@@ -76,14 +76,14 @@ pub struct Document<'a> {
 impl Side {
     /// Whether a mark of this side begins a part.
     fn begins(self) -> bool
-        ensures { result ≡ begins self }
+        ensures { result ≡ begins_part self }
     {
         matches!(self, Side::Begin)
     }
 
     /// Whether a mark of this side ends a part.
     fn ends(self) -> bool
-        ensures { result ≡ ends self }
+        ensures { result ≡ ends_part self }
     {
         matches!(self, Side::End)
     }
@@ -92,7 +92,7 @@ impl Side {
 /// One more behind a mark that begins a part, one fewer behind one that ends it, but never fewer than none.
 fn counted(side: Side, n: usize) -> usize
     requires { n + 1 < 2 ^ 64 }
-    ensures { result ≡ counted side n }
+    ensures { result ≡ open_count side n }
 {
     match side {
         Side::Begin => n + 1,
@@ -169,7 +169,7 @@ fn font_at<'a>(
     stretch: Stretch<'a>,
     next: Option<Mark>,
 ) -> Result<Option<FontText<'a>>, AllocError>
-    ensures { IfOk result (λ o. option_map (λ f. placed around (stretch_view stretch.entry) (font_view f)) o
+    ensures { IfOk result (λ o. option_map (λ f. place_with around (stretch_view stretch.entry) (font_view f)) o
         ≡ place_at around (stretch_view stretch.entry) next) }
 {
     if encloses(stretch.mark, next) && around.raw == 0 {
@@ -193,7 +193,7 @@ fn font_at<'a>(
 pub fn read_document(alloc: Global, text: &[u8]) -> Result<Document<'_>, AllocError>
     ensures exact { IfOk result (λ d. document_view d ≡ document_of text.now) }
     ensures whole { IfOk result (λ d. document_bytes (document_view d) ≡ text.now) }
-    ensures spell { IfOk result (λ d. AllByRecursion Spells (document_view d).places) }
+    ensures spell { IfOk result (λ d. AllByRecursion SpellsPlace (document_view d).places) }
 {
     let mut places = Vec::new(alloc);
     let mut around = Open {

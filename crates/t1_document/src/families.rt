@@ -7,7 +7,7 @@ ghost use Rattle.t1_document.specs.Rewriting.{fate_bytes, fated_bytes};
 ghost use Rattle.t1_document.specs.Joins.{new_texts};
 ghost use Rattle.t1_document.specs.Groups.{outcome_in};
 ghost use Rattle.t1_document.specs.Texts.{text_in, has_text, Sees};
-ghost use Rattle.t1_document.specs.Families.{family, first_text, differs, has_other, leader_by, led_by, names_behind, led_from, with_leaders, members_of, members};
+ghost use Rattle.t1_document.specs.Families.{family, first_text, differs, has_other, leader_by, led_by, names_behind, led_from, with_leaders, members_of, family_members};
 ghost use Rattle.t1_document.specs.Families.{alias_line, fate_under, led_fate, aliased};
 ghost use Rattle.t1_document.specs.Views.{place_view, document_view, led_view};
 
@@ -192,7 +192,7 @@ fn led_members<'a>(alloc: Global, leds: &[Led<'a>]) -> Result<Vec<Place<'a>>, Al
 ///
 /// Only want of memory.
 pub fn members_of<'a>(alloc: Global, places: &[Place<'a>]) -> Result<Vec<Place<'a>>, AllocError>
-    ensures { IfOk result (λ v. map place_view v.items ≡ members (map place_view places.now)) }
+    ensures { IfOk result (λ v. map place_view v.items ≡ family_members (map place_view places.now)) }
 {
     let leds = with_leaders(alloc, places)?;
     led_members(alloc, leds.as_slice())

@@ -9,7 +9,7 @@ ghost use Rattle.t1_font.specs.FontNames.{evened_named};
 ghost use Rattle.t1_subset.specs.Rejoins.{NotRejoined};
 ghost use Rattle.t1_document.specs.Fonts.{canon_text};
 ghost use Rattle.t1_document.specs.Rewriting.{can_stand, lacks_name};
-ghost use Rattle.t1_document.specs.Joins.{fonts_of, wants_memory, text_of, kept_text, RejoinToText, OfEvened, OfFonts, ComeTo, AreOutcomes, places_under, new_texts};
+ghost use Rattle.t1_document.specs.Joins.{fonts_of_places, wants_memory, text_for_places, kept_text, RejoinToText, OfEvened, OfFonts, ComeTo, AreOutcomes, places_under, new_texts};
 ghost use Rattle.t1_document.specs.Groups.{places_in, outcome_in};
 ghost use Rattle.t1_document.specs.Texts.{text_in};
 ghost use Rattle.t1_document.specs.Views.{place_view, document_view};
@@ -61,7 +61,7 @@ pub enum Outcome<'a> {
 impl<'a> Outcome<'a> {
     /// The text that all places of the name get, unless they keep theirs.
     pub fn text(&self) -> Option<&[u8]>
-        ensures { option_map (λ t. t.now) result ≡ text_of self.now }
+        ensures { option_map (λ t. t.now) result ≡ text_for_places self.now }
     {
         match self {
             Outcome::Same(text) => Some(*text),
@@ -107,7 +107,7 @@ fn keep(sources: &mut Vec<Source>, source: Source) -> Result<(), AllocError>
 
 /// The fonts of places.
 fn sources_of(alloc: Global, places: &[Place<'_>]) -> Result<Vec<Source>, ReadFault>
-    ensures { Answers (λ v. v.items) result (fonts_of (map place_view places.now)) }
+    ensures { Answers (λ v. v.items) result (fonts_of_places (map place_view places.now)) }
 {
     let mut sources = Vec::with_capacity(alloc, places.len())?;
     'places: for place in places {
@@ -178,7 +178,7 @@ fn of_evened<'a>(
 
 /// What the fonts of places of this name come to.
 fn of_fonts<'a>(alloc: Global, name: &[u8], places: &[Place<'_>]) -> Result<Outcome<'a>, AllocError>
-    ensures { IfOk result (OfFonts name.now (map place_view places.now) (fonts_of (map place_view places.now))) }
+    ensures { IfOk result (OfFonts name.now (map place_view places.now) (fonts_of_places (map place_view places.now))) }
 {
     match sources_of(alloc, places) {
         Ok(sources) => {

@@ -1,13 +1,13 @@
 //! The lines of a document.
 
 ghost use Rattle.std.specs.Prelude.{◌≡◌, length, take_while, not, OnOk};
-ghost use Rattle.t1_document.specs.Lines.{lf_comes, closes, ends_line, end_len, line_of, breaks, with_document};
+ghost use Rattle.t1_document.specs.Lines.{lf_comes, line_closes, is_line_end, end_len, line_of, breaks, with_document};
 
 use std::alloc::AllocError;
 
 /// Whether a byte is CR or LF.
 fn ends_line(byte: u8) -> bool
-    ensures { result ≡ ends_line byte }
+    ensures { result ≡ is_line_end byte }
 {
     byte == b'\n' || byte == b'\r'
 }
@@ -25,7 +25,7 @@ fn end_len(bytes: &[u8]) -> usize
 
 /// How many bytes stand before the first end of a line.
 fn body_len(bytes: &[u8]) -> usize
-    ensures { result ≡ length (take_while (λ b. not (ends_line b)) bytes.now) }
+    ensures { result ≡ length (take_while (λ b. not (is_line_end b)) bytes.now) }
 {
     bytes.iter().take_while(|b| !ends_line(**b)).count()
 }
@@ -51,7 +51,7 @@ fn lf_comes(bytes: &[u8]) -> bool
 
 /// Whether a line ends with this byte, before these.
 fn closes(byte: u8, behind: &[u8]) -> bool
-    ensures { result ≡ closes byte behind.now }
+    ensures { result ≡ line_closes byte behind.now }
 {
     byte == b'\n' || byte == b'\r' && !lf_comes(behind)
 }

@@ -2,7 +2,7 @@
 
 ghost use Rattle.std.specs.Prelude.{◌≡◌, ◌≤◌, length};
 ghost use Rattle.t1_grammar.specs.Grammar.{fixed};
-ghost use Rattle.t1_document.specs.Marks.{begins_with, kind_of, marked, mark_of, holds_fonts, holds_data, is_document, same_kind};
+ghost use Rattle.t1_document.specs.Marks.{begins_with, kind_of, mark_behind, mark_of, holds_fonts, holds_data, is_document, same_kind};
 
 use t1_bytes::texts::fixed_at;
 
@@ -62,7 +62,7 @@ fn kind_of(bytes: &[u8]) -> Option<Kind>
 
 /// The mark whose kind stands behind this word.
 fn mark_behind(line: &[u8], word: &[u8], side: Side) -> Option<Mark>
-    ensures { result ≡ marked side ((fixed word.now).read line.now) }
+    ensures { result ≡ mark_behind side ((fixed word.now).read line.now) }
 {
     let (_, rest) = fixed_at(line, word)?;
     let kind = kind_of(rest)?;

@@ -5,7 +5,7 @@ ghost use Rattle.std.specs.Option.{option_map};
 ghost use Rattle.t1_document.specs.declared.rewriting.Way.TheVariants.{Level, Pool};
 ghost use Rattle.t1_document.specs.Marks.{has_mark};
 ghost use Rattle.t1_document.specs.Documents.{document_bytes};
-ghost use Rattle.t1_document.specs.Rewriting.{is_font, can_stand, is_barred, is_refused, standing, is_pool, fate_by, fate_bytes, seen_behind, rewritten, written_from};
+ghost use Rattle.t1_document.specs.Rewriting.{is_font, can_stand, is_barred, is_refused, standing, is_pool, fate_by, fate_bytes, seen_behind, document_rewritten, written_from};
 ghost use Rattle.t1_document.specs.Texts.{text_in, has_text, Sees};
 ghost use Rattle.t1_document.specs.Views.{font_view, place_view, document_view, fate_view};
 
@@ -202,7 +202,7 @@ fn rewritten(
     new: &Texts<'_>,
 ) -> Result<Vec<u8>, AllocError>
     ensures { IfOk result (λ v. v.items
-        ≡ document_bytes (rewritten way (text_in new.now) (document_view document.now))) }
+        ≡ document_bytes (document_rewritten way (text_in new.now) (document_view document.now))) }
 {
     let refused = refused(alloc, new, document.places.as_slice())?;
     write(alloc, way, document, new, &refused)
@@ -219,7 +219,7 @@ impl<'a> Document<'a> {
     /// Only want of memory.
     pub fn level(&self, alloc: Global, new: &Texts<'_>) -> Result<Vec<u8>, AllocError>
         ensures { IfOk result (λ v. v.items
-            ≡ document_bytes (rewritten Level (text_in new.now) (document_view self.now))) }
+            ≡ document_bytes (document_rewritten Level (text_in new.now) (document_view self.now))) }
     {
         rewritten(alloc, Way::Level, self, new)
     }
@@ -232,7 +232,7 @@ impl<'a> Document<'a> {
     /// Only want of memory.
     pub fn pool(&self, alloc: Global, new: &Texts<'_>) -> Result<Vec<u8>, AllocError>
         ensures { IfOk result (λ v. v.items
-            ≡ document_bytes (rewritten Pool (text_in new.now) (document_view self.now))) }
+            ≡ document_bytes (document_rewritten Pool (text_in new.now) (document_view self.now))) }
     {
         rewritten(alloc, Way::Pool, self, new)
     }

@@ -12,7 +12,7 @@ use Rattle.t1_bytes.proofs.Ciphers.{length-decrypted}
 use Rattle.t1_join.specs.Entries.{entries_by}
 use Rattle.t1_font.specs.declared.ranges.Range.{Range}
 use Rattle.t1_font.specs.declared.places.Place.{Place}
-use Rattle.t1_font.specs.Places.{ending, placed}
+use Rattle.t1_font.specs.Places.{ending, bytes_at_place}
 use Rattle.t1_font.specs.Charstrings.{plain_of}
 use Rattle.t1_font.specs.Entries.{map_of}
 use Rattle.t1_font.proofs.MapLaws.{map_of-append}
@@ -125,11 +125,11 @@ module _ (was now : List ℕ) (at left iv : ℕ) (body : Place) (cipher plain : 
       ∙ sym (ending_of left at was d.fits (omega (arith, d.past, d.room))))
 
   -- the charstring is plain behind its lead bytes
-  pub plain_at : bytes_at now plain ≡ plain_of iv (placed (drop at was) body)
+  pub plain_at : bytes_at now plain ≡ plain_of iv (bytes_at_place (drop at was) body)
   plain_at =
       let from : drop cipher.start was ≡ ending (body.len + body.behind) (drop at was) =
       ap (λ k. drop k was) d.start ∙ sym (ending_of (body.len + body.behind) at was d.fits d.room) in
-      let here : bytes_at was cipher ≡ placed (drop at was) body = λ i. take (short i) (from i) in
+      let here : bytes_at was cipher ≡ bytes_at_place (drop at was) body = λ i. take (short i) (from i) in
       let tail : drop cipher.start now ≡ decrypted 4330 (bytes_at was cipher) ++ drop cipher.end was =
       ap (drop cipher.start) by_parts ∙ drop_at (take cipher.start was) (decrypted 4330 (bytes_at was cipher) ++ drop cipher.end was) cipher.start front in
       let plain_long : plain.end - plain.start ≡ body.len - iv = omega (arith, d.plain_start, d.plain_end, d.start, d.end, long, d.fits) in
@@ -162,7 +162,7 @@ module _ (was now : List ℕ) (at left iv : ℕ) (body : Place) (cipher plain : 
     name_before = record { ordered = omega (arith, n.start, n.end, n.room, length-drop at was); within = omega (arith, n.end, n.order, d.start) }
 
     -- the name is the one that was read
-    pub name_at : bytes_at now part ≡ placed (drop at was) name
+    pub name_at : bytes_at now part ≡ bytes_at_place (drop at was) name
     name_at =
         let from : drop part.start was ≡ ending (name.len + name.behind) (drop at was) =
         ap (λ k. drop k was) n.start ∙ sym (ending_of (name.len + name.behind) at was d.fits n.room) in

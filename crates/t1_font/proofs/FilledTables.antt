@@ -8,7 +8,7 @@ use Rattle.t1_join.specs.TableMeaning.{Rises}
 use Rattle.t1_join.proofs.Searches.{searched}
 use Rattle.std.specs.List.Sorted.{IsSearchInRange, IsBinarySearchResult}
 use Rattle.std.specs.Result.{is_ok}
-use Rattle.t1_font.specs.Evening.{stubs_at, below}
+use Rattle.t1_font.specs.Evening.{stubs_at, below_count}
 use Rattle.t1_font.proofs.CutEntries.{entries-retain}
 use Rattle.t1_font.specs.Maps.{merged}
 use Rattle.t1_font.proofs.MapLemmas.{get-merged, joined}
@@ -87,16 +87,16 @@ module _ (indices : List ℕ) (rise : Rises nat_cmp (map stub_at indices)) where
   sorted_stubs = fin.same_map nat_cmp_total fin.nat_cmp-IsAntisymmetric _ _
       (λ q. fin.get-from_sorted nat_cmp (map stub_at indices) q rise ∙ sym (fin.get-from_entries nat_cmp_total (map stub_at indices) q))
 
-  filter_stubs : (n : ℕ) (js : List ℕ) → filter (λ (e : ℕ × List ℕ). nat_lt e.0 n) (map stub_at js) ≡ map stub_at (below n js)
+  filter_stubs : (n : ℕ) (js : List ℕ) → filter (λ (e : ℕ × List ℕ). nat_lt e.0 n) (map stub_at js) ≡ map stub_at (below_count n js)
   filter_stubs n [] = refl
   filter_stubs n (j ∷ js) = elim (nat_lt j n) as (λ b. cond b (stub_at j ∷ filter (λ (e : ℕ × List ℕ). nat_lt e.0 n) (map stub_at js))
-      (filter (λ (e : ℕ × List ℕ). nat_lt e.0 n) (map stub_at js)) ≡ map stub_at (cond b (j ∷ below n js) (below n js))) [
+      (filter (λ (e : ℕ × List ℕ). nat_lt e.0 n) (map stub_at js)) ≡ map stub_at (cond b (j ∷ below_count n js) (below_count n js))) [
         | true ↦ ap (λ (es : List (ℕ × List ℕ)). stub_at j ∷ es) (filter_stubs n js)
         | false ↦ filter_stubs n js
       ]
 
   -- those below a count are the entries of that table below it
-  pub stubs_before : (n : ℕ) → map stub_at (below n indices) ≡ fin.entries (fin.retain_keys (stubs_at indices) (λ i. nat_lt i n))
+  pub stubs_before : (n : ℕ) → map stub_at (below_count n indices) ≡ fin.entries (fin.retain_keys (stubs_at indices) (λ i. nat_lt i n))
   stubs_before n = sym (filter_stubs n indices)
       ∙ (ap (filter (λ (e : ℕ × List ℕ). nat_lt e.0 n)) (sym (fin.entries-from_sorted nat_cmp (map stub_at indices) rise) ∙ ap fin.entries sorted_stubs)
       ∙ sym (entries-retain nat_cmp_total fin.nat_cmp-IsAntisymmetric (stubs_at indices) (λ i. nat_lt i n)))

@@ -9,34 +9,34 @@ use Rattle.std.proofs.lemmas.Option.{none-some, same_Some}
 use Rattle.t1_grammar.specs.Grammar.{Grammar, NoneIn, first, count, unread}
 use Rattle.t1_grammar.specs.Places.{NoneBelow, first_found, first_nowhere, one_more, unread_lacks}
 use Rattle.t1_font.specs.Words.{is_regular}
-use Rattle.t1_font.specs.FontTest.{token, tokens, font_test, apart_test, found_test, place_and_around}
+use Rattle.t1_font.specs.FontTest.{token, test_tokens, font_test, apart_test, found_test, place_and_around}
 use Rattle.t1_font.proofs.Untested.{begins_test}
 
 -- ---- tokens
 
 -- behind a token that is read the others are read
 pub token_read : (w : List ℕ) (ws : List (List ℕ)) (bytes rest : List ℕ) → Some rest ≡ option_map (λ x. x.1) ((token w).read bytes) →
-    (tokens (w ∷ ws)).read bytes ≡ (tokens ws).read rest
-unfolding tokens
+    (test_tokens (w ∷ ws)).read bytes ≡ (test_tokens ws).read rest
+unfolding test_tokens
 token_read w ws bytes rest e = by_read ((token w).read bytes) e
   where
-    by_read : (o : Option (Unit {0} × List ℕ)) → Some rest ≡ option_map (λ x. x.1) o → option_and_then (λ x. (tokens ws).read x.1) o ≡ (tokens ws).read rest
+    by_read : (o : Option (Unit {0} × List ℕ)) → Some rest ≡ option_map (λ x. x.1) o → option_and_then (λ x. (test_tokens ws).read x.1) o ≡ (test_tokens ws).read rest
     by_read None e = absurd (none-some rest (sym e))
-    by_read (Some x) e = ap (λ (u : List ℕ). (tokens ws).read u) (same_Some x.1 rest (sym e))
+    by_read (Some x) e = ap (λ (u : List ℕ). (test_tokens ws).read u) (same_Some x.1 rest (sym e))
 
 -- where a token isn't read, none are
 pub token_absent : (w : List ℕ) (ws : List (List ℕ)) (bytes : List ℕ) → None ≡ option_map (λ x. x.1) ((token w).read bytes) →
-    (tokens (w ∷ ws)).read bytes ≡ None
-unfolding tokens
+    (test_tokens (w ∷ ws)).read bytes ≡ None
+unfolding test_tokens
 token_absent w ws bytes e = by_read ((token w).read bytes) e
   where
-    by_read : (o : Option (Unit {0} × List ℕ)) → None ≡ option_map (λ x. x.1) o → option_and_then (λ x. (tokens ws).read x.1) o ≡ None
+    by_read : (o : Option (Unit {0} × List ℕ)) → None ≡ option_map (λ x. x.1) o → option_and_then (λ x. (test_tokens ws).read x.1) o ≡ None
     by_read None e = refl
     by_read (Some x) e = absurd (none-some x.1 e)
 
 -- what is read behind some tokens, in memory
 abbrev pub behind_words : List (Bor (List ℕ)) → List ℕ → Option (List ℕ)
-behind_words ws bytes = option_map (λ x. x.1) ((tokens (map (λ w. w.now) ws)).read bytes)
+behind_words ws bytes = option_map (λ x. x.1) ((test_tokens (map (λ w. w.now) ws)).read bytes)
 
 module _ (ws : List (Bor (List ℕ))) (i : ℕ) (d : Bor (List ℕ)) (bytes : List ℕ) (lt : i < length ws) where
   -- what is read behind words is what is read behind the first of them and the others
@@ -54,7 +54,7 @@ module _ (ws : List (Bor (List ℕ))) (i : ℕ) (d : Bor (List ℕ)) (bytes : Li
 
 -- all words are read
 pub words_read : (ws : List (Bor (List ℕ))) (i : ℕ) (bytes : List ℕ) → length ws ≤ i → Some bytes ≡ behind_words (drop i ws) bytes
-unfolding tokens
+unfolding test_tokens
 words_read ws i bytes h = ap (λ (us : List (Bor (List ℕ))). behind_words us bytes) (sym (drop_all i ws h))
 
 -- ---- the search

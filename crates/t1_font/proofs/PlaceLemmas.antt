@@ -5,7 +5,7 @@ use Rattle.t1_grammar.specs.Grammar.{Grammar, count}
 use Rattle.t1_font.specs.declared.dialect.Spacing.{Spacing}
 use Rattle.t1_font.specs.declared.places.Place.{Place}
 use Rattle.t1_font.specs.Words.{name, next_name}
-use Rattle.t1_font.specs.Places.{ending, placed, StandsIn}
+use Rattle.t1_font.specs.Places.{ending, bytes_at_place, StandsIn}
 
 -- in a text with more before it
 pub behind : (front text whole part : List ℕ) (n : ℕ) → whole ≡ front ++ text → StandsIn text part n → StandsIn whole part n
@@ -52,7 +52,7 @@ module _ (text part : List ℕ) (n : ℕ) (s : StandsIn text part n) where
   sizes = omega (arith, ap length s.whole, length-append s.before (part ++ s.after), length-append part s.after, s.size)
 
   -- the bytes at the place of a part are the part
-  pub placed_is : (p : Place) → p.len ≡ length part → p.behind ≡ n → placed text p ≡ part
+  pub placed_is : (p : Place) → p.len ≡ length part → p.behind ≡ n → bytes_at_place text p ≡ part
   placed_is p len at =
       let skip : length text - (p.len + p.behind) ≡ length s.before = omega (arith, sizes, len, at) in
       (λ i. take (len i) (drop (skip i) (s.whole i)))

@@ -14,7 +14,7 @@ use Rattle.t1_font.specs.Markers.{encoding_marker}
 use Rattle.t1_font.specs.FontValue.{Shell, SubrsShell, Numbered, weight}
 use Rattle.t1_font.specs.IsFont.{NoMarker, SubrsFit}
 use Rattle.t1_font.specs.Words.{is_regular, regular_comes}
-use Rattle.t1_font.specs.FontTest.{ends_before, token, tokens, then_save, known_name, font_test, apart_test, found_test, around}
+use Rattle.t1_font.specs.FontTest.{ends_before, token, test_tokens, then_save, known_name, font_test, apart_test, found_test, around}
 use Rattle.t1_font.specs.FontTest.{eexec_there, has_marker, is_untested, tested_head, untested, untested_shell, untested_font}
 use Rattle.t1_font.specs.FontTest.{UntestedTwice, UntestedStarts, UntestedIsFont}
 use Rattle.t1_font.proofs.ByteLemmas.{AreBytes-append}
@@ -215,8 +215,8 @@ untested_is_font f h =
 -- ---- how it begins
 
 -- behind the last of some tokens stands what it ends before
-last_ends : (ws : List (List ℕ)) (w text rest : List ℕ) → (tokens (ws ++ w ∷ [])).Spells tt text rest → ends_before w rest ≡ true
-unfolding token tokens
+last_ends : (ws : List (List ℕ)) (w text rest : List ℕ) → (test_tokens (ws ++ w ∷ [])).Spells tt text rest → ends_before w rest ≡ true
+unfolding token test_tokens
 last_ends [] w text rest s = subst (λ (u : List ℕ). ends_before w (u ++ rest) ≡ true) s.5.0 s.4.5.5.1
 last_ends (v ∷ ws) w text rest s = last_ends ws w s.2 rest s.5
 

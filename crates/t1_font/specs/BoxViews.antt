@@ -7,7 +7,7 @@ use Rattle.t1_font.specs.declared.font_boxes.Numbers.{Numbers as CodeNumbers}
 use Rattle.t1_font.specs.declared.font_boxes.Place.{Place as CodePlace}
 use Rattle.t1_font.specs.declared.font_boxes.Side.{Side as CodeSide}
 use Rattle.t1_font.specs.declared.font_boxes.Side.TheVariants as sides
-use Rattle.t1_font.specs.FontBoxes.{Box, Numbers, Place, Side, InHead, InTail, same_box, joined_box}
+use Rattle.t1_font.specs.FontBoxes.{Box, BoxNumbers, BoxPlace, Side, InHead, InTail, same_box, joined_box}
 
 abbrev pub box_view : FontBox → Box
 box_view b = record { llx = b.llx.now; lly = b.lly.now; urx = b.urx.now; ury = b.ury.now }
@@ -15,15 +15,15 @@ box_view b = record { llx = b.llx.now; lly = b.lly.now; urx = b.urx.now; ury = b
 abbrev pub kept_view : KeptBox → Box
 kept_view b = record { llx = b.llx.items; lly = b.lly.items; urx = b.urx.items; ury = b.ury.items }
 
-abbrev pub numbers_view : CodeNumbers → Numbers
+abbrev pub numbers_view : CodeNumbers → BoxNumbers
 numbers_view n = record { box = box_view n.sides; first = n.first.now; second = n.second.now; third = n.third.now }
 
-abbrev pub place_view : CodePlace → Place
-place_view p = record { front = p.front.now; start = p.start.now; numbers = numbers_view p.numbers; behind = p.behind.now }
+abbrev pub box_place_view : CodePlace → BoxPlace
+box_place_view p = record { front = p.front.now; start = p.start.now; numbers = numbers_view p.numbers; behind = p.behind.now }
 
 abbrev pub side_view : CodeSide → Side
-side_view (sides.InHead p) = InHead (place_view p)
-side_view (sides.InTail p) = InTail (place_view p)
+side_view (sides.InHead p) = InHead (box_place_view p)
+side_view (sides.InTail p) = InTail (box_place_view p)
 
 -- ---- lists of boxes
 

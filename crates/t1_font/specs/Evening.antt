@@ -34,8 +34,8 @@ abbrev pub stubs_at : List ℕ → Numbered
 stubs_at indices = from_entries (map (λ i. (i, stub)) indices)
 
 -- the indices that are below a count
-abbrev pub below : ℕ → List ℕ → List ℕ
-below n indices = filter (λ i. nat_lt i n) indices
+abbrev pub below_count : ℕ → List ℕ → List ℕ
+below_count n indices = filter (λ i. nat_lt i n) indices
 
 -- Subrs with a stub at each of these indices that they lack; where there are none, none
 abbrev pub with_stubs : List ℕ → Numbered → List (ℕ × List ℕ) → Numbered
@@ -47,7 +47,7 @@ abbrev pub filled : List ℕ → FontValue → FontValue
 filled indices f = record {
   shell = f.shell;
   encoding = f.encoding;
-  subrs = with_stubs (below (declared_count f.shell.subrs) indices) f.subrs (entries f.subrs);
+  subrs = with_stubs (below_count (declared_count f.shell.subrs) indices) f.subrs (entries f.subrs);
   glyphs = f.glyphs;
 }
 

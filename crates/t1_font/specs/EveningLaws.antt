@@ -74,7 +74,7 @@ abbrev pub BoxInAnyOrder : Type 0
 BoxInAnyOrder = (bs cs : List Box) → IsPermutation bs cs → joined_box bs ≡ joined_box cs
 
 -- a box holds another: its lower numbers are no greater, and its upper ones no less
-pub record Holds (b c : Box) : Type 0 where
+pub record HoldsBox (b c : Box) : Type 0 where
   pub llx : is_gt (value_cmp b.llx c.llx) ≡ false
   pub lly : is_gt (value_cmp b.lly c.lly) ≡ false
   pub urx : is_gt (value_cmp c.urx b.urx) ≡ false
@@ -82,9 +82,9 @@ pub record Holds (b c : Box) : Type 0 where
 
 -- the one box for some boxes, none of which says nothing, holds each of them
 abbrev pub HoldsEach : Type 0
-HoldsEach = (bs : List Box) → list_any says_nothing bs ≡ false → AllByRecursion (Holds (joined_box bs)) bs
+HoldsEach = (bs : List Box) → list_any says_nothing bs ≡ false → AllByRecursion (HoldsBox (joined_box bs)) bs
 
 -- and a box that holds each of them holds it
 abbrev pub HeldByAll : Type 0
 HeldByAll =
-    (u b : Box) (bs : List Box) → list_any says_nothing (b ∷ bs) ≡ false → AllByRecursion (Holds u) (b ∷ bs) → Holds u (joined_box (b ∷ bs))
+    (u b : Box) (bs : List Box) → list_any says_nothing (b ∷ bs) ≡ false → AllByRecursion (HoldsBox u) (b ∷ bs) → HoldsBox u (joined_box (b ∷ bs))

@@ -35,12 +35,12 @@ held bs = record {
 }
 
 -- those of some boxes that say nothing, where there are any; else all of them
-abbrev pub counted : List Box → List Box
-counted bs = if list_any says_nothing bs then filter says_nothing bs else bs
+abbrev pub counting_boxes : List Box → List Box
+counting_boxes bs = if list_any says_nothing bs then filter says_nothing bs else bs
 
 -- the one box for some boxes; where one of them says nothing, it says nothing
 abbrev pub joined_box : List Box → Box
-joined_box bs = held (counted bs)
+joined_box bs = held (counting_boxes bs)
 
 -- ---- a box in a text
 
@@ -53,8 +53,8 @@ abbrev pub closing : List ℕ → List ℕ
 closing w = if bytes_eq (codes "{") w then codes "}" else codes "]"
 
 -- white space, which may be none, and what closes this comes
-abbrev pub closes : List ℕ → List ℕ → Bool
-closes w text = is_some ((fixed (closing w)).read (parted is_white text).1)
+abbrev pub closes_box : List ℕ → List ℕ → Bool
+closes_box w text = is_some ((fixed (closing w)).read (parted is_white text).1)
 
 -- `/FontBBox`, white space, a brace or bracket and white space; its value is its bytes, and that brace or bracket
 unfoldable pub opening : Grammar (List ℕ × List ℕ)
@@ -73,14 +73,14 @@ spaced = do
   pure (w, space)
 
 -- four numbers and what stands between them
-pub record Numbers : Type 0 where
+pub record BoxNumbers : Type 0 where
   pub box : Box
   pub first : List ℕ
   pub second : List ℕ
   pub third : List ℕ
 
-unfoldable pub numbers : Grammar Numbers
-numbers = do
+unfoldable pub box_numbers : Grammar BoxNumbers
+box_numbers = do
   llx ← spaced
   lly ← spaced
   urx ← spaced
@@ -88,35 +88,35 @@ numbers = do
   pure (record { box = record { llx = llx.0; lly = lly.0; urx = urx.0; ury = ury }; first = llx.1; second = lly.1; third = urx.1 })
 
 -- the bytes up to four numbers, and these, before what closes them
-unfoldable pub font_box : Grammar (List ℕ × Numbers)
+unfoldable pub font_box : Grammar (List ℕ × BoxNumbers)
 font_box = do
   start ← opening
-  four ← numbers
-  before (closes start.1)
+  four ← box_numbers
+  before (closes_box start.1)
   pure (start.0, four)
 
 -- where the box of a text stands: the numbers, and the text around them
-pub record Place : Type 0 where
+pub record BoxPlace : Type 0 where
   pub front : List ℕ
   pub start : List ℕ
-  pub numbers : Numbers
+  pub numbers : BoxNumbers
   pub behind : List ℕ
 
 -- the first place of a text that has a box
-abbrev pub place_in : List ℕ → Option Place
+abbrev pub place_in : List ℕ → Option BoxPlace
 place_in text = option_map (λ x. record { front = x.0.0; start = x.0.1.0; numbers = x.0.1.1; behind = x.1 }) ((first font_box).read text)
 
 -- four numbers with these spellings
-abbrev pub with_numbers : Box → Numbers → Numbers
+abbrev pub with_numbers : Box → BoxNumbers → BoxNumbers
 with_numbers u n = record { box = u; first = n.first; second = n.second; third = n.third }
 
 -- a place with this box in it
-abbrev pub at_place : Box → Place → Place
+abbrev pub at_place : Box → BoxPlace → BoxPlace
 at_place u p = record { front = p.front; start = p.start; numbers = with_numbers u p.numbers; behind = p.behind }
 
 -- the text of a place
-abbrev pub text_of : Place → List ℕ
-text_of p =
+abbrev pub box_place_text : BoxPlace → List ℕ
+box_place_text p =
     let n = p.numbers in
     p.front ++ p.start ++ n.box.llx ++ n.first ++ n.box.lly ++ n.second ++ n.box.urx ++ n.third ++ n.box.ury ++ p.behind
 
@@ -124,10 +124,10 @@ text_of p =
 
 -- where their box stands: in the first, or else in the second
 pub data Side : Type 0 where
-  InHead : Place → Side
-  InTail : Place → Side
+  InHead : BoxPlace → Side
+  InTail : BoxPlace → Side
 
-abbrev pub side_of : Option Place → Option Place → Option Side
+abbrev pub side_of : Option BoxPlace → Option BoxPlace → Option Side
 side_of (Some p) q = Some (InHead p)
 side_of None (Some q) = Some (InTail q)
 side_of None None = None
@@ -142,8 +142,8 @@ box_at (InTail p) = p.numbers.box
 
 -- the two texts with this box there
 abbrev pub texts_at : Box → List ℕ × List ℕ → Side → List ℕ × List ℕ
-texts_at u x (InHead p) = (text_of (at_place u p), x.1)
-texts_at u x (InTail p) = (x.0, text_of (at_place u p))
+texts_at u x (InHead p) = (box_place_text (at_place u p), x.1)
+texts_at u x (InTail p) = (x.0, box_place_text (at_place u p))
 
 -- the two texts with this box in place of theirs, if they have one
 abbrev pub texts_with : Box → List ℕ × List ℕ → Option Side → List ℕ × List ℕ
@@ -155,14 +155,14 @@ texts_with u x (Some s) = texts_at u x s
 abbrev pub same_box : Box → Box → Bool
 same_box b c = bytes_eq b.llx c.llx && bytes_eq b.lly c.lly && bytes_eq b.urx c.urx && bytes_eq b.ury c.ury
 
-abbrev pub same_numbers : Numbers → Numbers → Bool
+abbrev pub same_numbers : BoxNumbers → BoxNumbers → Bool
 same_numbers m n = same_box m.box n.box && bytes_eq m.first n.first && bytes_eq m.second n.second && bytes_eq m.third n.third
 
-abbrev pub same_place : Place → Place → Bool
+abbrev pub same_place : BoxPlace → BoxPlace → Bool
 same_place p q = bytes_eq p.front q.front && bytes_eq p.start q.start && same_numbers p.numbers q.numbers && bytes_eq p.behind q.behind
 
 -- this place is read
-abbrev pub is_read : Place → Option Place → Bool
+abbrev pub is_read : BoxPlace → Option BoxPlace → Bool
 is_read p None = false
 is_read p (Some q) = same_place p q
 

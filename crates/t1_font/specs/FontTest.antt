@@ -31,11 +31,11 @@ token w = do
   before (ends_before w)
 
 -- tokens, one behind another
-unfoldable pub tokens : List (List ℕ) → Grammar (Unit {0})
-tokens [] = pure tt
-tokens (w ∷ ws) = do
+unfoldable pub test_tokens : List (List ℕ) → Grammar (Unit {0})
+test_tokens [] = pure tt
+test_tokens (w ∷ ws) = do
   token w
-  tokens ws
+  test_tokens ws
 
 -- a slash and this name behind any white space
 unfoldable pub literal : List ℕ → Grammar (List ℕ)
@@ -72,13 +72,13 @@ unfoldable pub known_name : Grammar (List ℕ)
 known_name = do
   fixed (codes "FontDirectory")
   name ← next_name White
-  tokens if_known
+  test_tokens if_known
   literal name
 
 -- findfont dup /UniqueID known { dup /UniqueID get NUMBER
 unfoldable pub known_number : Grammar ℕ
 known_number = do
-  tokens get_number
+  test_tokens get_number
   white
   decimal
 
@@ -88,8 +88,8 @@ unfoldable pub font_test : Grammar (Unit {0})
 font_test = do
   known_name
   known_number
-  tokens is_same
-  tokens then_save
+  test_tokens is_same
+  test_tokens then_save
 
 -- a byte that isn't regular, and the test behind it; its value is that byte
 unfoldable pub apart_test : Grammar (List ℕ)

@@ -7,8 +7,8 @@ abbrev pub ending : ℕ → List ℕ → List ℕ
 ending n text = drop (length text - n) text
 
 -- the bytes at a place
-abbrev pub placed : List ℕ → Place → List ℕ
-placed text p = take p.len (ending (p.len + p.behind) text)
+abbrev pub bytes_at_place : List ℕ → Place → List ℕ
+bytes_at_place text p = take p.len (ending (p.len + p.behind) text)
 
 -- a part of a text, and how many bytes stand behind it
 pub record StandsIn (text part : List ℕ) (behind : ℕ) : Type 0 where

@@ -3,14 +3,14 @@
 ghost use Rattle.std.specs.Prelude.{◌≡◌, nat_le, ℕ, List, ◌++◌, ◌∷◌, [], map, filter, Some, None, IfOk, OnOk, if◌then◌else◌};
 ghost use Rattle.std.specs.List.{list_any, list_all};
 ghost use Rattle.std.specs.Option.{option_map};
-ghost use Rattle.t1_font.specs.FontBoxes.{says_nothing, held, counted, joined_box, is_opening, closing, closes, opening, spaced, numbers, font_box, place_in};
-ghost use Rattle.t1_font.specs.FontBoxes.{at_place, text_of, side_of, side_in, box_at, texts_at, same_box, same_numbers, same_place, is_read, stays_at};
+ghost use Rattle.t1_font.specs.FontBoxes.{says_nothing, held, counting_boxes, joined_box, is_opening, closing, closes_box, opening, spaced, box_numbers, font_box, place_in};
+ghost use Rattle.t1_font.specs.FontBoxes.{at_place, box_place_text, side_of, side_in, box_at, texts_at, same_box, same_numbers, same_place, is_read, stays_at};
 ghost use Rattle.t1_font.specs.EvenTexts.{same_both, even_clear};
 ghost use Rattle.t1_font.specs.IsFont.{IsFont};
 ghost use Rattle.t1_font.specs.FontBoxes.{clear_of, with_clear, box_of, clear_with, with_texts, font_with, can_take, can_have, if_can, boxes_of, boxed};
 ghost use Rattle.t1_font.specs.FontModel.{clamp};
 ghost use Rattle.t1_font.specs.FontValue.{weight, texts_weight, weight_limit};
-ghost use Rattle.t1_font.specs.BoxViews.{box_view, kept_view, numbers_view, place_view, side_view, are_alike, wanted_box};
+ghost use Rattle.t1_font.specs.BoxViews.{box_view, kept_view, numbers_view, box_place_view, side_view, are_alike, wanted_box};
 
 use crate::even_texts::{ClearTexts, both_fit, even_clear, same_both};
 use crate::evening::keep;
@@ -59,7 +59,7 @@ fn closing(word: &[u8]) -> &'static [u8]
 
 /// Whether white space, which may be none, and what closes this come.
 fn closes(word: &[u8], text: &[u8]) -> bool
-    ensures { result ≡ closes word.now text.now }
+    ensures { result ≡ closes_box word.now text.now }
 {
     let (_, behind) = white_at(text);
     fixed_at(behind, closing(word)).is_some()
@@ -92,9 +92,9 @@ fn spaced_at(bytes: &[u8]) -> Option<((&[u8], &[u8]), &[u8])>
 }
 
 /// Four numbers.
-#[tactic(auto, unfolding(crate::specs::FontBoxes::numbers))]
+#[tactic(auto, unfolding(crate::specs::FontBoxes::box_numbers))]
 fn numbers_at(bytes: &[u8]) -> Option<(Numbers<'_>, &[u8])>
-    ensures { option_map (λ x. (numbers_view x.0, x.1.now)) result ≡ numbers.read bytes.now }
+    ensures { option_map (λ x. (numbers_view x.0, x.1.now)) result ≡ box_numbers.read bytes.now }
 {
     let ((llx, first), rest) = spaced_at(bytes)?;
     let ((lly, second), rest) = spaced_at(rest)?;
@@ -125,7 +125,7 @@ fn font_box_at(bytes: &[u8]) -> Option<((&[u8], Numbers<'_>), &[u8])>
 
 /// The first place of a text that has a box.
 fn place_in(text: &[u8]) -> Option<Place<'_>>
-    ensures { option_map place_view result ≡ place_in text.now }
+    ensures { option_map box_place_view result ≡ place_in text.now }
 {
     let mut from = 0;
     'places: while let Some(place) = find_from(text, b"/FontBBox", from) {
@@ -145,7 +145,7 @@ fn place_in(text: &[u8]) -> Option<Place<'_>>
 
 /// A place with this box in it.
 fn at_place<'a>(sides: FontBox<'a>, place: Place<'a>) -> Place<'a>
-    ensures { place_view result ≡ at_place (box_view sides.entry) (place_view place.entry) }
+    ensures { box_place_view result ≡ at_place (box_view sides.entry) (box_place_view place.entry) }
 {
     Place {
         front: place.front,
@@ -162,7 +162,7 @@ fn at_place<'a>(sides: FontBox<'a>, place: Place<'a>) -> Place<'a>
 
 /// The text of a place.
 fn text_of(alloc: Global, place: Place<'_>) -> Result<Vec<u8>, AllocError>
-    ensures { IfOk result (λ v. v.items ≡ text_of (place_view place.entry)) }
+    ensures { IfOk result (λ v. v.items ≡ box_place_text (box_place_view place.entry)) }
 {
     let Numbers {
         sides,
@@ -254,7 +254,7 @@ fn same_numbers(m: Numbers<'_>, n: Numbers<'_>) -> bool
 
 /// Whether two places are the same.
 fn same_place(p: Place<'_>, q: Place<'_>) -> bool
-    ensures { result ≡ same_place (place_view p.entry) (place_view q.entry) }
+    ensures { result ≡ same_place (box_place_view p.entry) (box_place_view q.entry) }
 {
     p.front == q.front
         && p.start == q.start
@@ -264,7 +264,7 @@ fn same_place(p: Place<'_>, q: Place<'_>) -> bool
 
 /// Whether this place is read in a text.
 fn is_read(place: Place<'_>, text: &[u8]) -> bool
-    ensures { result ≡ is_read (place_view place.entry) (place_in text.now) }
+    ensures { result ≡ is_read (box_place_view place.entry) (place_in text.now) }
 {
     match place_in(text) {
         Some(read) => same_place(place, read),

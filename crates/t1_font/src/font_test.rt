@@ -8,7 +8,7 @@ ghost use Rattle.std.specs.Option.{option_map};
 ghost use Rattle.t1_grammar.specs.Grammar.{first};
 ghost use Rattle.t1_bytes.specs.Eexec.{blank_comes};
 ghost use Rattle.t1_font.specs.Words.{is_regular, keyword};
-ghost use Rattle.t1_font.specs.FontTest.{is_brace, get_number, is_same, then_save, token, tokens, literal, known_name, known_number, font_test};
+ghost use Rattle.t1_font.specs.FontTest.{is_brace, get_number, is_same, then_save, token, test_tokens, literal, known_name, known_number, font_test};
 ghost use Rattle.t1_font.specs.FontTest.{found_test, place_and_around, eexec_there, test_begins, eexec_begins, has_marker, is_untested, untested, taken_test, untested_shell, untested_font};
 
 use crate::markers::{EncodingMarker, Marker, first};
@@ -91,7 +91,7 @@ fn token_at<'a>(bytes: &'a [u8], word: &[u8]) -> Option<&'a [u8]>
 /// What stands behind some tokens.
 fn tokens_at<'a>(bytes: &'a [u8], words: &[&[u8]]) -> Option<&'a [u8]>
     ensures { option_map (λ r. r.now) result
-        ≡ option_map (λ x. x.1) ((tokens (map (λ w. w.now) words.now)).read bytes.now) }
+        ≡ option_map (λ x. x.1) ((test_tokens (map (λ w. w.now) words.now)).read bytes.now) }
 {
     let mut rest = bytes;
     'words: for word in words {

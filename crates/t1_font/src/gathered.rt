@@ -10,7 +10,7 @@ ghost use Rattle.t1_join.specs.Entries.{entries_by};
 ghost use Rattle.t1_font.specs.Entries.{last_value};
 ghost use Rattle.t1_font.specs.FontValue.{notdef};
 ghost use Rattle.t1_font.specs.Gathering.{name_in};
-ghost use Rattle.t1_font.specs.Places.{ending, placed};
+ghost use Rattle.t1_font.specs.Places.{ending, bytes_at_place};
 ghost use Rattle.t1_font.specs.Ranges.{bytes_at, IsInside};
 
 use crate::places::Place;
@@ -192,7 +192,7 @@ impl<'a> Gathered<'a> {
             ≡ record {
               rest = ending left self.old.rest;
               codes = self.old.codes;
-              subrs = fin.insert self.old.subrs index (plain_of len_iv (placed self.old.rest body));
+              subrs = fin.insert self.old.subrs index (plain_of len_iv (bytes_at_place self.old.rest body));
               glyphs = self.old.glyphs;
             }) }
     {
@@ -222,8 +222,8 @@ impl<'a> Gathered<'a> {
               rest = ending left self.old.rest;
               codes = self.old.codes;
               subrs = self.old.subrs;
-              glyphs = fin.insert self.old.glyphs (placed self.old.rest name)
-                  (plain_of len_iv (placed self.old.rest body));
+              glyphs = fin.insert self.old.glyphs (bytes_at_place self.old.rest name)
+                  (plain_of len_iv (bytes_at_place self.old.rest body));
             }) }
     {
         let names = ByName {

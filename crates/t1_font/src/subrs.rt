@@ -9,7 +9,7 @@ ghost use Rattle.t1_font.specs.Held.{HoldsSubrs, TableHeld};
 ghost use Rattle.t1_font.specs.Subrs.{subr, subr_key, subrs_end, subrs_at};
 ghost use Rattle.t1_font.specs.FontValue.{count_limit};
 ghost use Rattle.t1_font.specs.Charstrings.{plain_of};
-ghost use Rattle.t1_font.specs.Places.{StandsIn, ending, placed};
+ghost use Rattle.t1_font.specs.Places.{StandsIn, ending, bytes_at_place};
 ghost use Rattle.t1_font.specs.Views.{entry_view, phrase_view};
 
 use crate::dialect::Spacing;
@@ -91,7 +91,7 @@ fn keep_subr(
     ensures kept { OnOk result (index ≤ count_limit
         → gathered.new.subrs
         ≡ fin.insert gathered.old.subrs index
-        (plain_of len_iv (placed gathered.old.rest body))) }
+        (plain_of len_iv (bytes_at_place gathered.old.rest body))) }
     ensures rest { OnOk result (gathered.new.rest ≡ ending left gathered.old.rest) }
     ensures others { OnOk result (SubrsAlone gathered.old gathered.new) }
 {

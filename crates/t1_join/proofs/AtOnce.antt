@@ -13,7 +13,7 @@ use Rattle.t1_join.specs.declared.listing.ListFault.TheVariants.{BadLine, Repeat
 use Rattle.t1_join.specs.Meaning.{Meaning, meaning_cmp, of_number}
 use Rattle.t1_join.specs.TableMeaning.{TableMeaning}
 use Rattle.t1_join.specs.ListingMeaning.{ListingMeaning, IsListing}
-use Rattle.t1_join.specs.ListingText.{Entry, subr, glyph, split_at, entry_of, lines_of, same_key, read_entry, read_lines, entries_of, with_entry, listing_from, listing_of, listing_result}
+use Rattle.t1_join.specs.ListingText.{ListedEntry, subr, glyph, split_at, listed_entry, listing_lines, same_key, read_entry, read_lines, entries_of, with_entry, listing_from, listing_of, listing_result}
 use Rattle.t1_join.specs.LineMeaning.{IsEntry}
 use Rattle.t1_join.specs.TableLaws.{same_table}
 use Rattle.t1_join.specs.Unsorted.{Unsorted, with_line, KeysDiffer, AllKeysDiffer, AreTablesOf}
@@ -23,26 +23,26 @@ use Rattle.t1_join.proofs.ReadLemmas.{ended, not_ended, shorter}
 use Rattle.t1_join.proofs.ListingLemmas.{none_listed, entry_listed, entry_fits}
 
 -- what was read, the newest first, before its keys are compared
-abbrev unsorted : List Entry → Unsorted
+abbrev unsorted : List ListedEntry → Unsorted
 unsorted [] = record { subrs = []; glyphs = [] }
 unsorted (e ∷ es) = with_line e (unsorted es)
 
 -- no entry has the key of an older one
-abbrev Apart : List Entry → Type 0
+abbrev Apart : List ListedEntry → Type 0
 Apart [] = Unit {0}
 Apart (e ∷ es) = (list_any (same_key e) es ≡ false) × Apart es
 
 -- how far a text was read: were all keys apart, it would go on, and they are in a text without a fault
 pub record IsGathering (text : List ℕ) (u : Unsorted) (rest : List ℕ) : Type 0 where
-  pub seen : List Entry
+  pub seen : List ListedEntry
   pub line : ℕ
   pub read : u ≡ unsorted seen
   pub fit : AllByRecursion IsEntry seen
-  pub goes_on : Apart seen → entries_of text ≡ read_lines line seen (lines_of rest).0 (lines_of rest).1
-  pub no_fault : (es : List Entry) → entries_of text ≡ Ok es → Apart seen
+  pub goes_on : Apart seen → entries_of text ≡ read_lines line seen (listing_lines rest).0 (listing_lines rest).1
+  pub no_fault : (es : List ListedEntry) → entries_of text ≡ Ok es → Apart seen
 
 -- what has no entries has no listing
-no_listing : (x : Result (List Entry) ListFault) → ((es : List Entry) → x ≡ Ok es → ⊥) → IsErr (listing_result x)
+no_listing : (x : Result (List ListedEntry) ListFault) → ((es : List ListedEntry) → x ≡ Ok es → ⊥) → IsErr (listing_result x)
 no_listing (Ok es) h = absurd (h es refl)
 no_listing (Err e) h = refl
 
@@ -58,18 +58,18 @@ module _ (text : List ℕ) (u : Unsorted) (rest : List ℕ) (r : IsGathering tex
 
     -- where all keys are apart, what the text reads as depends on this line
     this_line : Apart r.seen →
-        entries_of text ≡ read_entry r.line r.seen (entry_of front) (λ more. read_lines (r.line + 1) more (lines_of back).0 (lines_of back).1)
+        entries_of text ≡ read_entry r.line r.seen (listed_entry front) (λ more. read_lines (r.line + 1) more (listing_lines back).0 (listing_lines back).1)
     this_line apart = r.goes_on apart ∙ ap (λ p. read_lines r.line r.seen p.0 p.1) (lines-split rest ∙ ap (first_line rest) split)
 
-    module _ (e : Entry) (says : entry_of front ≡ Some e) where
+    module _ (e : ListedEntry) (says : listed_entry front ≡ Some e) where
       said : (b : Bool) → list_any (same_key e) r.seen ≡ b → Apart r.seen →
-          entries_of text ≡ cond b (Err (Repeated r.line)) (read_lines (r.line + 1) (e ∷ r.seen) (lines_of back).0 (lines_of back).1)
+          entries_of text ≡ cond b (Err (Repeated r.line)) (read_lines (r.line + 1) (e ∷ r.seen) (listing_lines back).0 (listing_lines back).1)
       said b h apart =
           this_line apart
-          ∙ ap (λ x. read_entry r.line r.seen x (λ more. read_lines (r.line + 1) more (lines_of back).0 (lines_of back).1)) says
-          ∙ ap (λ t. cond t (Err (Repeated r.line)) (read_lines (r.line + 1) (e ∷ r.seen) (lines_of back).0 (lines_of back).1)) h
+          ∙ ap (λ x. read_entry r.line r.seen x (λ more. read_lines (r.line + 1) more (listing_lines back).0 (listing_lines back).1)) says
+          ∙ ap (λ t. cond t (Err (Repeated r.line)) (read_lines (r.line + 1) (e ∷ r.seen) (listing_lines back).0 (listing_lines back).1)) h
 
-      new_key : (es : List Entry) → entries_of text ≡ Ok es → (b : Bool) → list_any (same_key e) r.seen ≡ b → list_any (same_key e) r.seen ≡ false
+      new_key : (es : List ListedEntry) → entries_of text ≡ Ok es → (b : Bool) → list_any (same_key e) r.seen ≡ b → list_any (same_key e) r.seen ≡ false
       new_key es good false h = h
       new_key es good true h = let bad = said true h (r.no_fault es good) in cc
 
@@ -85,10 +85,10 @@ module _ (text : List ℕ) (u : Unsorted) (rest : List ℕ) (r : IsGathering tex
       }
 
     -- a line that says no entry is a fault, if there is none before it
-    pub gathered_bad : entry_of front ≡ None → IsErr (listing_of text)
+    pub gathered_bad : listed_entry front ≡ None → IsErr (listing_of text)
     gathered_bad none = no_listing (entries_of text) (λ es good.
         let bad : entries_of text ≡ Err (BadLine r.line) =
-        this_line (r.no_fault es good) ∙ ap (λ x. read_entry r.line r.seen x (λ more. read_lines (r.line + 1) more (lines_of back).0 (lines_of back).1)) none in
+        this_line (r.no_fault es good) ∙ ap (λ x. read_entry r.line r.seen x (λ more. read_lines (r.line + 1) more (listing_lines back).0 (listing_lines back).1)) none in
         cc)
 
   -- so is a last line without a line feed
@@ -133,13 +133,13 @@ any_last p (f ∷ es) e = ap (λ b. p f.0 || b) (any_last p es e) ∙ exchanged 
     exchanged false b c = refl
 
 -- the keys of one kind are those that lines of it have
-subr_seen : (i : ℕ) (v : Meaning) (es : List Entry) → list_any (same_key (subr i v)) es ≡ list_any (test (of_number i)) (keys_of (unsorted es).subrs)
+subr_seen : (i : ℕ) (v : Meaning) (es : List ListedEntry) → list_any (same_key (subr i v)) es ≡ list_any (test (of_number i)) (keys_of (unsorted es).subrs)
 subr_seen i v [] = refl
 subr_seen i v (subr j w ∷ es) =
     ap (λ b. test (of_number i) (of_number j) || b) (subr_seen i v es) ∙ sym (any_last (test (of_number i)) (unsorted es).subrs (of_number j, w))
 subr_seen i v (glyph m w ∷ es) = subr_seen i v es
 
-glyph_seen : (n v : Meaning) (es : List Entry) → list_any (same_key (glyph n v)) es ≡ list_any (test n) (keys_of (unsorted es).glyphs)
+glyph_seen : (n v : Meaning) (es : List ListedEntry) → list_any (same_key (glyph n v)) es ≡ list_any (test n) (keys_of (unsorted es).glyphs)
 glyph_seen n v [] = refl
 glyph_seen n v (subr j w ∷ es) = glyph_seen n v es
 glyph_seen n v (glyph m w ∷ es) = ap (λ b. test n m || b) (glyph_seen n v es) ∙ sym (any_last (test n) (unsorted es).glyphs (m, w))
@@ -148,7 +148,7 @@ none_any : (k : Meaning) (ks : List Meaning) → AllByRecursion (λ y. test k y 
 none_any k [] h = refl
 none_any k (x ∷ ks) h = ap (λ b. b || list_any (test k) ks) h.0 ∙ none_any k ks h.1
 
-all_apart : (es : List Entry) → KeysDiffer (unsorted es).subrs → KeysDiffer (unsorted es).glyphs → Apart es
+all_apart : (es : List ListedEntry) → KeysDiffer (unsorted es).subrs → KeysDiffer (unsorted es).glyphs → Apart es
 all_apart [] s g = tt
 all_apart (subr i v ∷ es) s g =
     let before = (unsorted es).subrs in (
@@ -176,7 +176,7 @@ to_back es e h new =
     (IsDistinct-cons test e.0 (keys_of es) (none_from_any e.0 (keys_of es) new) h)
 
 -- keys that are apart differ, those of each kind
-all_differ : (es : List Entry) → Apart es → AllKeysDiffer (unsorted es)
+all_differ : (es : List ListedEntry) → Apart es → AllKeysDiffer (unsorted es)
 unfolding IsDistinct
 all_differ [] h = (tt, tt)
 all_differ (subr i v ∷ es) h =
@@ -199,7 +199,7 @@ no_entry : empty_table ≡ fin.from_entries {R = meaning_cmp} []
 no_entry = same_table _ _ (λ q. fin.get-empty meaning_cmp q ∙ sym (fin.get-from_entries nat_list_cmp_total [] q))
 
 -- the listing of entries whose keys differ has the tables of them
-listing_is : (es : List Entry) → KeysDiffer (unsorted es).subrs → KeysDiffer (unsorted es).glyphs →
+listing_is : (es : List ListedEntry) → KeysDiffer (unsorted es).subrs → KeysDiffer (unsorted es).glyphs →
     listing_from es ≡ tables (fin.from_entries (unsorted es).subrs) (fin.from_entries (unsorted es).glyphs)
 listing_is [] s g = ap (λ m. tables m m) no_entry
 listing_is (subr i v ∷ es) s g =
@@ -211,7 +211,7 @@ listing_is (glyph n v ∷ es) s g =
     ap (with_entry (glyph n v)) (listing_is es s (differ_before before (n, v) g))
     ∙ ap (tables (fin.from_entries (unsorted es).subrs)) (sym (pushed before (n, v) g))
 
-all_listed : (es : List Entry) → AllByRecursion IsEntry es → IsListing (listing_from es)
+all_listed : (es : List ListedEntry) → AllByRecursion IsEntry es → IsListing (listing_from es)
 all_listed [] h = none_listed
 all_listed (e ∷ es) h = entry_listed (listing_from es) e (all_listed es h.1) h.0
 

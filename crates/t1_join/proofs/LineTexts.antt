@@ -10,8 +10,8 @@ use Rattle.std.proofs.lemmas.Bool.{le-leb, leb-true, and_from, and_parts, agree_
 use Rattle.std.proofs.lemmas.Fmt.{decimal_by_steps, length-decimal-le, decimal_nonempty}
 use Rattle.hex.specs.Hex.{IsBytes, decode_of, encode_lower, encode_with, lower_digits}
 use Rattle.hex.proofs.HexLemmas.{decode_of-encode_lower, length-encode_with}
-use Rattle.t1_join.specs.ListingMeaning.{ends_name, is_name, IsValue}
-use Rattle.t1_join.specs.ListingText.{Entry, subr, glyph, with_front, split_at, digits_after, up_to, index_of, bytes_of, entry_of, subr_of, glyph_of, lines_of}
+use Rattle.t1_join.specs.ListingMeaning.{ends_name, is_listed_name, IsValue}
+use Rattle.t1_join.specs.ListingText.{ListedEntry, subr, glyph, with_digit, split_at, number_after, up_to, listed_index, bytes_of, listed_entry, subr_of, glyph_of, listing_lines}
 use Rattle.t1_join.specs.LineMeaning.{IsEntry}
 use Rattle.t1_join.proofs.SplitLemmas.{lines-split, first_line}
 
@@ -25,10 +25,10 @@ no_append c (x ∷ xs) ys h k = (h.0, no_append c xs ys h.1 k)
 
 -- a text is split at the first c
 pub split_after : (c : ℕ) (xs ys : List ℕ) → No c xs → split_at c (xs ++ c ∷ ys) ≡ Some (xs, ys)
-split_after c [] ys h = ap (λ t. cond t (Some ([], ys)) (option_map (with_front c) (split_at c ys))) (eq-eqb c c refl)
+split_after c [] ys h = ap (λ t. cond t (Some ([], ys)) (option_map (with_digit c) (split_at c ys))) (eq-eqb c c refl)
 split_after c (b ∷ bs) ys h =
-    ap (λ t. cond t (Some ([], bs ++ c ∷ ys)) (option_map (with_front b) (split_at c (bs ++ c ∷ ys)))) h.0
-    ∙ ap (option_map (with_front b)) (split_after c bs ys h.1)
+    ap (λ t. cond t (Some ([], bs ++ c ∷ ys)) (option_map (with_digit b) (split_at c (bs ++ c ∷ ys)))) h.0
+    ∙ ap (option_map (with_digit b)) (split_after c bs ys h.1)
 
 -- ---- decimals
 
@@ -43,20 +43,20 @@ is_digit : (d : ℕ) → 48 ≤ d → d ≤ 57 → (nat_le 48 d && nat_le d 57) 
 is_digit d low high = and_from (nat_le 48 d) (nat_le d 57) (le-leb 48 d low) (le-leb d 57 high)
 
 -- one more digit
-after_push : (n m : ℕ) (w : List ℕ) (d : ℕ) → AreDigits w → 48 ≤ d → d ≤ 57 → digits_after n w ≡ Some m →
-    digits_after n (w ++ d ∷ []) ≡ Some (m * 10 + (d - 48))
+after_push : (n m : ℕ) (w : List ℕ) (d : ℕ) → AreDigits w → 48 ≤ d → d ≤ 57 → number_after n w ≡ Some m →
+    number_after n (w ++ d ∷ []) ≡ Some (m * 10 + (d - 48))
 after_push n m [] d h low high e =
     let same : n ≡ m = cc in
     ap (λ t. cond t (Some (n * 10 + (d - 48))) None) (is_digit d low high) ∙ ap (λ k. Some (k * 10 + (d - 48))) same
 after_push n m (b ∷ bs) d h low high e =
     let t = is_digit b h.0.0 h.0.1 in
-    ap (λ u. cond u (digits_after (n * 10 + (b - 48)) (bs ++ d ∷ [])) None) t
-    ∙ after_push (n * 10 + (b - 48)) m bs d h.1 low high (sym (ap (λ u. cond u (digits_after (n * 10 + (b - 48)) bs) None) t) ∙ e)
+    ap (λ u. cond u (number_after (n * 10 + (b - 48)) (bs ++ d ∷ [])) None) t
+    ∙ after_push (n * 10 + (b - 48)) m bs d h.1 low high (sym (ap (λ u. cond u (number_after (n * 10 + (b - 48)) bs) None) t) ∙ e)
 
 -- these digits are the decimal of n
 pub record IsNumber (n : ℕ) (w : List ℕ) : Type 0 where
   pub made : AreDigits w
-  pub value : digits_after 0 w ≡ Some n
+  pub value : number_after 0 w ≡ Some n
 
 one_digit : (n : ℕ) → n < 10 → IsNumber n ((48 + n) ∷ [])
 one_digit n h = record {
@@ -81,12 +81,12 @@ no_digit c (b ∷ bs) l h = (differs (b == c) refl, no_digit c bs l h.1)
     differs true e = let same : b ≡ c = eqb-true b c e in let low : 48 ≤ b = h.0.0 in absurd (omega arith)
     differs false e = e
 
-index_read : (i : ℕ) → i < 65535 → index_of (decimal i) ≡ Some i
+index_read : (i : ℕ) → i < 65535 → listed_index (decimal i) ≡ Some i
 index_read i h =
     let n = number i (omega arith) in
     let few : nat_le (length (decimal i)) 5 ≡ true = le-leb (length (decimal i)) 5 (length-decimal-le 5 i (omega arith) (omega arith) (omega arith)) in
     let some : nat_le 1 (length (decimal i)) ≡ true = le-leb 1 (length (decimal i)) (decimal_nonempty i (omega arith)) in
-    ap (λ t. cond t (option_and_then (up_to 65534) (digits_after 0 (decimal i))) None) (and_from _ _ some few)
+    ap (λ t. cond t (option_and_then (up_to 65534) (number_after 0 (decimal i))) None) (and_from _ _ some few)
     ∙ ap (option_and_then (up_to 65534)) n.value
     ∙ ap (λ t. cond t (Some i) None) (le-leb i 65534 (omega arith))
 
@@ -142,18 +142,18 @@ no_end c (b ∷ bs) e h =
         false_true e = cc
     differs false k n = k
 
-name_no : (c : ℕ) (name : List ℕ) → ends_name c ≡ true → is_name name ≡ true → No c name
+name_no : (c : ℕ) (name : List ℕ) → ends_name c ≡ true → is_listed_name name ≡ true → No c name
 name_no c name e h = no_end c name e (and_parts (nat_le 1 (length name) && nat_le (length name) 127) (list_all (λ b. not (ends_name b)) name) h).1
 
 -- ---- lines
 
 -- what a line says, as text
-abbrev pub bare_line : Entry → List ℕ
+abbrev pub bare_line : ListedEntry → List ℕ
 bare_line (subr i v) = 83 ∷ 32 ∷ (decimal i ++ 32 ∷ encode_lower v)
 bare_line (glyph n v) = 71 ∷ 32 ∷ (n ++ 32 ∷ encode_lower v)
 
 -- the line that is written for an entry says this entry
-pub entry_read : (e : Entry) → IsEntry e → entry_of (bare_line e) ≡ Some e
+pub entry_read : (e : ListedEntry) → IsEntry e → listed_entry (bare_line e) ≡ Some e
 entry_read (subr i v) h =
     ap (option_and_then subr_of) (split_after 32 (decimal i) (encode_lower v) (no_digit 32 (decimal i) (omega arith) (number i (omega (arith, h.0))).made))
     ∙ ap (option_and_then (λ n. option_map (subr n) (bytes_of (encode_lower v)))) (index_read i h.0)
@@ -163,7 +163,7 @@ entry_read (glyph n v) h =
     ∙ ap (λ t. option_and_then (λ m. option_map (glyph m) (bytes_of (encode_lower v))) (cond t (Some n) None)) h.0
     ∙ ap (option_map (glyph n)) (bytes_read v h.1)
 
-no_line_feed : (e : Entry) → IsEntry e → No 10 (bare_line e)
+no_line_feed : (e : ListedEntry) → IsEntry e → No 10 (bare_line e)
 no_line_feed (subr i v) h = (
   refl,
   (
@@ -175,5 +175,5 @@ no_line_feed (subr i v) h = (
 no_line_feed (glyph n v) h = (refl, (refl, no_append 10 n (32 ∷ encode_lower v) (name_no 10 n refl h.0) (refl, no_hex v h.1.bytes)))
 
 -- the line of an entry comes first
-pub line_first : (e : Entry) (rest : List ℕ) → IsEntry e → lines_of (bare_line e ++ 10 ∷ rest) ≡ (bare_line e ∷ (lines_of rest).0, (lines_of rest).1)
+pub line_first : (e : ListedEntry) (rest : List ℕ) → IsEntry e → listing_lines (bare_line e ++ 10 ∷ rest) ≡ (bare_line e ∷ (listing_lines rest).0, (listing_lines rest).1)
 line_first e rest h = lines-split (bare_line e ++ 10 ∷ rest) ∙ ap (first_line (bare_line e ++ 10 ∷ rest)) (split_after 10 (bare_line e) rest (no_line_feed e h))

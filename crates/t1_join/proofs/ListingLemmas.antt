@@ -15,8 +15,8 @@ use Rattle.t1_join.specs.Meaning.{Meaning, meaning_cmp, of_number}
 use Rattle.t1_join.specs.Join.{State, joined_state}
 use Rattle.t1_join.specs.TableMeaning.{TableMeaning, IsNewEntry, IsRepeated, joined_table}
 use Rattle.t1_join.specs.TableLaws.{get_joined}
-use Rattle.t1_join.specs.ListingMeaning.{ListingMeaning, IsValue, IsIndex, IsListing, is_name}
-use Rattle.t1_join.specs.ListingText.{Entry, subr, glyph, split_at, digits_after, up_to, index_of, name_of, bytes_of, subr_of, glyph_of, entry_of, with_entry}
+use Rattle.t1_join.specs.ListingMeaning.{ListingMeaning, IsValue, IsIndex, IsListing, is_listed_name}
+use Rattle.t1_join.specs.ListingText.{ListedEntry, subr, glyph, split_at, number_after, up_to, listed_index, name_of, bytes_of, subr_of, glyph_of, listed_entry, with_entry}
 use Rattle.t1_join.specs.LineMeaning.{IsEntry}
 use Rattle.t1_join.proofs.EntryLemmas.{same_by_cmp}
 use Rattle.t1_join.proofs.TreeEntries.{is_eq-Equal}
@@ -36,8 +36,8 @@ bytes_fit hex v h = by (nat_le (length hex) 131070) refl (decode_of hex) refl h
     by false t r d h = cc
 
 -- an index is below 65,535
-index_small : (word : List ℕ) (i : ℕ) → index_of word ≡ Some i → i < 65535
-index_small word i h = by (nat_le 1 (length word) && nat_le (length word) 5) (digits_after 0 word) h
+index_small : (word : List ℕ) (i : ℕ) → listed_index word ≡ Some i → i < 65535
+index_small word i h = by (nat_le 1 (length word) && nat_le (length word) 5) (number_after 0 word) h
   where
     at_most : (n : ℕ) (b : Bool) → nat_le n 65534 ≡ b → cond b (Some n) None ≡ Some i → i < 65535
     at_most n true t h =
@@ -51,18 +51,18 @@ index_small word i h = by (nat_le 1 (length word) && nat_le (length word) 5) (di
     by true None h = cc
     by false o h = cc
 
-name_fits : (word name : List ℕ) → name_of word ≡ Some name → is_name name ≡ true
-name_fits word name h = by (is_name word) refl h
+name_fits : (word name : List ℕ) → name_of word ≡ Some name → is_listed_name name ≡ true
+name_fits word name h = by (is_listed_name word) refl h
   where
-    by : (b : Bool) → is_name word ≡ b → cond b (Some word) None ≡ Some name → is_name name ≡ true
-    by true t h = let e : word ≡ name = cc in subst (λ w. is_name w ≡ true) e t
+    by : (b : Bool) → is_listed_name word ≡ b → cond b (Some word) None ≡ Some name → is_listed_name name ≡ true
+    by true t h = let e : word ≡ name = cc in subst (λ w. is_listed_name w ≡ true) e t
     by false t h = cc
 
 -- what the line of a Subr says fits a listing
-subr_fits : (p : List ℕ × List ℕ) (e : Entry) → subr_of p ≡ Some e → IsEntry e
-subr_fits p e h = by (index_of p.0) refl (bytes_of p.1) refl h
+subr_fits : (p : List ℕ × List ℕ) (e : ListedEntry) → subr_of p ≡ Some e → IsEntry e
+subr_fits p e h = by (listed_index p.0) refl (bytes_of p.1) refl h
   where
-    by : (i : Option ℕ) → index_of p.0 ≡ i → (v : Option (List ℕ)) → bytes_of p.1 ≡ v → option_and_then (λ n. option_map (subr n) v) i ≡ Some e → IsEntry e
+    by : (i : Option ℕ) → listed_index p.0 ≡ i → (v : Option (List ℕ)) → bytes_of p.1 ≡ v → option_and_then (λ n. option_map (subr n) v) i ≡ Some e → IsEntry e
     by (Some i) a (Some v) b h =
         let s : subr i v ≡ e = cc in
         subst IsEntry s (index_small p.0 i a, bytes_fit p.1 v b)
@@ -70,7 +70,7 @@ subr_fits p e h = by (index_of p.0) refl (bytes_of p.1) refl h
     by None a v b h = cc
 
 -- what the line of a glyph says fits a listing
-glyph_fits : (p : List ℕ × List ℕ) (e : Entry) → glyph_of p ≡ Some e → IsEntry e
+glyph_fits : (p : List ℕ × List ℕ) (e : ListedEntry) → glyph_of p ≡ Some e → IsEntry e
 glyph_fits p e h = by (name_of p.0) refl (bytes_of p.1) refl h
   where
     by : (n : Option (List ℕ)) → name_of p.0 ≡ n → (v : Option (List ℕ)) →
@@ -82,7 +82,7 @@ glyph_fits p e h = by (name_of p.0) refl (bytes_of p.1) refl h
     by None a v b h = cc
 
 -- what a line says has an index or a name, and a value
-pub entry_fits : (line : List ℕ) (e : Entry) → entry_of line ≡ Some e → IsEntry e
+pub entry_fits : (line : List ℕ) (e : ListedEntry) → listed_entry line ≡ Some e → IsEntry e
 entry_fits [] e h = cc
 entry_fits (kind ∷ []) e h = cc
 entry_fits (kind ∷ blank ∷ rest) e h = by (blank == 32) (kind == 83) (kind == 71) (split_at 32 rest) h
@@ -128,7 +128,7 @@ module _ (P : Meaning → Meaning → Type 0) where
       by (Some v) t e = a q w (t ∙ e)
 
 abbrev name_key : Meaning → Meaning → Type 0
-name_key k v = is_name k ≡ true
+name_key k v = is_listed_name k ≡ true
 
 abbrev index_key : Meaning → Meaning → Type 0
 index_key k v = IsIndex k
@@ -141,7 +141,7 @@ pub none_listed : IsListing (record { subrs = fin.empty; glyphs = fin.empty })
 none_listed = record { indices = each_none index_key; names = each_none name_key; subr_values = each_none value_at; glyph_values = each_none value_at }
 
 -- a listing with one more entry that fits is a listing
-pub entry_listed : (l : ListingMeaning) (e : Entry) → IsListing l → IsEntry e → IsListing (with_entry e l)
+pub entry_listed : (l : ListingMeaning) (e : ListedEntry) → IsListing l → IsEntry e → IsListing (with_entry e l)
 entry_listed l (subr i v) h e = record {
   indices = each_insert index_key l.subrs (of_number i) v (record { index = i; is = refl; small = e.0 }) h.indices;
   names = h.names;

@@ -15,7 +15,7 @@ use Rattle.t1_join.specs.Join.{State, joined_state}
 use Rattle.t1_join.specs.TableMeaning.{TableMeaning}
 use Rattle.t1_join.specs.TableLaws.{same_table}
 use Rattle.t1_join.specs.ListingMeaning.{ListingMeaning, IsIndex, IsListing}
-use Rattle.t1_join.specs.ListingText.{Entry, subr, glyph, lines_of, same_key, read_entry, read_lines, listing_from, listing_result, listing_of, subr_line, glyph_line, text_of}
+use Rattle.t1_join.specs.ListingText.{ListedEntry, subr, glyph, listing_lines, same_key, read_entry, read_lines, listing_from, listing_result, listing_of, subr_line, glyph_line, text_of}
 use Rattle.t1_join.specs.LineMeaning.{IsEntry}
 use Rattle.t1_join.proofs.EntryLemmas.{same_by_cmp}
 use Rattle.t1_join.proofs.TreeEntries.{is_eq-Equal}
@@ -33,42 +33,42 @@ present_first true (Some w) v z h = cc (h refl)
 -- ---- entries, line by line
 
 -- the lines of the entries, and then the rest
-abbrev lines : List Entry → List ℕ → List ℕ
+abbrev lines : List ListedEntry → List ℕ → List ℕ
 lines [] rest = rest
 lines (e ∷ es) rest = bare_line e ++ 10 ∷ lines es rest
 
-lines-append : (es fs : List Entry) (rest : List ℕ) → lines (es ++ fs) rest ≡ lines es (lines fs rest)
+lines-append : (es fs : List ListedEntry) (rest : List ℕ) → lines (es ++ fs) rest ≡ lines es (lines fs rest)
 lines-append [] fs rest = refl
 lines-append (e ∷ es) fs rest = ap (λ t. bare_line e ++ 10 ∷ t) (lines-append es fs rest)
 
 -- the entries that were seen, once es are read
-abbrev onto : List Entry → List Entry → List Entry
+abbrev onto : List ListedEntry → List ListedEntry → List ListedEntry
 onto [] seen = seen
 onto (e ∷ es) seen = onto es (e ∷ seen)
 
 -- no entry has the key of an earlier one
-abbrev Apart : List Entry → List Entry → Type 0
+abbrev Apart : List ListedEntry → List ListedEntry → Type 0
 Apart [] seen = Unit {0}
 Apart (e ∷ es) seen = (list_any (same_key e) seen ≡ false) × Apart es (e ∷ seen)
 
-read_all : (n : ℕ) (es seen : List Entry) → AllByRecursion IsEntry es → Apart es seen →
-    read_lines n seen (lines_of (lines es [])).0 (lines_of (lines es [])).1 ≡ Ok (onto es seen)
+read_all : (n : ℕ) (es seen : List ListedEntry) → AllByRecursion IsEntry es → Apart es seen →
+    read_lines n seen (listing_lines (lines es [])).0 (listing_lines (lines es [])).1 ≡ Ok (onto es seen)
 read_all n [] seen h a = refl
 read_all n (e ∷ es) seen h a =
     ap (λ p. read_lines n seen p.0 p.1) (line_first e (lines es []) h.0)
-    ∙ ap (λ x. read_entry n seen x (λ more. read_lines (n + 1) more (lines_of (lines es [])).0 (lines_of (lines es [])).1)) (entry_read e h.0)
-    ∙ ap (λ t. cond t (Err (Repeated n)) (read_lines (n + 1) (e ∷ seen) (lines_of (lines es [])).0 (lines_of (lines es [])).1)) a.0
+    ∙ ap (λ x. read_entry n seen x (λ more. read_lines (n + 1) more (listing_lines (lines es [])).0 (listing_lines (lines es [])).1)) (entry_read e h.0)
+    ∙ ap (λ t. cond t (Err (Repeated n)) (read_lines (n + 1) (e ∷ seen) (listing_lines (lines es [])).0 (listing_lines (lines es [])).1)) a.0
     ∙ read_all (n + 1) es (e ∷ seen) h.1 a.1
 
-apart_append : (es fs seen : List Entry) → Apart es seen → Apart fs (onto es seen) → Apart (es ++ fs) seen
+apart_append : (es fs seen : List ListedEntry) → Apart es seen → Apart fs (onto es seen) → Apart (es ++ fs) seen
 apart_append [] fs seen a b = b
 apart_append (e ∷ es) fs seen a b = (a.0, apart_append es fs (e ∷ seen) a.1 b)
 
-onto-append : (es fs seen : List Entry) → onto (es ++ fs) seen ≡ onto fs (onto es seen)
+onto-append : (es fs seen : List ListedEntry) → onto (es ++ fs) seen ≡ onto fs (onto es seen)
 onto-append [] fs seen = refl
 onto-append (e ∷ es) fs seen = onto-append es fs (e ∷ seen)
 
-all_append : (P : Entry → Type 0) (es fs : List Entry) → AllByRecursion P es → AllByRecursion P fs → AllByRecursion P (es ++ fs)
+all_append : (P : ListedEntry → Type 0) (es fs : List ListedEntry) → AllByRecursion P es → AllByRecursion P fs → AllByRecursion P (es ++ fs)
 all_append P [] fs h k = k
 all_append P (e ∷ es) fs h k = (h.0, all_append P es fs h.1 k)
 
@@ -145,35 +145,35 @@ put_entries m = same_table _ _ (λ q.
     ∙ sym (fin.get-entries m q))
 
 -- entries that are made of a table's are apart
-module _ (made : Meaning × Meaning → Entry) (Good : Meaning → Type 0)
+module _ (made : Meaning × Meaning → ListedEntry) (Good : Meaning → Type 0)
     (keyed : (e f : Meaning × Meaning) → Good e.0 → Good f.0 → same_key (made f) (made e) ≡ eq_by_cmp meaning_cmp f.0 e.0) where
-  abbrev Fresh : List (Meaning × Meaning) → List Entry → Type 0
+  abbrev Fresh : List (Meaning × Meaning) → List ListedEntry → Type 0
   Fresh es seen = AllByRecursion (λ e. list_any (same_key (made e)) seen ≡ false) es
 
-  fresh_after : (e : Meaning × Meaning) (es : List (Meaning × Meaning)) (seen : List Entry) → Good e.0 →
+  fresh_after : (e : Meaning × Meaning) (es : List (Meaning × Meaning)) (seen : List ListedEntry) → Good e.0 →
       AllByRecursion (λ f. Good f.0) es → T (below_all meaning_cmp e.0 es) → Fresh es seen → Fresh es (made e ∷ seen)
   fresh_after e [] seen g gs s h = tt
   fresh_after e (f ∷ fs) seen g gs s h =
       let apart : same_key (made f) (made e) ≡ false = keyed e f g gs.0 ∙ above_differs e.0 f.0 (lt_is (meaning_cmp e.0 f.0) (both_true _ _ s).0) in
       (ap (λ b. b || list_any (same_key (made f)) seen) apart ∙ h.0, fresh_after e fs seen g gs.1 (both_true _ _ s).1 h.1)
 
-  apart_entries : (es : List (Meaning × Meaning)) (seen : List Entry) → AllByRecursion (λ f. Good f.0) es → T (fin.is_sorted meaning_cmp es) → Fresh es seen →
+  apart_entries : (es : List (Meaning × Meaning)) (seen : List ListedEntry) → AllByRecursion (λ f. Good f.0) es → T (fin.is_sorted meaning_cmp es) → Fresh es seen →
       Apart (map made es) seen
   apart_entries [] seen g s h = tt
   apart_entries (e ∷ es) seen g s h = (h.0, apart_entries es (made e ∷ seen) g.1 (both_true _ _ s).1 (fresh_after e es seen g.0 g.1 (both_true _ _ s).0 h.1))
 
 -- ---- a listing's entries
 
-abbrev subr_entry : Meaning × Meaning → Entry
+abbrev subr_entry : Meaning × Meaning → ListedEntry
 subr_entry e = subr (slice_index e.0 0) e.1
 
-abbrev glyph_entry : Meaning × Meaning → Entry
+abbrev glyph_entry : Meaning × Meaning → ListedEntry
 glyph_entry e = glyph e.0 e.1
 
 abbrev with_subrs : TableMeaning → TableMeaning → ListingMeaning
 with_subrs m n = record { subrs = m; glyphs = n }
 
-abbrev all_entries : ListingMeaning → List Entry
+abbrev all_entries : ListingMeaning → List ListedEntry
 all_entries l = map subr_entry (fin.entries l.subrs) ++ map glyph_entry (fin.entries l.glyphs)
 
 number_is : (k : Meaning) → IsIndex k → of_number (slice_index k 0) ≡ k
@@ -186,7 +186,7 @@ nothing_seen : (es : List (Meaning × Meaning)) → AllByRecursion (λ e. list_a
 nothing_seen [] = tt
 nothing_seen (e ∷ es) = (refl, nothing_seen es)
 
-no_glyph_seen : (n v : List ℕ) (es : List (Meaning × Meaning)) (seen : List Entry) → list_any (same_key (glyph n v)) seen ≡ false →
+no_glyph_seen : (n v : List ℕ) (es : List (Meaning × Meaning)) (seen : List ListedEntry) → list_any (same_key (glyph n v)) seen ≡ false →
     list_any (same_key (glyph n v)) (onto (map subr_entry es) seen) ≡ false
 no_glyph_seen n v [] seen h = h
 no_glyph_seen n v (e ∷ es) seen h = no_glyph_seen n v es (subr_entry e ∷ seen) h
@@ -218,14 +218,14 @@ entries_fit l h =
     small : (k : Meaning) → IsIndex k → slice_index k 0 < 65535
     small k i = subst (λ x. slice_index x 0 < 65535) (sym i.is) i.small
 
-subrs_from : (es : List (Meaning × Meaning)) (seen : List Entry) → AllByRecursion (λ e. IsIndex e.0) es →
+subrs_from : (es : List (Meaning × Meaning)) (seen : List ListedEntry) → AllByRecursion (λ e. IsIndex e.0) es →
     listing_from (onto (map subr_entry es) seen) ≡ record { subrs = put_all es (listing_from seen).subrs; glyphs = (listing_from seen).glyphs }
 subrs_from [] seen h = refl
 subrs_from (e ∷ es) seen h =
     subrs_from es (subr_entry e ∷ seen) h.1
     ∙ ap (λ k. with_subrs (put_all es (fin.insert (listing_from seen).subrs k e.1)) (listing_from seen).glyphs) (number_is e.0 h.0)
 
-glyphs_from : (es : List (Meaning × Meaning)) (seen : List Entry) →
+glyphs_from : (es : List (Meaning × Meaning)) (seen : List ListedEntry) →
     listing_from (onto (map glyph_entry es) seen) ≡ record { subrs = (listing_from seen).subrs; glyphs = put_all es (listing_from seen).glyphs }
 glyphs_from [] seen = refl
 glyphs_from (e ∷ es) seen = glyphs_from es (glyph_entry e ∷ seen)

@@ -21,8 +21,8 @@ abbrev pub ends_name : ℕ → Bool
 ends_name b = list_any (λ x. b == x) (0 ∷ 9 ∷ 10 ∷ 12 ∷ 13 ∷ 32 ∷ codes "()<>[]{}/%")
 
 -- how many bytes a name has at most
-abbrev pub name_limit : ℕ
-name_limit = 127
+abbrev pub listed_name_limit : ℕ
+listed_name_limit = 127
 
 -- how many bytes a value has at most
 abbrev pub value_limit : ℕ
@@ -33,8 +33,8 @@ abbrev pub index_limit : ℕ
 index_limit = 65535
 
 -- a name has some bytes, at most as many as the limit, and none that ends it
-abbrev pub is_name : List ℕ → Bool
-is_name name = nat_le 1 (length name) && nat_le (length name) name_limit && list_all (λ b. not (ends_name b)) name
+abbrev pub is_listed_name : List ℕ → Bool
+is_listed_name name = nat_le 1 (length name) && nat_le (length name) listed_name_limit && list_all (λ b. not (ends_name b)) name
 
 -- a value has bytes, at most as many as the limit
 pub record IsValue (v : Meaning) : Type 0 where
@@ -50,6 +50,6 @@ pub record IsIndex (k : Meaning) : Type 0 where
 -- each entry of a listing has an index or a name, and a value
 pub record IsListing (l : ListingMeaning) : Type 0 where
   pub indices : (k v : Meaning) → fin.get l.subrs k ≡ Some v → IsIndex k
-  pub names : (k v : Meaning) → fin.get l.glyphs k ≡ Some v → is_name k ≡ true
+  pub names : (k v : Meaning) → fin.get l.glyphs k ≡ Some v → is_listed_name k ≡ true
   pub subr_values : (k v : Meaning) → fin.get l.subrs k ≡ Some v → IsValue v
   pub glyph_values : (k v : Meaning) → fin.get l.glyphs k ≡ Some v → IsValue v

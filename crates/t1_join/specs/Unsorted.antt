@@ -6,7 +6,7 @@ use Rattle.std.specs.Ordering.{eq_by_cmp}
 use Rattle.std.specs.FinMap as fin
 use Rattle.t1_join.specs.Meaning.{Meaning, meaning_cmp, of_number}
 use Rattle.t1_join.specs.TableMeaning.{TableMeaning}
-use Rattle.t1_join.specs.ListingText.{Entry, subr, glyph}
+use Rattle.t1_join.specs.ListingText.{ListedEntry, subr, glyph}
 
 -- the entries of Subrs and of glyphs, each in the order of their lines
 pub record Unsorted : Type 0 where
@@ -14,7 +14,7 @@ pub record Unsorted : Type 0 where
   pub glyphs : List (Meaning × Meaning)
 
 -- with the entry of one more line
-abbrev pub with_line : Entry → Unsorted → Unsorted
+abbrev pub with_line : ListedEntry → Unsorted → Unsorted
 with_line (subr i v) u = record { subrs = u.subrs ++ (of_number i, v) ∷ []; glyphs = u.glyphs }
 with_line (glyph n v) u = record { subrs = u.subrs; glyphs = u.glyphs ++ (n, v) ∷ [] }
 

@@ -2,8 +2,8 @@
 ghost use Rattle.std.specs.Prelude.{◌≡◌, ◌==◌, ◌≤◌, length, position, option_and_then, not};
 ghost use Rattle.std.specs.List.{list_all};
 ghost use Rattle.std.specs.Option.{option_map};
-ghost use Rattle.t1_join.specs.ListingMeaning.{ends_name, is_name};
-ghost use Rattle.t1_join.specs.ListingText.{split_at, index_of, subr_of, glyph_of, entry_of};
+ghost use Rattle.t1_join.specs.ListingMeaning.{ends_name, is_listed_name};
+ghost use Rattle.t1_join.specs.ListingText.{split_at, listed_index, subr_of, glyph_of, listed_entry};
 ghost use Rattle.t1_join.specs.LineMeaning.{line_entry, slice_pair};
 
 use crate::hexadecimal::Hex;
@@ -32,7 +32,7 @@ pub fn split_at_byte(text: &[u8], byte: u8) -> Option<(&[u8], &[u8])>
 }
 
 fn index(word: &[u8]) -> Option<u16>
-    ensures { result ≡ index_of word.now }
+    ensures { result ≡ listed_index word.now }
 {
     if word.is_empty() || word.len() > 5 {
         return None;
@@ -80,7 +80,7 @@ fn has_no_end(word: &[u8]) -> bool
 const NAME_LIMIT: usize = 127;
 
 fn may_name(word: &[u8]) -> bool
-    ensures { result ≡ is_name word.now }
+    ensures { result ≡ is_listed_name word.now }
 {
     if word.is_empty() || word.len() > NAME_LIMIT {
         return false;
@@ -90,7 +90,7 @@ fn may_name(word: &[u8]) -> bool
 
 /// What a line says, without its line feed.
 pub fn read_line(line: &[u8]) -> Option<Line<'_>>
-    ensures { option_map line_entry result ≡ entry_of line.now }
+    ensures { option_map line_entry result ≡ listed_entry line.now }
 {
     let (kind, after) = line.split_first()?;
     let (blank, rest) = after.split_first()?;

@@ -15,7 +15,7 @@ use Rattle.t1_run.specs.declared.answer.Hints.{Hints}
 use Rattle.t1_run.specs.declared.answer.Hints.TheVariants.{Kept}
 use Rattle.t1_run.specs.State.{State, Ending, Failed, start}
 use Rattle.t1_run.specs.Rules.{Step, Goes, Ends}
-use Rattle.t1_run.specs.Run.{Subrs, Outcome, ends, taken, index_of, entry, then_run, level_limit, call, with_indices, run_glyph, at_top, marks_after}
+use Rattle.t1_run.specs.Run.{Subrs, Outcome, ends, index_taken, index_of, charstring_at, then_run, level_limit, call, with_indices, run_glyph, at_top, marks_after}
 use Rattle.t1_run.specs.Machine.{state_of, step_of, is_one, Spent, SpendsNext, ending_of, Runs}
 use Rattle.t1_run.specs.Frames.{frame_left}
 use Rattle.t1_run.specs.Limits.{EndsWithinLimits, Keeps}
@@ -171,7 +171,7 @@ module _ {P : Type 0} {subrs : Subrs} {hints : Hints} {c old : List ℕ} {one : 
       room = omega (arith, left, length_push (rest ++ top' ∷ []) rest top' refl)
 
       -- the call fails
-      pub fails_so : (mid : List ℕ) (fault : Fault) → mid ≡ with_indices now (taken index) →
+      pub fails_so : (mid : List ℕ) (fault : Fault) → mid ≡ with_indices now (index_taken index) →
           ((h : Hints) (s : State) → call subrs h levels index s ≡ ends (Failed fault)) → Ran (halt.Failed fault) mid
       fails_so mid fault took failed =
           ran (halt.Failed fault) _ mid refl tt
@@ -186,8 +186,8 @@ module _ {P : Type 0} {subrs : Subrs} {hints : Hints} {c old : List ℕ} {one : 
           (λ h. (h, spent.one refl inv.marks)) is refl room fault (λ h. failed h (state_of m' inv.marks))
 
       -- the Subr is on top
-      pub calls : (mid c' : List ℕ) (g : Frame) (callers frames' : List Frame) → mid ≡ with_indices now (taken index) →
-          (0 < levels) × (entry subrs index ≡ Some c') → frame_left g ≡ tokens c' → callers ≡ rest ++ top' ∷ [] → frames' ≡ callers ++ g ∷ [] →
+      pub calls : (mid c' : List ℕ) (g : Frame) (callers frames' : List Frame) → mid ≡ with_indices now (index_taken index) →
+          (0 < levels) × (charstring_at subrs index ≡ Some c') → frame_left g ≡ tokens c' → callers ≡ rest ++ top' ∷ [] → frames' ≡ callers ++ g ∷ [] →
           Between subrs hints c old one Drawn frames' m' mid
       calls mid c' g callers frames' took enters all pushed entered =
           let frames_are : frames' ≡ (rest ++ top' ∷ []) ++ g ∷ [] = entered ∙ ap (λ (fs : List Frame). fs ++ g ∷ []) pushed in

@@ -7,7 +7,7 @@ use Rattle.t1_run.specs.declared.answer.Hints.{Hints}
 use Rattle.t1_run.specs.declared.answer.Hints.TheVariants.{Replaced, Kept}
 use Rattle.t1_run.specs.State.{State, Ending, Back, Plain, Seac, Failed, start}
 use Rattle.t1_run.specs.Rules.{Step, Goes, Ends, Calls}
-use Rattle.t1_run.specs.Run.{Subrs, Outcome, taken, index_of, entry, enter, call, then_run, resume, follow, after, visiting, deeper, visit, spend, run_with}
+use Rattle.t1_run.specs.Run.{Subrs, Outcome, index_taken, index_of, charstring_at, enter, call, then_run, resume, follow, after, visiting, deeper, visit, spend, run_with}
 use Rattle.t1_run.specs.Run.{run, level_limit, run_glyph, direct_by, at_top, calls_of, with_indices, exec}
 use Rattle.t1_run.specs.Drawings.{Glyphs, parts_of, picture, picture_at, of_two, accented_picture, outcome_at, draw_by}
 use Rattle.t1_run.specs.Growth.{Extends, NoFault, IsDrawn, RunsWithMore, DrawsWithMore}
@@ -41,7 +41,7 @@ follow_grown call call' rest rest' (Goes s) calls same h = same s h
 follow_grown call call' rest rest' (Ends e) calls same h = refl
 follow_grown call call' rest rest' (Calls i s) calls same h =
     let e : call' (index_of i) s ≡ call (index_of i) s = calls (index_of i) s (then_ended (call (index_of i) s).ending rest h) in
-    ap (after (taken (index_of i))) (ap (λ (o : Outcome). resume (deeper o) rest') e ∙ resume_grown (deeper (call (index_of i) s)) rest rest' same h)
+    ap (after (index_taken (index_of i))) (ap (λ (o : Outcome). resume (deeper o) rest') e ∙ resume_grown (deeper (call (index_of i) s)) rest rest' same h)
 
 run_with_grown : (hints : Hints) (call call' : Option ℕ → State → Outcome) (ts : List Token) → Grows call call' →
     GrowsFrom (run_with hints call ts) (run_with hints call' ts)
@@ -52,8 +52,8 @@ run_with_grown hints call call' (t ∷ ts) calls s h =
 
 module _ (f g : Subrs) (more : Extends f g) where
   -- what is there is there in g, and a run of what isn't is a fault
-  enter_grown : (i : Option ℕ) (o : Option (List ℕ)) → entry f i ≡ o → (inner inner' : List Token → State → Outcome) →
-      ((ts : List Token) → GrowsFrom (inner ts) (inner' ts)) → (s : State) → NoFault (enter o inner s).ending → enter (entry g i) inner' s ≡ enter o inner s
+  enter_grown : (i : Option ℕ) (o : Option (List ℕ)) → charstring_at f i ≡ o → (inner inner' : List Token → State → Outcome) →
+      ((ts : List Token) → GrowsFrom (inner ts) (inner' ts)) → (s : State) → NoFault (enter o inner s).ending → enter (charstring_at g i) inner' s ≡ enter o inner s
   enter_grown i None is inner inner' same s h = absurd h
   enter_grown None (Some c) is inner inner' same s h = cc
   enter_grown (Some i) (Some c) is inner inner' same s h = ap (λ (o : Option (List ℕ)). enter o inner' s) (more i c is) ∙ same (tokens c) s h
@@ -61,7 +61,7 @@ module _ (f g : Subrs) (more : Extends f g) where
   call_grown : (hints : Hints) (levels : ℕ) → Grows (call f hints levels) (call g hints levels)
   call_grown hints zero i s h = refl
   call_grown hints (suc levels) i s h =
-      enter_grown i (entry f i) refl (run f hints levels) (run g hints levels)
+      enter_grown i (charstring_at f i) refl (run f hints levels) (run g hints levels)
       (λ ts. run_with_grown hints (call f hints levels) (call g hints levels) ts (call_grown hints levels)) s h
 
   top_ended : (e : Ending) → NoFault (at_top e) → NoFault e

@@ -7,7 +7,7 @@ use Rattle.t1_run.specs.declared.answer.Hints.{Hints}
 use Rattle.t1_run.specs.declared.answer.Mark.{Mark}
 use Rattle.t1_run.specs.State.{State, Ending, Back, Plain, Seac, Failed, start}
 use Rattle.t1_run.specs.Rules.{Step, Goes, Ends, Calls}
-use Rattle.t1_run.specs.Run.{Subrs, Visit, Outcome, one_deeper, deeper, visiting, marks_after, visit, then_run, resume, follow, spend, index_of, entry, enter}
+use Rattle.t1_run.specs.Run.{Subrs, Visit, Outcome, one_deeper, deeper, visiting, marks_after, visit, then_run, resume, follow, spend, index_of, charstring_at, enter}
 use Rattle.t1_run.specs.Run.{run_with, call, level_limit, run_glyph, marks_by, at_top}
 use Rattle.t1_run.specs.Drawings.{marks_of, IsPlain}
 use Rattle.t1_run.specs.Laws.{MakesItsMarks}
@@ -93,7 +93,7 @@ call_marked : (subrs : Subrs) (hints : Hints) (levels : ℕ) (i : Option ℕ) �
 unfolding RestMarked
 call_marked subrs hints zero i s = tt
 call_marked subrs hints (suc levels) i s =
-    enter_marked (entry subrs i) (run_with hints (call subrs hints levels))
+    enter_marked (charstring_at subrs i) (run_with hints (call subrs hints levels))
     (λ ts. run_with_marked hints (call subrs hints levels) (call_marked subrs hints levels) ts) s
 
 -- the marks of an ending that is a plain glyph's are those of the outcome

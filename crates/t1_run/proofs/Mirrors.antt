@@ -7,7 +7,7 @@ use Rattle.t1_run.specs.declared.answer.Fault.{Fault}
 use Rattle.t1_run.specs.declared.answer.Hints.{Hints}
 use Rattle.t1_run.specs.State.{State, Ending, Back, Failed}
 use Rattle.t1_run.specs.Rules.{Step, Goes, Ends, Calls}
-use Rattle.t1_run.specs.Run.{Subrs, Visit, Outcome, ends, after, visiting, taken, index_of, entry, then_run, spend, run, level_limit, call}
+use Rattle.t1_run.specs.Run.{Subrs, Visit, Outcome, ends, after, visiting, index_taken, index_of, charstring_at, then_run, spend, run, level_limit, call}
 use Rattle.t1_run.specs.Frames.{frame_left, lists_of, run_frames}
 use Rattle.t1_run.proofs.Resumed.{resume_nothing}
 use Rattle.t1_run.proofs.Turns.{seen, call_on, none_left, token_goes, token_ends, token_calls, call_fails, call_enters, lists_push, length_push}
@@ -129,35 +129,35 @@ module _ {whole whole' : Outcome} {subrs : Subrs} {hints other : Hints} {one : B
     same_levels : in_turn.levels ≡ levels
     same_levels = omega (arith, in_turn.depth, room, length_push callers rest f pushed)
 
-    calls_by : (h : Hints) → Calls i s' ≡ spend h t s → lists_by h ≡ visiting visits (after (taken index) (call_on subrs h levels (lists_of callers) index s'))
+    calls_by : (h : Hints) → Calls i s' ≡ spend h t s → lists_by h ≡ visiting visits (after (index_taken index) (call_on subrs h levels (lists_of callers) index s'))
     calls_by h e =
         token_calls subrs h in_turn.levels (lists_of rest) t (frame_left f) s s' i e
-        ∙ ap (λ (index : Option ℕ). visiting visits (after (taken index) (call_on subrs h in_turn.levels (frame_left f ∷ lists_of rest) index s'))) (sym is)
-        ∙ ap (λ (lists : List (List Token)). visiting visits (after (taken index) (call_on subrs h in_turn.levels lists index s')))
+        ∙ ap (λ (index : Option ℕ). visiting visits (after (index_taken index) (call_on subrs h in_turn.levels (frame_left f ∷ lists_of rest) index s'))) (sym is)
+        ∙ ap (λ (lists : List (List Token)). visiting visits (after (index_taken index) (call_on subrs h in_turn.levels lists index s')))
         (sym (lists_push callers rest f pushed))
-        ∙ ap (λ n. visiting visits (after (taken index) (call_on subrs h n (lists_of callers) index s'))) same_levels
+        ∙ ap (λ n. visiting visits (after (index_taken index) (call_on subrs h n (lists_of callers) index s'))) same_levels
 
     -- the call fails
     pub mirror_fault : (fault : Fault) → ((h : Hints) → call subrs h levels index s' ≡ ends (Failed fault)) → one' ≡ true → whole' ≡ whole
     mirror_fault fault failed is_one =
-        mirrored (λ o. visiting visits (after (taken index) o)) (λ h. ends (Failed fault)) (Calls i s') e stays
+        mirrored (λ o. visiting visits (after (index_taken index) o)) (λ h. ends (Failed fault)) (Calls i s') e stays
         (λ h at. calls_by h at
-        ∙ ap (λ o. visiting visits (after (taken index) o)) (call_fails subrs h (lists_of callers) index s' levels fault (failed h))) is_one refl
+        ∙ ap (λ o. visiting visits (after (index_taken index) o)) (call_fails subrs h (lists_of callers) index s' levels fault (failed h))) is_one refl
 
   -- a Subr is called: its frame is on top
   pub mirror_call : (s' : State) (i : ℤ) (index : Option ℕ) (callers frames : List Frame) (levels : ℕ) (c : List ℕ) (g : Frame) → Calls i s' ≡ spend hints t s →
       Stays other one one' t s (Calls i s') → index ≡ index_of i → callers ≡ rest ++ f ∷ [] → levels + length callers ≡ suc level_limit →
-      frames ≡ callers ++ g ∷ [] → (0 < levels) × (entry subrs index ≡ Some c) → frame_left g ≡ tokens c → Mirror whole whole' subrs hints other one' frames s'
+      frames ≡ callers ++ g ∷ [] → (0 < levels) × (charstring_at subrs index ≡ Some c) → frame_left g ≡ tokens c → Mirror whole whole' subrs hints other one' frames s'
   mirror_call s' i index callers frames zero c g e stays is pushed room entered enters all = absurd (omega (arith, enters.0))
   mirror_call s' i index callers frames (suc levels) c g e stays is pushed room entered enters all =
       let lists : lists_of frames ≡ tokens c ∷ lists_of callers = lists_push frames callers g entered ∙ ap (λ (ts : List Token). ts ∷ lists_of callers) all in
       record {
         levels = levels;
         depth = omega (arith, room, length_push frames callers g entered);
-        mirrors = mirrored (λ o. visiting (visits s' i index callers (suc levels) e stays is pushed room) (after (taken index) o))
+        mirrors = mirrored (λ o. visiting (visits s' i index callers (suc levels) e stays is pushed room) (after (index_taken index) o))
             (λ h. run_frames subrs h levels (lists_of frames) s') (Calls i s') e stays
             (λ h at. calls_by s' i index callers (suc levels) e stays is pushed room h at
-            ∙ ap (λ o. visiting (visits s' i index callers (suc levels) e stays is pushed room) (after (taken index) o))
+            ∙ ap (λ o. visiting (visits s' i index callers (suc levels) e stays is pushed room) (after (index_taken index) o))
             (call_enters subrs h (lists_of callers) index s' levels c enters.1
             ∙ ap (λ (lists : List (List Token)). run_frames subrs h levels lists s') (sym lists)));
       }

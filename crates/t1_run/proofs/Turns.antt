@@ -10,7 +10,7 @@ use Rattle.t1_run.specs.declared.answer.Mark.{Mark}
 use Rattle.t1_run.specs.declared.answer.Hints.{Hints}
 use Rattle.t1_run.specs.State.{State, Ending, Back, Failed}
 use Rattle.t1_run.specs.Rules.{Step, Goes, Ends, Calls}
-use Rattle.t1_run.specs.Run.{Subrs, Visit, Outcome, ends, after, visiting, deeper, visit, taken, index_of, entry, enter, then_run, resume, follow, spend, run}
+use Rattle.t1_run.specs.Run.{Subrs, Visit, Outcome, ends, after, visiting, deeper, visit, index_taken, index_of, charstring_at, enter, then_run, resume, follow, spend, run}
 use Rattle.t1_run.specs.Run.{level_limit, call, with_indices, marks_after, marks_by}
 use Rattle.t1_run.specs.Frames.{frame_left, lists_of, deeper_by, run_frames}
 use Rattle.t1_run.specs.Limits.{IsWithinLimits}
@@ -65,7 +65,7 @@ module _ (subrs : Subrs) (hints : Hints) (levels : ℕ) (below : List (List Toke
 
     -- it calls, and from a Back of the call its list goes on
     pub token_calls : (s' : State) (i : ℤ) → Calls i s' ≡ spend hints t s →
-        lists_run ≡ visiting (seen below s (Calls i s')) (after (taken (index_of i)) (call_on subrs hints levels (ts ∷ below) (index_of i) s'))
+        lists_run ≡ visiting (seen below s (Calls i s')) (after (index_taken (index_of i)) (call_on subrs hints levels (ts ∷ below) (index_of i) s'))
     token_calls s' i e =
         let called : Outcome = call subrs hints levels (index_of i) s' in
         let on : State → Outcome = run subrs hints levels ts in
@@ -73,9 +73,9 @@ module _ (subrs : Subrs) (hints : Hints) (levels : ℕ) (below : List (List Toke
         token_steps (Calls i s') e
         ∙ ap (visiting (seen below s (Calls i s')))
         (ap (λ (o : Outcome). resume o below_runs)
-        (deeper_by-after n (taken (index_of i)) (resume (deeper called) on) ∙ ap (after (taken (index_of i))) (deeper_by-resume n (deeper called) on))
-        ∙ resume_after (taken (index_of i)) (resume (deeper_by (suc n) called) (λ s. deeper_by n (on s))) below_runs
-        ∙ ap (after (taken (index_of i))) (resume_twice (deeper_by (suc n) called) (λ s. deeper_by n (on s)) below_runs))
+        (deeper_by-after n (index_taken (index_of i)) (resume (deeper called) on) ∙ ap (after (index_taken (index_of i))) (deeper_by-resume n (deeper called) on))
+        ∙ resume_after (index_taken (index_of i)) (resume (deeper_by (suc n) called) (λ s. deeper_by n (on s))) below_runs
+        ∙ ap (after (index_taken (index_of i))) (resume_twice (deeper_by (suc n) called) (λ s. deeper_by n (on s)) below_runs))
 
 module _ (subrs : Subrs) (hints : Hints) (lists : List (List Token)) (index : Option ℕ) (s : State) where
   -- a call that fails ends the run
@@ -85,7 +85,7 @@ module _ (subrs : Subrs) (hints : Hints) (lists : List (List Token)) (index : Op
       ap (λ (o : Outcome). resume o (run_frames subrs hints levels lists)) (ap (deeper_by (length lists)) e ∙ deeper_by-ends (length lists) (Failed fault))
 
   -- a call of a Subr puts its tokens on top, where calls may be one level less deep
-  pub call_enters : (levels : ℕ) (c : List ℕ) → entry subrs index ≡ Some c →
+  pub call_enters : (levels : ℕ) (c : List ℕ) → charstring_at subrs index ≡ Some c →
       call_on subrs hints (suc levels) lists index s ≡ run_frames subrs hints levels (tokens c ∷ lists) s
   call_enters levels c e =
       ap (λ (o : Option (List ℕ)). resume (deeper_by (length lists) (enter o (run subrs hints levels) s)) (run_frames subrs hints (suc levels) lists)) e
@@ -260,19 +260,19 @@ module _ {whole : Outcome} {old : List ℕ} {subrs : Subrs} {hints : Hints} {res
   -- it calls, where so many levels are left above its frame
   module _ (s' : State) (i : ℤ) (index : Option ℕ) (callers : List Frame) (levels : ℕ) (mid : List ℕ)
       (e : Calls i s' ≡ spend hints t s) (is : index ≡ index_of i) (pushed : callers ≡ rest ++ f ∷ [])
-      (room : levels + length callers ≡ suc level_limit) (took : mid ≡ with_indices now (taken index)) where
+      (room : levels + length callers ≡ suc level_limit) (took : mid ≡ with_indices now (index_taken index)) where
     called : Leaves whole old (call_on subrs hints levels (lists_of callers) index s') mid s'.marks
     called =
         let visits : List Visit = seen (lists_of rest) s (Calls i s') in
         let same : in_turn.levels ≡ levels = omega (arith, in_turn.depth, room, length_push callers rest f pushed) in
-        let goes : lists_now ≡ visiting visits (after (taken index) (call_on subrs hints levels (lists_of callers) index s')) =
+        let goes : lists_now ≡ visiting visits (after (index_taken index) (call_on subrs hints levels (lists_of callers) index s')) =
         token_calls subrs hints in_turn.levels (lists_of rest) t (frame_left f) s s' i e
-        ∙ ap (λ (index : Option ℕ). visiting visits (after (taken index) (call_on subrs hints in_turn.levels (frame_left f ∷ lists_of rest) index s'))) (sym is)
-        ∙ ap (λ (lists : List (List Token)). visiting visits (after (taken index) (call_on subrs hints in_turn.levels lists index s')))
+        ∙ ap (λ (index : Option ℕ). visiting visits (after (index_taken index) (call_on subrs hints in_turn.levels (frame_left f ∷ lists_of rest) index s'))) (sym is)
+        ∙ ap (λ (lists : List (List Token)). visiting visits (after (index_taken index) (call_on subrs hints in_turn.levels lists index s')))
         (sym (lists_push callers rest f pushed))
-        ∙ ap (λ n. visiting visits (after (taken index) (call_on subrs hints n (lists_of callers) index s'))) same
+        ∙ ap (λ n. visiting visits (after (index_taken index) (call_on subrs hints n (lists_of callers) index s'))) same
         in
-        left_after visits (taken index) lists_now (call_on subrs hints levels (lists_of callers) index s') now mid s.marks s'.marks goes took
+        left_after visits (index_taken index) lists_now (call_on subrs hints levels (lists_of callers) index s') now mid s.marks s'.marks goes took
         (seen_marks (lists_of rest) s (Calls i s')) in_turn.left
 
     -- the call fails
@@ -282,8 +282,8 @@ module _ {whole : Outcome} {old : List ℕ} {subrs : Subrs} {hints : Hints} {res
 
   -- a Subr is called: its frame is on top
   pub on_call : (s' : State) (i : ℤ) (index : Option ℕ) (callers frames : List Frame) (levels : ℕ) (mid c : List ℕ) (g : Frame) → Calls i s' ≡ spend hints t s →
-      index ≡ index_of i → callers ≡ rest ++ f ∷ [] → levels + length callers ≡ suc level_limit → mid ≡ with_indices now (taken index) →
-      frames ≡ callers ++ g ∷ [] → (0 < levels) × (entry subrs index ≡ Some c) → frame_left g ≡ tokens c → IsWithinLimits s' →
+      index ≡ index_of i → callers ≡ rest ++ f ∷ [] → levels + length callers ≡ suc level_limit → mid ≡ with_indices now (index_taken index) →
+      frames ≡ callers ++ g ∷ [] → (0 < levels) × (charstring_at subrs index ≡ Some c) → frame_left g ≡ tokens c → IsWithinLimits s' →
       Turns whole old subrs hints frames s' mid
   on_call s' i index callers frames zero mid c g e is pushed room took entered enters all within = absurd (omega (arith, enters.0))
   on_call s' i index callers frames (suc levels) mid c g e is pushed room took entered enters all within =

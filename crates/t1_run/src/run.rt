@@ -3,7 +3,7 @@
 ghost use Rattle.std.specs.Prelude.{◌≡◌, ◌≤◌, IfOk, OnOk, OnErr, MatchResult, ◌<◌, List, length, [], ◌∷◌, ◌++◌, Some, true};
 ghost use Rattle.std.specs.Option.{option_copied};
 ghost use Rattle.t1_run.specs.Limits.{EndsWithinLimits};
-ghost use Rattle.t1_run.specs.Run.{run_glyph, direct_by, direct, direct3, exec, calls_of, with_indices, AddsFirst, index_of, taken, entry, call};
+ghost use Rattle.t1_run.specs.Run.{run_glyph, direct_by, direct, direct3, exec, calls_of, with_indices, AddsFirst, index_of, index_taken, charstring_at, call};
 ghost use Rattle.t1_run.specs.Machine.{ending_of, value_of, Runs, IsEntered};
 ghost use Rattle.t1_run.specs.Pens.{Draws};
 
@@ -59,7 +59,7 @@ fn enter<S: Subroutines>(subrs: &S, levels: usize, index: Option<u16>) -> Result
 
 /// The indices with the one that a call took. If memory is refused, nothing changes.
 fn take(called: &mut Called, index: Option<u16>) -> Result<(), AllocError>
-    ensures added { OnOk result (called.new ≡ with_indices called.old (taken index)) }
+    ensures added { OnOk result (called.new ≡ with_indices called.old (index_taken index)) }
     ensures unchanged { OnErr result (called.new ≡ called.old) }
 {
     if let Some(index) = index {

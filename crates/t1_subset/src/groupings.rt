@@ -5,7 +5,7 @@ ghost use Rattle.std.specs.List.{AllByRecursion};
 ghost use Rattle.t1_font.specs.IsFont.{IsFont};
 ghost use Rattle.t1_algebra.specs.Profile.{profile};
 ghost use Rattle.std.specs.Option.{option_map};
-ghost use Rattle.t1_algebra.specs.Conflicts.{shell_conflict, conflict, shells_differ, shells_conflict};
+ghost use Rattle.t1_algebra.specs.Conflicts.{shell_conflict, conflict, shell_conflict_among, shells_conflict};
 ghost use Rattle.t1_subset.specs.Differences.{shell_part};
 ghost use Rattle.t1_algebra.specs.StateTables.{states_of};
 ghost use Rattle.t1_subset.specs.Callers.{AreNoted, fonts_of};
@@ -75,7 +75,7 @@ pub(crate) fn first_share(alloc: Global, fonts: &[&Font<'_>]) -> Result<(), Conf
 
 /// The first part in which the first of some fonts whose shell differs from that of a font differs from it.
 fn shells_differ(alloc: Global, own: &Font<'_>, fonts: &[Font<'_>]) -> Option<ShellPart>
-    ensures { option_map shell_part result ≡ shells_differ own.now fonts.now }
+    ensures { option_map shell_part result ≡ shell_conflict_among own.now fonts.now }
 {
     let own = Shared::without_subrs(alloc, own);
     'fonts: for font in fonts {

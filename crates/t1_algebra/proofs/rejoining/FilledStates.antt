@@ -6,7 +6,7 @@ use Rattle.std.proofs.{lemmas.Bool.{ltb-true, ltb-false}, lemmas.List.Folds.{lis
 use Rattle.std.specs.FinSet as sets
 use Rattle.std.specs.FinMap as maps
 use Rattle.std.specs.List.{find}
-use Rattle.t1_font.specs.{FontValue.{FontValue, declared_count, names_in}, Cut.{stub}, Evening.{stubs_at, below, with_stubs, filled, indices_of_all}}
+use Rattle.t1_font.specs.{FontValue.{FontValue, declared_count, names_in}, Cut.{stub}, Evening.{stubs_at, below_count, with_stubs, filled, indices_of_all}}
 use Rattle.t1_algebra.specs.{Keep.{has}, Profile.{profile}, Shared.{shared_of}, Conflicts.{wants}}
 use Rattle.t1_algebra.specs.States.{executed_at, executes, named_at, is_called, subr_state, state_of_entry, joined_option}
 use Rattle.t1_algebra.specs.StateTables.{numbered, code_states, used_subrs, names_table, name_meaning, states_of}
@@ -33,7 +33,7 @@ module _ (f : FontValue) (indices : List ℕ) where
 
   -- the indices that get one where they lack a Subr
   abbrev inside : List ℕ
-  inside = below (declared_count f.shell.subrs) indices
+  inside = below_count (declared_count f.shell.subrs) indices
 
   -- an entry at an index is the font's, or a stub that is added
   abbrev OwnOrStub : ℕ → Option (List ℕ) → Type 0

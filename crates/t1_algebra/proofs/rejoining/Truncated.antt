@@ -7,7 +7,7 @@ use Rattle.std.specs.FinMap as maps
 use Rattle.t1_font.specs.FontValue.{FontValue, notdef, Shell, SubrsShell, Numbered, declared_count}
 use Rattle.t1_font.proofs.MapLemmas.{get-retain, get-map_values}
 use Rattle.t1_font.specs.{IsFont.{IsFont, SubrsFit, SubrWords}, EvenTexts.{even_texts}, Cut.{stub, restrict_encoding}}
-use Rattle.t1_font.specs.Evening.{raised, even_shell, even, stubs_at, below, with_stubs, filled, largest_count, indices_of_all, evened_shells, filled_all, evened}
+use Rattle.t1_font.specs.Evening.{raised, even_shell, even, stubs_at, below_count, with_stubs, filled, largest_count, indices_of_all, evened_shells, filled_all, evened}
 use Rattle.t1_font.specs.FontBoxes.{boxed}
 use Rattle.t1_font.proofs.even_fonts.Boxes.{one_shell_stays}
 use Rattle.t1_algebra.specs.{Keep.{keep, kept, has, charstring, subset, IsOf}, Profile.{profile}, States.{joined_option}}
@@ -247,7 +247,7 @@ module _ (f : FontValue) (h : IsFont f) (most : ℕ) (fits : most ≤ declared_c
       (from : (q : ℕ) → list_any (eq_by_cmp nat_cmp q) indices ≡ true → maps.contains_key f.subrs q ≡ true) where
     -- the indices that are then declared
     abbrev inside : List ℕ
-    inside = below declared indices
+    inside = below_count declared indices
 
     abbrev is_in : ℕ → Bool
     is_in q = list_any (eq_by_cmp nat_cmp q) inside

@@ -15,7 +15,7 @@ use Rattle.std.proofs.lemmas.List.Elements.{All-from_recursion, All-contains, Co
 use Rattle.std.proofs.lemmas.List.Sorted.{All-permutation, Contains-permutation, list_any-IsPermutation, length_permutation}
 use Rattle.t1_font.specs.Numbers.{Size, size_cmp, below_zero, above_zero, value_cmp, spelling_cmp, least_first, greatest_first, sooner, soonest}
 use Rattle.t1_font.specs.FontBoxes.{Box, says_nothing, held, joined_box}
-use Rattle.t1_font.specs.EveningLaws.{BoxInAnyOrder, Holds, HoldsEach, HeldByAll}
+use Rattle.t1_font.specs.EveningLaws.{BoxInAnyOrder, HoldsBox, HoldsEach, HeldByAll}
 
 -- ---- the orders of numbers are total
 
@@ -236,7 +236,7 @@ value_first Greater b h = h
 boxes_held : (u : Box) (bs : List Box) → AllByRecursion (λ w. is_gt (least_first u.llx w) ≡ false) (map (λ b. b.llx) bs) →
     AllByRecursion (λ w. is_gt (least_first u.lly w) ≡ false) (map (λ b. b.lly) bs) →
     AllByRecursion (λ w. is_gt (greatest_first u.urx w) ≡ false) (map (λ b. b.urx) bs) →
-    AllByRecursion (λ w. is_gt (greatest_first u.ury w) ≡ false) (map (λ b. b.ury) bs) → AllByRecursion (Holds u) bs
+    AllByRecursion (λ w. is_gt (greatest_first u.ury w) ≡ false) (map (λ b. b.ury) bs) → AllByRecursion (HoldsBox u) bs
 boxes_held u [] h k l m = tt
 boxes_held u (b ∷ bs) h k l m = (
   record {
@@ -259,7 +259,7 @@ holds_each (b ∷ bs) h =
     let y = first_of_all least_first least_total least_one b.lly (map (λ c. c.lly) bs) in
     let z = first_of_all greatest_first greatest_total greatest_one b.urx (map (λ c. c.urx) bs) in
     let w = first_of_all greatest_first greatest_total greatest_one b.ury (map (λ c. c.ury) bs) in
-    subst (λ (u : Box). AllByRecursion (Holds u) (b ∷ bs)) (sym (all_count (b ∷ bs) h)) (boxes_held (held (b ∷ bs)) (b ∷ bs) x y z w)
+    subst (λ (u : Box). AllByRecursion (HoldsBox u) (b ∷ bs)) (sym (all_count (b ∷ bs) h)) (boxes_held (held (b ∷ bs)) (b ∷ bs) x y z w)
 
 -- what holds of each word holds of the first
 first_has : (cmp : List ℕ → List ℕ → Ordering) (P : List ℕ → Type 0) (w : List ℕ) (ws : List (List ℕ)) →
@@ -267,14 +267,14 @@ first_has : (cmp : List ℕ → List ℕ → Ordering) (P : List ℕ → Type 0)
 first_has cmp P w [] h k = h
 first_has cmp P w (v ∷ vs) h k = first_has cmp P (sooner cmp w v) vs (cond_both (is_gt (cmp w v)) v w P (λ _. k.0) (λ _. h)) k.1
 
-words_have : (P : List ℕ → Type 0) (word : Box → List ℕ) (u : Box) → ((b : Box) → Holds u b → P (word b)) → (bs : List Box) →
-    AllByRecursion (Holds u) bs → AllByRecursion P (map word bs)
+words_have : (P : List ℕ → Type 0) (word : Box → List ℕ) (u : Box) → ((b : Box) → HoldsBox u b → P (word b)) → (bs : List Box) →
+    AllByRecursion (HoldsBox u) bs → AllByRecursion P (map word bs)
 words_have P word u f [] h = tt
 words_have P word u f (b ∷ bs) h = (f b h.0, words_have P word u f bs h.1)
 
 pub held_by_all : HeldByAll
 held_by_all u b bs n h =
-    subst (Holds u) (sym (all_count (b ∷ bs) n)) (record {
+    subst (HoldsBox u) (sym (all_count (b ∷ bs) n)) (record {
       llx = let P : List ℕ → Type 0 = λ w. is_gt (value_cmp u.llx w) ≡ false in
           first_has least_first P b.llx (map (λ c. c.llx) bs) h.0.llx (words_have P (λ c. c.llx) u (λ c k. k.llx) bs h.1);
       lly = let P : List ℕ → Type 0 = λ w. is_gt (value_cmp u.lly w) ≡ false in

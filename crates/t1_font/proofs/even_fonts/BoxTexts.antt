@@ -3,7 +3,7 @@ use Rattle.std.proofs.Common.{◌≡◌, ◌-◌, List, ℕ, [], ◌++◌, lengt
 use Rattle.std.specs.Option.{option_map}
 use Rattle.std.proofs.lemmas.List.{append-nil, length-append, take_at}
 use Rattle.std.proofs.lemmas.Option.{none-some, same_Some}
-use Rattle.t1_font.specs.FontBoxes.{Numbers, opening, numbers, closes, font_box}
+use Rattle.t1_font.specs.FontBoxes.{BoxNumbers, opening, box_numbers, closes_box, font_box}
 
 -- ---- the bytes up to the numbers
 
@@ -48,9 +48,9 @@ abbrev pub opened : List ℕ → Option (List ℕ × List ℕ)
 opened bytes = option_map (λ x. (x.0.1, x.1)) (opening.read bytes)
 
 -- a box is read
-pub box_read : (bytes bracket inside start : List ℕ) (n : Numbers) (rest : List ℕ) →
+pub box_read : (bytes bracket inside start : List ℕ) (n : BoxNumbers) (rest : List ℕ) →
     Some (bracket, inside) ≡ opened bytes → start ≡ take (length bytes - length inside) bytes →
-    Some (n, rest) ≡ numbers.read inside → closes bracket rest ≡ true → Some ((start, n), rest) ≡ font_box.read bytes
+    Some (n, rest) ≡ box_numbers.read inside → closes_box bracket rest ≡ true → Some ((start, n), rest) ≡ font_box.read bytes
 unfolding font_box
 box_read bytes bracket inside start n rest o s m c =
     let x = of_map (λ x. (x.0.1, x.1)) (bracket, inside) (opening.read bytes) o in
@@ -58,8 +58,8 @@ box_read bytes bracket inside start n rest o s m c =
     let named : bracket ≡ x.0.0.1 = ap (λ (v : List ℕ × List ℕ). v.0) x.2 in
     let begins : bytes ≡ x.0.0.0 ++ inside = opening_is bytes x.0 x.1 ∙ ap (λ (u : List ℕ). x.0.0.0 ++ u) (sym within) in
     let starts : start ≡ x.0.0.0 = s ∙ taken bytes x.0.0.0 inside begins in
-    let four : numbers.read x.0.1 ≡ Some (n, rest) = ap numbers.read (sym within) ∙ sym m in
-    let closed : closes x.0.0.1 rest ≡ true = ap (λ (u : List ℕ). closes u rest) (sym named) ∙ c in
+    let four : box_numbers.read x.0.1 ≡ Some (n, rest) = ap box_numbers.read (sym within) ∙ sym m in
+    let closed : closes_box x.0.0.1 rest ≡ true = ap (λ (u : List ℕ). closes_box u rest) (sym named) ∙ c in
     rw (x.1, four, closed, starts) refl
 
 -- no box is read where none opens
@@ -68,19 +68,19 @@ unfolding font_box
 not_opened bytes o = rw (none_of_map (λ x. (x.0.1, x.1)) (opening.read bytes) o) refl
 
 -- nor where no four numbers follow
-pub not_four : (bytes bracket inside : List ℕ) → Some (bracket, inside) ≡ opened bytes → None ≡ numbers.read inside → None ≡ font_box.read bytes
+pub not_four : (bytes bracket inside : List ℕ) → Some (bracket, inside) ≡ opened bytes → None ≡ box_numbers.read inside → None ≡ font_box.read bytes
 unfolding font_box
 not_four bytes bracket inside o m =
     let x = of_map (λ x. (x.0.1, x.1)) (bracket, inside) (opening.read bytes) o in
-    let four : numbers.read x.0.1 ≡ None = ap numbers.read (sym (ap (λ (v : List ℕ × List ℕ). v.1) x.2)) ∙ sym m in
+    let four : box_numbers.read x.0.1 ≡ None = ap box_numbers.read (sym (ap (λ (v : List ℕ × List ℕ). v.1) x.2)) ∙ sym m in
     rw (x.1, four) refl
 
 -- nor where nothing closes it
-pub not_closed : (bytes bracket inside : List ℕ) (n : Numbers) (rest : List ℕ) → Some (bracket, inside) ≡ opened bytes →
-    Some (n, rest) ≡ numbers.read inside → closes bracket rest ≡ false → None ≡ font_box.read bytes
+pub not_closed : (bytes bracket inside : List ℕ) (n : BoxNumbers) (rest : List ℕ) → Some (bracket, inside) ≡ opened bytes →
+    Some (n, rest) ≡ box_numbers.read inside → closes_box bracket rest ≡ false → None ≡ font_box.read bytes
 unfolding font_box
 not_closed bytes bracket inside n rest o m c =
     let x = of_map (λ x. (x.0.1, x.1)) (bracket, inside) (opening.read bytes) o in
-    let four : numbers.read x.0.1 ≡ Some (n, rest) = ap numbers.read (sym (ap (λ (v : List ℕ × List ℕ). v.1) x.2)) ∙ sym m in
-    let open_yet : closes x.0.0.1 rest ≡ false = ap (λ (u : List ℕ). closes u rest) (sym (ap (λ (v : List ℕ × List ℕ). v.0) x.2)) ∙ c in
+    let four : box_numbers.read x.0.1 ≡ Some (n, rest) = ap box_numbers.read (sym (ap (λ (v : List ℕ × List ℕ). v.1) x.2)) ∙ sym m in
+    let open_yet : closes_box x.0.0.1 rest ≡ false = ap (λ (u : List ℕ). closes_box u rest) (sym (ap (λ (v : List ℕ × List ℕ). v.0) x.2)) ∙ c in
     rw (x.1, four, open_yet) refl

@@ -14,7 +14,7 @@ use Rattle.t1_font.specs.FontValue.{FontValue, Shell}
 use Rattle.t1_font.specs.IsFont.{IsFont}
 use Rattle.t1_font.specs.EvenTexts.{same_both, even_clear, even_texts}
 use Rattle.t1_font.specs.Numbers.{least_first, greatest_first, sooner, soonest}
-use Rattle.t1_font.specs.FontBoxes.{Box, says_nothing, held, counted, joined_box, Place, place_in, at_place, text_of, Side, side_of, side_in, box_at}
+use Rattle.t1_font.specs.FontBoxes.{Box, says_nothing, held, counting_boxes, joined_box, BoxPlace, place_in, at_place, box_place_text, Side, side_of, side_in, box_at}
 use Rattle.t1_font.specs.FontBoxes.{texts_at, texts_with, clear_of, with_clear, box_of, with_box, with_texts, font_with, can_have_at, can_have, boxes_of, all_with, boxed_by, boxed}
 use Rattle.t1_font.specs.EveningLaws.{without_clear, BoxedTwice, BoxedKeeps, BoxedAreFonts, BoxedAreEven, OneShellStays}
 use Rattle.t1_font.proofs.ByteLemmas.{AreBytes-append}
@@ -40,7 +40,7 @@ module _ (u : Box) where
   none_there [] h = refl
   none_there (f ∷ fs) h = ap (λ (b : Bool). b || list_any says_nothing (copies fs)) h ∙ none_there fs h
 
-  counted_copies : (fs : List FontValue) → counted (copies fs) ≡ copies fs
+  counted_copies : (fs : List FontValue) → counting_boxes (copies fs) ≡ copies fs
   counted_copies fs = elim (cases_Bool (says_nothing u)) [
     | inl t ↦ cond_same (list_any says_nothing (copies fs)) _ _ _ (all_stay fs t) refl
     | inr t ↦ cond-false (list_any says_nothing (copies fs)) _ _ (none_there fs t)
@@ -209,7 +209,7 @@ pub record BoxBytes (b : Box) : Type 0 where
   pub ury : AreBytes b.ury
 
 -- and so is a place
-record PlaceBytes (p : Place) : Type 0 where
+record PlaceBytes (p : BoxPlace) : Type 0 where
   front : AreBytes p.front
   start : AreBytes p.start
   box : BoxBytes p.numbers.box
@@ -218,7 +218,7 @@ record PlaceBytes (p : Place) : Type 0 where
   third : AreBytes p.numbers.third
   behind : AreBytes p.behind
 
-place_bytes : (text : List ℕ) (p : Place) → place_in text ≡ Some p → AreBytes text → PlaceBytes p
+place_bytes : (text : List ℕ) (p : BoxPlace) → place_in text ≡ Some p → AreBytes text → PlaceBytes p
 place_bytes text p e h =
     let n = p.numbers in
     let a : List ℕ = p.front ++ p.start in
@@ -253,7 +253,7 @@ place_bytes text p e h =
       behind = bytes_right l p.behind ll;
     }
 
-text_bytes : (u : Box) (p : Place) → BoxBytes u → PlaceBytes p → AreBytes (text_of (at_place u p))
+text_bytes : (u : Box) (p : BoxPlace) → BoxBytes u → PlaceBytes p → AreBytes (box_place_text (at_place u p))
 text_bytes u p b h =
     let n = p.numbers in
     let join = AreBytes-append in
@@ -264,7 +264,7 @@ text_bytes u p b h =
 own_bytes : (x : List ℕ × List ℕ) (b : Box) → option_map box_at (side_in x) ≡ Some b → AreBytes x.0 → AreBytes x.1 → BoxBytes b
 own_bytes x b e head tail = by_places (place_in x.0) (place_in x.1) refl refl e
   where
-    by_places : (o q : Option Place) → place_in x.0 ≡ o → place_in x.1 ≡ q → option_map box_at (side_of o q) ≡ Some b → BoxBytes b
+    by_places : (o q : Option BoxPlace) → place_in x.0 ≡ o → place_in x.1 ≡ q → option_map box_at (side_of o q) ≡ Some b → BoxBytes b
     by_places (Some p) q r t k = subst BoxBytes (same_Some p.numbers.box b k) (place_bytes x.0 p r head).box
     by_places None (Some p) r t k = subst BoxBytes (same_Some p.numbers.box b k) (place_bytes x.1 p t tail).box
     by_places None None r t k = absurd (none-some b k)
@@ -274,7 +274,7 @@ other_bytes : (u : Box) (x : List ℕ × List ℕ) → BoxBytes u → AreBytes x
     let y = texts_with u x (side_in x) in AreBytes y.0 × AreBytes y.1
 other_bytes u x b head tail = by_places (place_in x.0) (place_in x.1) refl refl
   where
-    by_places : (o q : Option Place) → place_in x.0 ≡ o → place_in x.1 ≡ q →
+    by_places : (o q : Option BoxPlace) → place_in x.0 ≡ o → place_in x.1 ≡ q →
         let y = texts_with u x (side_of o q) in AreBytes y.0 × AreBytes y.1
     by_places (Some p) q r t = (text_bytes u p b (place_bytes x.0 p r head), tail)
     by_places None (Some p) r t = (head, text_bytes u p b (place_bytes x.1 p t tail))
@@ -323,7 +323,7 @@ filter_bytes (b ∷ bs) h =
     (λ _. (h.0, filter_bytes bs h.1)) (λ _. filter_bytes bs h.1)
 
 pub joined_bytes : (bs : List Box) → AllByRecursion BoxBytes bs → BoxBytes (joined_box bs)
-joined_bytes bs h = held_bytes (counted bs)
+joined_bytes bs h = held_bytes (counting_boxes bs)
     (cond_both (list_any says_nothing bs) (filter says_nothing bs) bs (AllByRecursion BoxBytes) (λ _. filter_bytes bs h) (λ _. h))
 
 pub all_fonts : (u : Box) → BoxBytes u → (fs : List FontValue) → list_all (can_have u) fs ≡ true → AllByRecursion IsFont fs →

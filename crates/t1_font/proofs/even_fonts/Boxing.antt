@@ -7,7 +7,7 @@ use Rattle.std.specs.FinMap.{get, entries, nat_cmp-IsAntisymmetric}
 use Rattle.std.proofs.lemmas.Bool.{cond-true, and_parts, and_from, leb-true, le-leb}
 use Rattle.t1_font.specs.FontValue.{FontValue, Numbered, declared_count, total, subr_weight, weight, weight_limit}
 use Rattle.t1_font.specs.Maps.{merged}
-use Rattle.t1_font.specs.Evening.{stubs_at, below, with_stubs, filled}
+use Rattle.t1_font.specs.Evening.{stubs_at, below_count, with_stubs, filled}
 use Rattle.t1_font.specs.FontBoxes.{Box, Side, joined_box, side_in, texts_at, clear_of, with_texts, can_take, can_have_at, can_have, box_of, boxes_of, font_with, boxed_by, boxed}
 use Rattle.t1_font.proofs.MapLemmas.{joined, get-merged, total-le}
 use Rattle.t1_font.proofs.even_fonts.BoxFonts.{taken_so}
@@ -31,7 +31,7 @@ heavier_subrs len_iv indices m (e ∷ es) =
 module _ (indices : List ℕ) where
   -- a font with stubs weighs no less
   heavier : (f : FontValue) → weight f ≤ weight (filled indices f)
-  heavier f = omega (arith, heavier_subrs f.shell.len_iv (below (declared_count f.shell.subrs) indices) f.subrs (entries f.subrs))
+  heavier f = omega (arith, heavier_subrs f.shell.len_iv (below_count (declared_count f.shell.subrs) indices) f.subrs (entries f.subrs))
 
   -- a box that it can have, the font can have without stubs
   taken_lighter : (u : Box) (f : FontValue) (x : List ℕ × List ℕ) (s : Side) → can_take u (filled indices f) x s ≡ true → can_take u f x s ≡ true

@@ -11,7 +11,7 @@ use Rattle.std.specs.FinMap.{get, entries, keys, contains_key, contains_key-keys
 use Rattle.t1_font.specs.FontValue.{FontValue, SubrsShell, Numbered, declared_count}
 use Rattle.t1_font.specs.Cut.{stub}
 use Rattle.t1_font.specs.Maps.{merged}
-use Rattle.t1_font.specs.Evening.{raised, even, stubs_at, below, with_stubs, filled, largest_count, indices_of_all, each_even, evened_shells, filled_all, evened}
+use Rattle.t1_font.specs.Evening.{raised, even, stubs_at, below_count, with_stubs, filled, largest_count, indices_of_all, each_even, evened_shells, filled_all, evened}
 use Rattle.t1_font.specs.EveningLaws.{EvenStays, FilledStays, EvenedTwice, IsEvenWith, EvenFontsStay}
 use Rattle.t1_font.proofs.MapLemmas.{joined, get-merged, get-retain}
 use Rattle.t1_font.proofs.even_fonts.Evened.{stubs_below}
@@ -43,9 +43,9 @@ own_or_none None false false h = refl
 
 -- what a map says of an index where stubs were put in
 pub get_filled : (m : Numbered) (n : ℕ) (indices : List ℕ) (q : ℕ) →
-    get (merged m (stubs_at (below n indices))) q ≡ joined (get m q) (cond (nat_lt q n) (cond (is_one q indices) (Some stub) None) None)
+    get (merged m (stubs_at (below_count n indices))) q ≡ joined (get m q) (cond (nat_lt q n) (cond (is_one q indices) (Some stub) None) None)
 get_filled m n indices q =
-    get-merged nat_cmp_total nat_cmp-IsAntisymmetric m (stubs_at (below n indices)) q
+    get-merged nat_cmp_total nat_cmp-IsAntisymmetric m (stubs_at (below_count n indices)) q
     ∙ ap (joined (get m q))
     (ap (λ (k : Numbered). get k q) (stubs_below n indices)
     ∙ (get-retain nat_cmp_total nat_cmp-IsAntisymmetric (stubs_at indices) (λ i. nat_lt i n) q
@@ -56,11 +56,11 @@ abbrev pub AreIn : List ℕ → Numbered → Type 0
 AreIn indices m = (q : ℕ) → is_one q indices ≡ true → contains_key m q ≡ true
 
 -- a map that lacks none of these indices stays
-own_stubs : (m : Numbered) (n : ℕ) (indices : List ℕ) → AreIn indices m → merged m (stubs_at (below n indices)) ≡ m
+own_stubs : (m : Numbered) (n : ℕ) (indices : List ℕ) → AreIn indices m → merged m (stubs_at (below_count n indices)) ≡ m
 own_stubs m n indices own = same_map nat_cmp_total nat_cmp-IsAntisymmetric _ _ (λ q.
     get_filled m n indices q ∙ own_or_none (get m q) (is_one q indices) (nat_lt q n) (own q))
 
-subrs_stay : (m : Numbered) (n : ℕ) (indices : List ℕ) → AreIn indices m → (es : List (ℕ × List ℕ)) → with_stubs (below n indices) m es ≡ m
+subrs_stay : (m : Numbered) (n : ℕ) (indices : List ℕ) → AreIn indices m → (es : List (ℕ × List ℕ)) → with_stubs (below_count n indices) m es ≡ m
 subrs_stay m n indices own [] = refl
 subrs_stay m n indices own (e ∷ es) = own_stubs m n indices own
 
@@ -181,7 +181,7 @@ filled_or_own None false false h e = e
 
 -- what is filled has no index but these
 filled_among : (m : Numbered) (n : ℕ) (indices : List ℕ) (q : ℕ) → (contains_key m q ≡ true → is_one q indices ≡ true) →
-    (es : List (ℕ × List ℕ)) → contains_key (with_stubs (below n indices) m es) q ≡ true → is_one q indices ≡ true
+    (es : List (ℕ × List ℕ)) → contains_key (with_stubs (below_count n indices) m es) q ≡ true → is_one q indices ≡ true
 filled_among m n indices q own [] h = own h
 filled_among m n indices q own (e ∷ es) h = filled_or_own (get m q) (is_one q indices) (nat_lt q n) own (ap is_some (sym (get_filled m n indices q)) ∙ h)
 
@@ -213,14 +213,14 @@ fills_once None false true false h = refl
 
 -- Subrs that are filled at some indices stay when they are filled at some of these
 filled_again : (m : Numbered) (n : ℕ) (indices more : List ℕ) → Among more indices → (es : List (ℕ × List ℕ)) → entries m ≡ es →
-    with_stubs (below n more) (with_stubs (below n indices) m es) (entries (with_stubs (below n indices) m es)) ≡ with_stubs (below n indices) m es
-filled_again m n indices more h [] none = ap (with_stubs (below n more) m) none
-filled_again m n indices more h (e ∷ es) is = by_entries (entries (merged m (stubs_at (below n indices))))
+    with_stubs (below_count n more) (with_stubs (below_count n indices) m es) (entries (with_stubs (below_count n indices) m es)) ≡ with_stubs (below_count n indices) m es
+filled_again m n indices more h [] none = ap (with_stubs (below_count n more) m) none
+filled_again m n indices more h (e ∷ es) is = by_entries (entries (merged m (stubs_at (below_count n indices))))
   where
-    by_entries : (ds : List (ℕ × List ℕ)) → with_stubs (below n more) (merged m (stubs_at (below n indices))) ds ≡ merged m (stubs_at (below n indices))
+    by_entries : (ds : List (ℕ × List ℕ)) → with_stubs (below_count n more) (merged m (stubs_at (below_count n indices))) ds ≡ merged m (stubs_at (below_count n indices))
     by_entries [] = refl
     by_entries (d ∷ ds) = same_map nat_cmp_total nat_cmp-IsAntisymmetric _ _ (λ q.
-        get_filled (merged m (stubs_at (below n indices))) n more q
+        get_filled (merged m (stubs_at (below_count n indices))) n more q
         ∙ (ap (λ (o : Option (List ℕ)). joined o (cond (nat_lt q n) (cond (is_one q more) (Some stub) None) None)) (get_filled m n indices q)
         ∙ (fills_once (get m q) (is_one q indices) (nat_lt q n) (is_one q more) (h q) ∙ sym (get_filled m n indices q))))
 

@@ -10,7 +10,7 @@ use Rattle.t1_font.specs.FontValue.{FontValue, Shell, SubrsShell, Numbered, decl
 use Rattle.t1_font.specs.Cut.{stub}
 use Rattle.t1_font.specs.Maps.{merged}
 use Rattle.t1_font.specs.EvenTexts.{even_texts}
-use Rattle.t1_font.specs.Evening.{raised, even_shell, even, stubs_at, below, with_stubs, filled}
+use Rattle.t1_font.specs.Evening.{raised, even_shell, even, stubs_at, below_count, with_stubs, filled}
 use Rattle.t1_font.specs.IsFont.{IsFont, IsCharstring, SubrsFit, SubrWords, IsWord, IsPhrase}
 use Rattle.t1_font.proofs.MapLemmas.{is_or_not, joined, get-merged, get-retain, find_first, Some_None}
 use Rattle.t1_font.proofs.Kept.{iv_small, merged_has}
@@ -85,7 +85,7 @@ none_either_way true = refl
 none_either_way false = refl
 
 -- an index below n has its stub, and any other none
-find_below : (n i : ℕ) (indices : List ℕ) → find nat_cmp i (stub_entries (below n indices)) ≡ cond (nat_lt i n) (find nat_cmp i (stub_entries indices)) None
+find_below : (n i : ℕ) (indices : List ℕ) → find nat_cmp i (stub_entries (below_count n indices)) ≡ cond (nat_lt i n) (find nat_cmp i (stub_entries indices)) None
 find_below n i [] = sym (none_either_way (nat_lt i n))
 find_below n i (j ∷ js) =
     let rest = find_below n i js in
@@ -101,9 +101,9 @@ find_below n i (j ∷ js) =
     ]
 
 -- the stubs below a count are those of a cut
-pub stubs_below : (n : ℕ) (indices : List ℕ) → stubs_at (below n indices) ≡ retain_keys (stubs_at indices) (λ i. nat_lt i n)
+pub stubs_below : (n : ℕ) (indices : List ℕ) → stubs_at (below_count n indices) ≡ retain_keys (stubs_at indices) (λ i. nat_lt i n)
 stubs_below n indices = same_map nat_cmp_total nat_cmp-IsAntisymmetric _ _ (λ q.
-    get-from_entries nat_cmp_total (stub_entries (below n indices)) q
+    get-from_entries nat_cmp_total (stub_entries (below_count n indices)) q
     ∙ (find_below n q indices
     ∙ (ap (λ (x : Option (List ℕ)). cond (nat_lt q n) x None) (sym (get-from_entries nat_cmp_total (stub_entries indices) q))
     ∙ sym (get-retain nat_cmp_total nat_cmp-IsAntisymmetric (stubs_at indices) (λ i. nat_lt i n) q))))
@@ -120,10 +120,10 @@ kept_so true o c e = (refl, e)
 kept_so false o c e = Some_None (sym e)
 
 -- what a stub of these is, and where
-pub a_stub : (n : ℕ) (indices : List ℕ) (i : ℕ) (c : List ℕ) → get (stubs_at (below n indices)) i ≡ Some c → (i < n) × (c ≡ stub)
+pub a_stub : (n : ℕ) (indices : List ℕ) (i : ℕ) (c : List ℕ) → get (stubs_at (below_count n indices)) i ≡ Some c → (i < n) × (c ≡ stub)
 a_stub n indices i c e =
     let k = kept_so (nat_lt i n) (find nat_cmp i (stub_entries indices)) c
-    (sym (find_below n i indices) ∙ (sym (get-from_entries nat_cmp_total (stub_entries (below n indices)) i) ∙ e)) in
+    (sym (find_below n i indices) ∙ (sym (get-from_entries nat_cmp_total (stub_entries (below_count n indices)) i) ∙ e)) in
     (ltb-true i n k.0, stub_or_none i indices c k.1)
 
 -- ---- a font that is filled
@@ -137,10 +137,10 @@ stub_fits iv c h e = subst (IsCharstring iv) (sym e) (record { short = omega (ar
 
 -- the Subrs of a filled font fit its shell
 subrs_filled : (s : Shell) (t : SubrsShell) (m : Numbered) (indices : List ℕ) → s.len_iv ≤ 255 → SubrsFit s (Some t) m →
-    (es : List (ℕ × List ℕ)) → entries m ≡ es → SubrsFit s (Some t) (with_stubs (below t.declared indices) m es)
+    (es : List (ℕ × List ℕ)) → entries m ≡ es → SubrsFit s (Some t) (with_stubs (below_count t.declared indices) m es)
 subrs_filled s t m indices iv h [] is = h
 subrs_filled s t m indices iv h (e ∷ es) is =
-    let n = stubs_at (below t.declared indices) in
+    let n = stubs_at (below_count t.declared indices) in
     let there : get m e.0 ≡ Some e.1 = get-entries m e.0 ∙ (ap (find nat_cmp e.0) is ∙ find_first nat_cmp_total nat_cmp-IsAntisymmetric e es) in
     let still : find nat_cmp e.0 (entries (merged m n)) ≡ Some e.1 = sym (get-entries (merged m n) e.0)
     ∙ (get-merged nat_cmp_total nat_cmp-IsAntisymmetric m n e.0 ∙ ap (λ (x : Option (List ℕ)). joined x (get n e.0)) there) in
@@ -154,8 +154,8 @@ subrs_filled s t m indices iv h (e ∷ es) is =
     }
 
 table_filled : (s : Shell) (o : Option SubrsShell) (m : Numbered) (indices : List ℕ) → s.len_iv ≤ 255 → SubrsFit s o m →
-    SubrsFit s o (with_stubs (below (declared_count o) indices) m (entries m))
-table_filled s None m indices iv h = subst (λ (es : List (ℕ × List ℕ)). SubrsFit s None (with_stubs (below 0 indices) m es)) (sym h.0) h
+    SubrsFit s o (with_stubs (below_count (declared_count o) indices) m (entries m))
+table_filled s None m indices iv h = subst (λ (es : List (ℕ × List ℕ)). SubrsFit s None (with_stubs (below_count 0 indices) m es)) (sym h.0) h
 table_filled s (Some t) m indices iv h = subrs_filled s t m indices iv h (entries m) refl
 
 -- a font that is filled is a font if it is within the weight limit

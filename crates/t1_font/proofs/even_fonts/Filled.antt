@@ -18,7 +18,7 @@ use Rattle.t1_font.specs.declared.parts.PartsFault.TheVariants.{Limit, Memory}
 use Rattle.t1_font.specs.FontValue.{FontValue, Numbered, declared_count, weight, weight_limit}
 use Rattle.t1_font.specs.Cut.{stub}
 use Rattle.t1_font.specs.Maps.{map_values, merged}
-use Rattle.t1_font.specs.Evening.{stubs_at, below, with_stubs, filled, filled_all, indices_of_all, largest_count}
+use Rattle.t1_font.specs.Evening.{stubs_at, below_count, with_stubs, filled, filled_all, indices_of_all, largest_count}
 use Rattle.t1_font.specs.Filling.{AreLight, AnyHeavy, Fills, FillRefuses, has_each, are_below, has_none, with_these, filled_by, FontRefused}
 use Rattle.t1_font.specs.IsFont.{IsFont}
 use Rattle.t1_font.proofs.MapLemmas.{joined, get-merged, get-map_values}
@@ -153,11 +153,11 @@ pub has_keys : (m n : Numbered) → has_each m (keys n) ≡ true → (q : ℕ) �
 has_keys m n h q t = has_one m (keys n) h q (sym (contains_key-keys n q) ∙ t)
 
 -- where all indices are below a count, those that are below it are all
-pub all_below : (n : ℕ) (indices : List ℕ) → are_below n indices ≡ true → below n indices ≡ indices
+pub all_below : (n : ℕ) (indices : List ℕ) → are_below n indices ≡ true → below_count n indices ≡ indices
 all_below n [] h = refl
 all_below n (i ∷ is) h =
     let both = and_both (nat_lt i n) (are_below n is) h in
-    ap (λ b. cond b (i ∷ below n is) (below n is)) both.0 ∙ ap (λ (js : List ℕ). i ∷ js) (all_below n is both.1)
+    ap (λ b. cond b (i ∷ below_count n is) (below_count n is)) both.0 ∙ ap (λ (js : List ℕ). i ∷ js) (all_below n is both.1)
 
 -- the stubs at some indices have a stub at each of them, and nothing else
 pub find_stub : (q : ℕ) (indices : List ℕ) → find nat_cmp q (map (λ i. (i, stub)) indices) ≡ cond (is_one q indices) (Some stub) None
@@ -184,7 +184,7 @@ stubs_of m n all h is = is ∙ same_map nat_cmp_total nat_cmp-IsAntisymmetric _ 
 -- ---- one font, and all
 
 these_are : (n : ℕ) (indices : List ℕ) (m : Numbered) (es : List (ℕ × List ℕ)) →
-    with_these (retain_keys (stubs_at indices) (λ i. nat_lt i n)) m es ≡ with_stubs (below n indices) m es
+    with_these (retain_keys (stubs_at indices) (λ i. nat_lt i n)) m es ≡ with_stubs (below_count n indices) m es
 these_are n indices m [] = refl
 these_are n indices m (e ∷ es) = ap (merged m) (sym (stubs_below n indices))
 

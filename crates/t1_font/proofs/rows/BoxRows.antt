@@ -5,7 +5,7 @@ use Rattle.t1_grammar.specs.Grammar.{first_at}
 use Rattle.t1_bytes.specs.White.{gap}
 use Rattle.t1_font.specs.FontValue.{FontValue, Shell, Encoding, Numbered, Named}
 use Rattle.t1_font.specs.Numbers.{number, is_number}
-use Rattle.t1_font.specs.FontBoxes.{Box, opening, spaced, numbers, font_box, joined_box, box_of, clear_with, box_stays, boxes_of}
+use Rattle.t1_font.specs.FontBoxes.{Box, opening, spaced, box_numbers, font_box, joined_box, box_of, clear_with, box_stays, boxes_of}
 
 -- a shell with these two texts
 abbrev shell : List ℕ → List ℕ → Shell
@@ -31,58 +31,58 @@ in_head head = box_of (shell head [])
 -- ---- boxes of texts
 
 integers : in_head (codes "%! /FontBBox {-34 -251 988 750} readonly def ") ≡ Some (a_box (codes "-34") (codes "-251") (codes "988") (codes "750"))
-unfolding first_at gap number opening spaced numbers font_box
+unfolding first_at gap number opening spaced box_numbers font_box
 integers = refl
 
 -- an array, white space in front and at the end, and more of it between
 array : in_head (codes "/FontBBox[ -34\n-251  988\t750 ]def") ≡ Some (a_box (codes "-34") (codes "-251") (codes "988") (codes "750"))
-unfolding first_at gap number opening spaced numbers font_box
+unfolding first_at gap number opening spaced box_numbers font_box
 array = refl
 
 -- points and signs
 points : in_head (codes "/FontBBox{-.5 +3 12.50 7.}") ≡ Some (a_box (codes "-.5") (codes "+3") (codes "12.50") (codes "7."))
-unfolding first_at gap number opening spaced numbers font_box
+unfolding first_at gap number opening spaced box_numbers font_box
 points = refl
 
 -- NUL is white space
 nul : in_head (codes "/FontBBox {0" ++ 0 ∷ [] ++ codes "0 1 1}") ≡ Some (a_box (codes "0") (codes "0") (codes "1") (codes "1"))
-unfolding first_at gap number opening spaced numbers font_box
+unfolding first_at gap number opening spaced box_numbers font_box
 nul = refl
 
 -- a bracket closes no brace
 other_end : in_head (codes "/FontBBox {0 0 1 1] def") ≡ None
-unfolding first_at gap number opening spaced numbers font_box
+unfolding first_at gap number opening spaced box_numbers font_box
 other_end = refl
 
 five_numbers : in_head (codes "/FontBBox {0 0 1 1 1} def") ≡ None
-unfolding first_at gap number opening spaced numbers font_box
+unfolding first_at gap number opening spaced box_numbers font_box
 five_numbers = refl
 
 three_numbers : in_head (codes "/FontBBox {0 0 1} def") ≡ None
-unfolding first_at gap number opening spaced numbers font_box
+unfolding first_at gap number opening spaced box_numbers font_box
 three_numbers = refl
 
 comment : in_head (codes "/FontBBox {0 0 % two\n1 1} def") ≡ None
-unfolding first_at gap number opening spaced numbers font_box
+unfolding first_at gap number opening spaced box_numbers font_box
 comment = refl
 
 exponent : in_head (codes "/FontBBox {0 0 1e3 1} def") ≡ None
-unfolding first_at gap number opening spaced numbers font_box
+unfolding first_at gap number opening spaced box_numbers font_box
 exponent = refl
 
 -- the first place that has a box counts
 second_place : in_head (codes "/FontBBox {0 0 1e3 1} /FontBBox {0 0 1 1} /FontBBox {2 2 2 2}")
     ≡ Some (a_box (codes "0") (codes "0") (codes "1") (codes "1"))
-unfolding first_at gap number opening spaced numbers font_box
+unfolding first_at gap number opening spaced box_numbers font_box
 second_place = refl
 
 -- the clear tail counts where the head has none
 clear_tail : box_of (shell (codes "%! /FontBBoxes {0 0 1 1} ") (codes " /FontBBox {0 0 2 2} ")) ≡ Some (a_box (codes "0") (codes "0") (codes "2") (codes "2"))
-unfolding first_at gap number opening spaced numbers font_box
+unfolding first_at gap number opening spaced box_numbers font_box
 clear_tail = refl
 
 head_first : box_of (shell (codes "/FontBBox {0 0 1 1}") (codes "/FontBBox {0 0 2 2}")) ≡ Some (a_box (codes "0") (codes "0") (codes "1") (codes "1"))
-unfolding first_at gap number opening spaced numbers font_box
+unfolding first_at gap number opening spaced box_numbers font_box
 head_first = refl
 
 -- ---- numbers
@@ -159,25 +159,25 @@ zeros_by_chance = refl
 kept : clear_with (a_box (codes "-1") (codes "-2") (codes "30") (codes "40"))
     (shell (codes "%! /FontBBox[ 0  0\n1 1 ]readonly def ") (codes " /FontBBox {5 5 5 5} "))
     ≡ (codes "%! /FontBBox[ -1  -2\n30 40 ]readonly def ", codes " /FontBBox {5 5 5 5} ")
-unfolding first_at gap number opening spaced numbers font_box
+unfolding first_at gap number opening spaced box_numbers font_box
 kept = refl
 
 in_tail : clear_with (all_of (codes "9")) (shell (codes "%! ") (codes " /FontBBox{0 0 1 1}readonly def ")) ≡
     (codes "%! ", codes " /FontBBox{9 9 9 9}readonly def ")
-unfolding first_at gap number opening spaced numbers font_box
+unfolding first_at gap number opening spaced box_numbers font_box
 in_tail = refl
 
 no_box : clear_with (all_of (codes "9")) (shell (codes "%! ") (codes " /FontBBox 0 0 1 1 ")) ≡ (codes "%! ", codes " /FontBBox 0 0 1 1 ")
-unfolding first_at gap number opening spaced numbers font_box
+unfolding first_at gap number opening spaced box_numbers font_box
 no_box = refl
 
 read_again : box_stays (all_of (codes "9")) (shell (codes "/FontBBox {0 0 1 1} def") []) ≡ true
-unfolding first_at gap number opening spaced numbers font_box
+unfolding first_at gap number opening spaced box_numbers font_box
 read_again = refl
 
 -- a word that is no number is not read again
 not_again : box_stays (all_of (codes "x")) (shell (codes "/FontBBox {0 0 1 1} def") []) ≡ false
-unfolding first_at gap number opening spaced numbers font_box
+unfolding first_at gap number opening spaced box_numbers font_box
 not_again = refl
 
 -- ---- lists
@@ -190,11 +190,11 @@ font e m g head = record { shell = shell head []; encoding = e; subrs = m; glyph
 procedures : (e : Encoding) (m : Numbered) (g : Named) →
     boxes_of (font e m g (codes "/FontBBox {0 0 1 1} def") ∷ font e m g (codes "/FontBBox [0 -2 0.5 3] def") ∷ [])
     ≡ Some (a_box (codes "0") (codes "0") (codes "1") (codes "1") ∷ a_box (codes "0") (codes "-2") (codes "0.5") (codes "3") ∷ [])
-unfolding first_at gap number opening spaced numbers font_box
+unfolding first_at gap number opening spaced box_numbers font_box
 procedures e m g = refl
 
 -- where one font has no box, none has
 one_without : (e : Encoding) (m : Numbered) (g : Named) →
     boxes_of (font e m g (codes "/FontBBox {0 0 1 1} def") ∷ font e m g (codes "/FontBBox 7 def") ∷ []) ≡ None
-unfolding first_at gap number opening spaced numbers font_box
+unfolding first_at gap number opening spaced box_numbers font_box
 one_without e m g = refl

@@ -1,5 +1,5 @@
 use Rattle.std.proofs.Common.{◌∙◌, ap, sym, List, ℕ, Option, Some}
-use Rattle.t1_cmd.specs.CodeLists.{codes_of}
+use Rattle.t1_cmd.specs.CodeLists.{codes_listed}
 use Rattle.t1_cmd.proofs.CodeLemmas.{with_codes, shorter, word_more, word_last, word_bad, last_bad}
 use Rattle.t1_cmd.proofs.code_lists.read_codes.Goals as goal
 
@@ -13,7 +13,7 @@ words-smaller c = shorter 44 c.words.rest.now (c.in-Some.word.now, c.in-Some.beh
 
 pub words-preserved : goal.words-preserved
 words-preserved c =
-    ap (λ (ys : List ℕ). with_codes ys (codes_of c.in-Some.behind.now)) c.in_ok-push_codes.ensures
+    ap (λ (ys : List ℕ). with_codes ys (codes_listed c.in-Some.behind.now)) c.in_ok-push_codes.ensures
     ∙ (word_more c.words.codes.items c.words.rest.now (c.in-Some.word.now, c.in-Some.behind.now) (c.in-Some-ends.first, c.in-Some-ends.last)
     (sym c.in-Some.ensures) (sym c.in-Some-ends.ensures)
     ∙ c.words.invariant)

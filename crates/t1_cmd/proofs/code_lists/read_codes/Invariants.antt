@@ -1,10 +1,10 @@
 use Rattle.std.proofs.Common.{◌≡◌, length}
-use Rattle.t1_cmd.specs.CodeLists.{codes_of}
+use Rattle.t1_cmd.specs.CodeLists.{codes_listed}
 use Rattle.t1_cmd.proofs.CodeLemmas.{with_codes}
 use Rattle.t1_cmd.proofs.code_lists.read_codes.Given as goal
 
 abbrev pub invariant-words : goal.invariant-words
-invariant-words l = with_codes l.codes.items (codes_of l.rest) ≡ codes_of l.text
+invariant-words l = with_codes l.codes.items (codes_listed l.rest) ≡ codes_listed l.text
 
 abbrev pub decreases-words : goal.decreases-words
 decreases-words l = length l.rest

@@ -4,9 +4,9 @@ use Rattle.std.specs.Option.{option_map}
 use Rattle.std.proofs.lemmas.List.{map-append}
 use Rattle.t1_document.specs.declared.documents.Place.{Place as CodePlace}
 use Rattle.t1_document.specs.Stretches.{stretches}
-use Rattle.t1_document.specs.Documents.{none_open, open_behind, next_mark, placed, place_at, Document, document_bytes, document_of}
+use Rattle.t1_document.specs.Documents.{none_open, open_behind, next_mark, place_with, place_at, Document, document_bytes, document_of}
 use Rattle.t1_document.specs.Views.{font_view, place_view, stretch_view}
-use Rattle.t1_document.specs.Laws.{Spells}
+use Rattle.t1_document.specs.Laws.{SpellsPlace}
 use Rattle.t1_document.proofs.PlaceLemmas.{document_text}
 use Rattle.t1_document.proofs.Spelled.{places_spell}
 use Rattle.t1_document.proofs.StretchLemmas.{front_len}
@@ -40,14 +40,14 @@ stretches-preserved c =
       none = c.in-Some.ensures.behind;
       shorter = c.in-Some.ensures.shorter;
     } in
-    let found : option_map (λ f. placed o s (font_view f)) c.in_ok-font.field-0 ≡ place_at o s (next_mark (stretches behind).1) =
+    let found : option_map (λ f. place_with o s (font_view f)) c.in_ok-font.field-0 ≡ place_at o s (next_mark (stretches behind).1) =
     c.in_ok-font.ensures ∙ ap (place_at o s) c.mark_at.ensures in
     elim c.match-branch-2.branch [
       | in-Some-2+in_ok-push w ↦
-          let p = placed o s (font_view w.in-Some-2.font) in
+          let p = place_with o s (font_view w.in-Some-2.font) in
           let before = w.split_at-in-Some-2.result.0.now in
           let is : place_at o s (next_mark (stretches behind).1) ≡ Some p =
-          sym found ∙ ap (option_map (λ f. placed o s (font_view f))) w.in-Some-2.is in
+          sym found ∙ ap (option_map (λ f. place_with o s (font_view f))) w.in-Some-2.is in
           let pushed : map place_view c.match-branch-2.places.items ≡ done ++ record p { before = before } ∷ [] =
           ap (λ v. map place_view v.items) w.places-is ∙ (ap (map place_view) w.in_ok-push.ensures.items ∙ map-append place_view items (_ ∷ [])) in
           walks_same text behind c.match-branch-2.here.now behind (open_behind o s.mark) c.behind-around.result
@@ -55,7 +55,7 @@ stretches-preserved c =
           (ap (λ h. h.now) w.here-is) c.behind-around.ensures pushed
           (walk_place text here rest behind o done s p before c.stretches.invariant comes is refl w.split_at-in-Some-2.ensures.front)
       | in_default-2 w ↦
-          let none : place_at o s (next_mark (stretches behind).1) ≡ None = sym found ∙ ap (option_map (λ f. placed o s (font_view f))) w.in_default-2.is in
+          let none : place_at o s (next_mark (stretches behind).1) ≡ None = sym found ∙ ap (option_map (λ f. place_with o s (font_view f))) w.in_default-2.is in
           walks_same text here c.match-branch-2.here.now behind (open_behind o s.mark) c.behind-around.result done
           (map place_view c.match-branch-2.places.items)
           (ap (λ h. h.now) w.here-is) c.behind-around.ensures (ap (λ v. map place_view v.items) w.places-is)
@@ -74,4 +74,4 @@ pub returns-clause-whole : goal.returns-clause-whole
 returns-clause-whole c = ap document_bytes (sym (known c)) ∙ document_text c.args.text.now
 
 pub returns-clause-spell : goal.returns-clause-spell
-returns-clause-spell c = subst (λ (d : Document). AllByRecursion Spells d.places) (known c) (places_spell c.args.text.now)
+returns-clause-spell c = subst (λ (d : Document). AllByRecursion SpellsPlace d.places) (known c) (places_spell c.args.text.now)

@@ -1,8 +1,8 @@
 use Rattle.std.proofs.Common.{◌≡◌, map, drop}
-use Rattle.t1_document.specs.Joins.{fonts_of}
+use Rattle.t1_document.specs.Joins.{fonts_of_places}
 use Rattle.t1_document.specs.Views.{place_view}
 use Rattle.t1_document.proofs.JoinLoops.{fonts_before}
 use Rattle.t1_document.proofs.joins.sources_of.Given as goal
 
 abbrev pub invariant-places : goal.invariant-places
-invariant-places l = fonts_before l.sources.items (fonts_of (map place_view (drop l.place-index l.places))) ≡ fonts_of (map place_view l.places)
+invariant-places l = fonts_before l.sources.items (fonts_of_places (map place_view (drop l.place-index l.places))) ≡ fonts_of_places (map place_view l.places)

@@ -3,18 +3,18 @@ use Rattle.std.specs.Prelude.{Option, codes}
 use Rattle.std.specs.Option.{option_map}
 use Rattle.t1_grammar.specs.Grammar.{first_at}
 use Rattle.t1_bytes.proofs.Places.{found_at, passed_at, nowhere_at}
-use Rattle.t1_font.specs.FontBoxes.{Numbers, Place, font_box, box_begins}
+use Rattle.t1_font.specs.FontBoxes.{BoxNumbers, BoxPlace, font_box, box_begins}
 use Rattle.t1_font.specs.BoxViews.{numbers_view}
 use Rattle.t1_font.proofs.font_boxes.place_in.Goals as goal
 
 -- the place of a box that was found
-abbrev as_place : Option ((List ℕ × (List ℕ × Numbers)) × List ℕ) → Option Place
+abbrev as_place : Option ((List ℕ × (List ℕ × BoxNumbers)) × List ℕ) → Option BoxPlace
 as_place = option_map (λ x. record { front = x.0.0; start = x.0.1.0; numbers = x.0.1.1; behind = x.1 })
 
 pub returns-in-Some-font_box_at : goal.returns-in-Some-font_box_at
 returns-in-Some-font_box_at c =
     let bytes = c.args.text.now in
-    let said : List ℕ × Numbers = (c.in-Some-font_box_at.start.now, numbers_view c.in-Some-font_box_at.numbers) in
+    let said : List ℕ × BoxNumbers = (c.in-Some-font_box_at.start.now, numbers_view c.in-Some-font_box_at.numbers) in
     let after = c.in-Some-font_box_at.behind.now in
     let back : drop c.in-Some.place bytes ≡ c.split_at.result.1.now = sym c.split_at.ensures.back in
     let here : font_box.read (drop c.in-Some.place bytes) ≡ Some (said, after) = ap font_box.read back ∙ sym c.in-Some-font_box_at.ensures in

@@ -3,12 +3,12 @@ use Rattle.std.proofs.lemmas.Result.{on_ok_weaker}
 use Rattle.std.specs.FinMap.{insert}
 use Rattle.t1_font.specs.Charstrings.{plain_of}
 use Rattle.t1_font.specs.Gathering.{Entries}
-use Rattle.t1_font.specs.Places.{placed}
+use Rattle.t1_font.specs.Places.{bytes_at_place}
 use Rattle.t1_font.proofs.subrs.keep_subr.Goals as goal
 
 pub returns-clause-kept : goal.returns-clause-kept
 returns-clause-kept c = on_ok_weaker c.keep_subr.result (λ kept few. ap (λ (g : Entries). g.subrs) kept ∙ ap (λ i. insert {R = nat_cmp}
-    c.args.gathered.now.subrs i (plain_of c.args.len_iv (placed c.args.gathered.now.rest c.args.body))) c.in-Ok.ensures.1) c.keep_subr.ensures
+    c.args.gathered.now.subrs i (plain_of c.args.len_iv (bytes_at_place c.args.gathered.now.rest c.args.body))) c.in-Ok.ensures.1) c.keep_subr.ensures
 
 pub returns-in_default-clause-kept : goal.returns-in_default-clause-kept
 returns-in_default-clause-kept c = λ few. absurd (c.in_default.ensures (omega (arith, few)))

@@ -7,7 +7,7 @@ use Rattle.t1_font.specs.Charstrings.{plain_of}
 use Rattle.t1_font.specs.Entries.{map_of, AreSettled}
 use Rattle.t1_font.specs.FontValue.{name_cmp}
 use Rattle.t1_font.specs.Gathering.{Entries, gathered_codes, gathered_glyphs}
-use Rattle.t1_font.specs.Places.{ending, placed}
+use Rattle.t1_font.specs.Places.{ending, bytes_at_place}
 use Rattle.t1_font.specs.Ranges.{bytes_at, by_name, named_at, IsInside, AllInside, NamesInside}
 use Rattle.t1_font.proofs.Buffers.{Decrypted, Named, pushed, with_one, names_with_one, all_longer, names_wider, entries_stay}
 use Rattle.t1_font.proofs.Buffers.{names_stay, rest_stays, plain_at, plain_inside, name_at, name_inside, goes_on, same_length}
@@ -89,7 +89,7 @@ returns c =
     ∙ (pushed (named_at now) nat_list_cmp_total name_same c.settle.new.entries.items (c.part_at-name.result, _)
     ∙ ((λ i. fin.insert (map_of {R = name_cmp} (names_stay _ _ _ _ _ _ _ _ d c.settle.new.entries.items settled.0 settled.1 i))
     (name_at _ _ _ _ _ _ _ _ d _ _ (named_so c) i) (plain_at _ _ _ _ _ _ _ _ d i))
-    ∙ ap (λ m. fin.insert m (placed (drop c.self.inside.at was) c.args.name) (plain_of c.args.len_iv (placed (drop c.self.inside.at was) c.args.body)))
+    ∙ ap (λ m. fin.insert m (bytes_at_place (drop c.self.inside.at was) c.args.name) (plain_of c.args.len_iv (bytes_at_place (drop c.self.inside.at was) c.args.body)))
     (settled_so c))) in
     (λ i. record {
       rest = (ap (λ n. drop (n - c.args.left) now) (now_long c) ∙ rest_stays _ _ _ _ _ _ _ _ d) i;
@@ -101,7 +101,7 @@ returns c =
       rest = ending c.args.left g.rest;
       codes = g.codes;
       subrs = g.subrs;
-      glyphs = fin.insert g.glyphs (placed g.rest c.args.name) (plain_of c.args.len_iv (placed g.rest c.args.body));
+      glyphs = fin.insert g.glyphs (bytes_at_place g.rest c.args.name) (plain_of c.args.len_iv (bytes_at_place g.rest c.args.body));
     }) c.self.view_is
 
 pub invariant_of-self-in_err-push : goal.invariant_of-self-in_err-push

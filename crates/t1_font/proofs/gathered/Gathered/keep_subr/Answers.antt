@@ -6,7 +6,7 @@ use Rattle.std.specs.Ordering.{nat_cmp}
 use Rattle.t1_font.specs.Charstrings.{plain_of}
 use Rattle.t1_font.specs.Entries.{map_of}
 use Rattle.t1_font.specs.Gathering.{Entries, gathered_codes}
-use Rattle.t1_font.specs.Places.{ending, placed}
+use Rattle.t1_font.specs.Places.{ending, bytes_at_place}
 use Rattle.t1_font.specs.Ranges.{bytes_at, numbered_at, IsInside, AllInside}
 use Rattle.t1_font.proofs.Buffers.{Decrypted, pushed, with_one, all_longer, names_wider, entries_stay, names_stay, rest_stays, plain_at, plain_inside, goes_on, same_length}
 use Rattle.t1_font.proofs.Lasts.{settled_map, settled_all}
@@ -62,7 +62,7 @@ returns c =
     ∙ (pushed (numbered_at now) nat_cmp_total nat_cmp-IsAntisymmetric c.settle.new.entries.items (c.args.index, _)
     ∙ (λ i. fin.insert (map_of {R = nat_cmp} (entries_stay _ _ _ _ _ _ _ _ d (λ k. k) c.settle.new.entries.items subrs i)) c.args.index
     (plain_at _ _ _ _ _ _ _ _ d i))
-    ∙ ap (λ m. fin.insert m c.args.index (plain_of c.args.len_iv (placed (drop c.self.inside.at was) c.args.body))) settled) in
+    ∙ ap (λ m. fin.insert m c.args.index (plain_of c.args.len_iv (bytes_at_place (drop c.self.inside.at was) c.args.body))) settled) in
     (λ i. record {
       rest = (ap (λ n. drop (n - c.args.left) now) (now_long c) ∙ rest_stays _ _ _ _ _ _ _ _ d) i;
       codes = gathered_codes c.self.inside.codes.items;
@@ -72,7 +72,7 @@ returns c =
     ∙ ap (λ (g : Entries). record {
       rest = ending c.args.left g.rest;
       codes = g.codes;
-      subrs = fin.insert g.subrs c.args.index (plain_of c.args.len_iv (placed g.rest c.args.body));
+      subrs = fin.insert g.subrs c.args.index (plain_of c.args.len_iv (bytes_at_place g.rest c.args.body));
       glyphs = g.glyphs;
     }) c.self.view_is
 
