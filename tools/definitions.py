@@ -15,7 +15,9 @@ from common import TOP, text_of
 # A declaration's first line: how deep, its kind, its name.
 FIRST = re.compile(r"^( *)(?:(abbrev|unfoldable) )?(?:pub )?(?:(data|record) (\S+)(?= )|(\S+) :(?= |$))")
 MODULE = re.compile(r"^( *)module _ (.*) where$")
-IMPORT = re.compile(r"^(pub )?use Rattle\.(t1_\w+)\.(specs|proofs)\.([\w.]+?)(?:\.\{(.*)\}| as (\S+))$")
+IMPORT = re.compile(r"^(pub )?use (Rattle\..*)$")
+GROUP = re.compile(r"((?:[\w-]+\.)*)\{(.*)\}$")
+DEFINED = re.compile(r"Rattle\.(t1_\w+)\.specs\.([\w.]+)$")
 CODE = re.compile(r"declared\.([\w.]+?)\.(\w+)(?:\.The\w+)?$")
 COMMENT = re.compile(r"^ *-- ?(?!---)")
 # What belongs to no declaration before it.
@@ -33,6 +35,21 @@ BINDERS = (
     re.compile(rf"\b({NAME}) ←.*"),
     re.compile(rf"[({{]((?:{NAME} )+): "),
 )
+
+
+def parts(text):
+    """What commas part that stand in no braces."""
+    ends = [at for at, byte in enumerate(text) if byte == "," and text[:at].count("{") == text[:at].count("}")] + [len(text)]
+    return [text[begin:end].strip() for begin, end in zip([0] + [at + 1 for at in ends], ends)]
+
+
+def imported(path, text):
+    """What a `use` line, or a part of it below a path, names: pairs of a module's path and a name, or of a module's path and None where
+    the module itself gets a name."""
+    group = GROUP.match(text)
+    if group:
+        return [pair for part in parts(group[2]) for pair in imported(path + group[1], part)]
+    return [(path.rstrip("."), text)] if path else [(text, None)]
 
 
 class Definition:
@@ -84,21 +101,16 @@ class File:
         return lines[:count]
 
     def imports(self, text):
-        for passes, crate, _, module, group, alias in filter(None, map(self.imported, text.splitlines())):
-            if alias:
-                self.modules[alias] = (crate, module)
-            for name in filter(None, map(str.strip, (group or "").split(","))):
-                theirs, _, ours = name.partition(" as ")
-                self.names[ours or theirs] = (crate, module, theirs)
-                if passes:
-                    self.passed[ours or theirs] = (crate, module, theirs)
-
-    @staticmethod
-    def imported(line):
-        found = IMPORT.match(line)
-        if not found or found[3] == "proofs":
-            return None
-        return found.groups()
+        for line in filter(None, map(IMPORT.match, text.splitlines())):
+            for path, name in imported("", line[2]):
+                theirs, _, ours = (name or path).partition(" as ")
+                module = DEFINED.match(path if name else theirs)
+                if module and not name:
+                    self.modules[ours] = module.groups()
+                elif module:
+                    self.names[ours or theirs] = (*module.groups(), theirs)
+                    if line[1]:
+                        self.passed[ours or theirs] = (*module.groups(), theirs)
 
     def read(self, lines):
         """Goes over the lines: each belongs to the declaration that was begun last, until one stands less deep."""

@@ -1,11 +1,10 @@
 -- A subset of a subset is the font's own subset.
 use Rattle.std.proofs.Common.{◌≡◌, ℕ, Bool, true, cond, List, [], refl, sym, ◌∙◌, unwrap_or}
-use Rattle.std.specs.FinSet as sets
-use Rattle.t1_font.specs.{FontValue.{FontValue, notdef}, Cut.{restrict, restrict_encoding, stub}}
-use Rattle.t1_font.proofs.MapLemmas.{get-map_values, get-retain}
+use Rattle.t1_font.{specs.{FontValue.{FontValue, notdef}, Cut.{restrict, restrict_encoding, stub}}, proofs.MapLemmas.{get-map_values, get-retain}}
 use Rattle.t1_algebra.specs.{Keep.{has, charstring, components, components_here, keep, kept, subset, IsOf}, States.{code_state}}
 use Rattle.t1_algebra.proofs.{Words.{nat_cmp_total, nat_list_cmp_total, nat_cmp-IsAntisymmetric, Interpreter, Names}, Sets.{name_same, cases}}
 use Rattle.t1_algebra.proofs.{Kept.{keep_has, keep_least, keep_closed, component_is, kept_more, calls, keeps_alike}, Subsets.{get-glyph, runs_alike, same_font, same_encoding, get-code}}
+use Rattle.std.specs.FinSet as sets
 
 -- ---- a cut of a cut
 

@@ -1,16 +1,15 @@
 -- Two fonts have no conflict exactly if they join, and they have the same conflict in both orders.
 use Rattle.std.proofs.{Common.{arith, ◌≡◌, ◌↔◌, ℕ, true, false, cond, not, ◌&&◌, ◌||◌, List, [], get_or, ap, Ordering, Option, Some, None, unwrap_or, nat_le}, Math.Bool.{or_comm}}
 use Rattle.std.proofs.{lemmas.Bool.{leb-true, le-leb, and_from}, lemmas.List.Folds.{list_any_none}}
-use Rattle.std.specs.FinMap as maps
 use Rattle.t1_font.specs.FontValue.{FontValue, Encoding, Word, Codes, weight, weight_limit, count_limit, names_in}
-use Rattle.t1_algebra.specs.Conflicts.{ShellDiffers, CodeDiffers, GlyphDiffers, LacksComponent, SubrDiffers, OverLimit, keys_of_both, agrees, codes_of_both}
-use Rattle.t1_algebra.specs.Conflicts.{wants, code_clashes, glyph_clashes, glyphs_of_both, wanted_by, component_clashes, subr_clashes, used_by, is_within}
-use Rattle.t1_algebra.specs.Conflicts.{shell_conflict, code_conflict, glyph_conflict, component_conflict, subr_conflict, states_conflict, conflict}
-use Rattle.t1_algebra.specs.{Searches.{members, smallest, found}, Shared.{shared_of}, Keep.{has}}
+use Rattle.t1_algebra.specs.Conflicts.{ShellDiffers, CodeDiffers, GlyphDiffers, LacksComponent, SubrDiffers, OverLimit, keys_of_both, agrees, codes_of_both, wants, code_clashes, glyph_clashes}
+use Rattle.t1_algebra.specs.Conflicts.{glyphs_of_both, wanted_by, component_clashes, subr_clashes, used_by, is_within, shell_conflict, code_conflict, glyph_conflict, component_conflict}
+use Rattle.t1_algebra.specs.{Conflicts.{subr_conflict, states_conflict, conflict}, Searches.{members, smallest, found}, Shared.{shared_of}, Keep.{has}}
 use Rattle.t1_algebra.specs.States.{KeepsLimits, Agree, calls_for, code_state, subr_state, joined_font, Compatible, Join, executes}
 use Rattle.t1_algebra.proofs.{Words.{list_any, IsTotalOrder, nat_cmp_total, first_so, second_so, nat_list_cmp_total, IsAntisymmetric, nat_cmp-IsAntisymmetric, Interpreter, same_bytes}, Uses.{sought}}
 use Rattle.t1_algebra.proofs.{Sets.{name_same, any_at, cases_Option, cases}, JoinedStates.{font_back, glyph_agree}, Searching.{passes_none, found_none, smallest_none}}
 use Rattle.t1_algebra.proofs.{Shares.{swaps, bytes_decide, shared_so, no_part_differs, differing_back, sharing}, Maps.{in_both, both_back}}
+use Rattle.std.specs.FinMap as maps
 
 module _ (x y : Option (List ℕ)) where
   -- states that join don't fail the test

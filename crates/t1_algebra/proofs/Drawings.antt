@@ -1,16 +1,13 @@
 -- A glyph runs and draws in a subset and in a join as it did before.
 use Rattle.std.proofs.Common.{◌≡◌, ℕ, true, cond, List, [], ◌∷◌, map, refl, sym, ◌∙◌, ap, subst, Option, Some, None, option_map}
-use Rattle.std.specs.FinSet as sets
-use Rattle.std.specs.FinMap as maps
-use Rattle.t1_run.specs.{State.{Ending}, Run.{direct, direct3, exec, direct_by}, Drawings.{parts_of, picture, picture_at, draw, draw3, outcome_at, draw_by, parts_by, parts}}
-use Rattle.t1_run.proofs.Locality.{local}
-use Rattle.t1_font.specs.{FontValue.{FontValue, Numbered}, IsFont.{IsFont}}
-use Rattle.t1_font.proofs.FontReaders.{all_seen}
-use Rattle.t1_algebra.specs.{Keep.{keep, has, components, subset, IsOf}, Outcomes.{component_outcome}, States.{joined_font, Compatible}, Profile.{profile, Endings, in_set_of}}
-use Rattle.t1_algebra.specs.Laws.{AnswersAlike}
+use Rattle.t1_run.{specs.{State.{Ending}, Run.{direct, direct3, exec, direct_by}, Drawings.{parts_of, picture, picture_at, draw, draw3, outcome_at, draw_by, parts_by, parts}}, proofs.Locality.{local}}
+use Rattle.t1_font.{specs.{FontValue.{FontValue, Numbered}, IsFont.{IsFont}}, proofs.FontReaders.{all_seen}}
+use Rattle.t1_algebra.specs.{Keep.{keep, has, components, subset, IsOf}, Outcomes.{component_outcome}, States.{joined_font, Compatible}, Profile.{profile, Endings, in_set_of}, Laws.{AnswersAlike}}
 use Rattle.t1_algebra.specs.Alike.{DrawsAlike}
 use Rattle.t1_algebra.proofs.{Words.{list_any, nat_list_cmp_total, Names, same_bytes}, Kept.{keep_part}, Sets.{name_same, itself, here, later, any_append_left, any_append_right, cases}, Uses.{sought}}
 use Rattle.t1_algebra.proofs.{JoinedStates.{left_runs, left_subrs, font_back, compatible_back}, Subsets.{get-glyph, runs_alike, subrs_alike, glyph_in_join}}
+use Rattle.std.specs.FinSet as sets
+use Rattle.std.specs.FinMap as maps
 
 -- ---- fonts in which a glyph runs alike and names components that run alike
 

@@ -1,21 +1,18 @@
 -- The states of a font as tables: what stands at each key, what they weigh, that they join as the fonts do, and that they determine the font.
-use Rattle.std.proofs.Common.{◌≡◌, ◌↔◌, not, ◌≤◌, ℕ, ◌+◌, ◌*◌, ◌-◌, true, cond, List, [], ◌∷◌, map, length, refl, sym, ◌∙◌, ap, subst}
-use Rattle.std.proofs.Common.{Option, Some, None, option_map, is_some, arith, inl, ⊎_elim, nat_cmp}
-use Rattle.std.proofs.lemmas.List.{length-map}
-use Rattle.std.specs.FinMap as maps
-use Rattle.t1_join.specs.{Meaning.{of_number}, Join.{State}, StateLaws.{same_meaning-self}, TableMeaning.{TableMeaning, joined_table}}
-use Rattle.t1_join.specs.{TableLaws.{get_joined, same_table}}
+use Rattle.std.proofs.Common.{◌≡◌, ◌↔◌, not, ◌≤◌, ℕ, ◌+◌, ◌*◌, ◌-◌, true, cond, List, [], ◌∷◌, map, length, refl, sym, ◌∙◌, ap, subst, Option, Some, None, option_map, is_some, arith, inl, ⊎_elim}
+use Rattle.std.proofs.{Common.{nat_cmp}, lemmas.List.{length-map}}
+use Rattle.t1_join.specs.{Meaning.{of_number}, Join.{State}, StateLaws.{same_meaning-self}, TableMeaning.{TableMeaning, joined_table}, TableLaws.{get_joined, same_table}}
 use Rattle.t1_font.specs.{FontModel.{word_of, encoding_by, font_by}, Maps.{map_values}, FontValue.{FontValue, Numbered, Named, total, subr_weight, weight, weight_limit, count_limit, names_in}}
 use Rattle.t1_font.proofs.{CutEntries.{entries-retain}, MapLemmas.{entries_all, get-retain, get-map_values}}
 use Rattle.t1_algebra.specs.States.{named_at, code_state, KeepsLimits, is_sought, subr_state, name_state, Compatible, Join, joined_font}
-use Rattle.t1_algebra.specs.StateTables.{StatesValue, numbered, name_meaning, behind_mark, AreSought, used_subrs, all_components, name_states, states_of, subr_adds, name_adds}
-use Rattle.t1_algebra.specs.StateTables.{code_states, state_or_stub, states_weight, states_glyphs, StatesFit, name_part, subr_part, code_part}
-use Rattle.t1_algebra.specs.StateTables.{joined_states, PartsJoin, FontStatesAgree, FontStatesJoin}
+use Rattle.t1_algebra.specs.StateTables.{StatesValue, numbered, name_meaning, behind_mark, AreSought, used_subrs, all_components, name_states, states_of, subr_adds, name_adds, code_states}
+use Rattle.t1_algebra.specs.StateTables.{state_or_stub, states_weight, states_glyphs, StatesFit, name_part, subr_part, code_part, joined_states, PartsJoin, FontStatesAgree, FontStatesJoin}
 use Rattle.t1_algebra.specs.StateLaws.{PartsAgree, parts_laws}
 use Rattle.t1_algebra.proofs.{Words.{nat_cmp_total, nat_list_cmp_total, nat_cmp-IsAntisymmetric, eq_by_cmp, list_any, Interpreter, same_bytes}, Shares.{same_indices, sharing}, Maps.{get-valued}}
 use Rattle.t1_algebra.proofs.{Sets.{any_flat_map, name_same, cases}, JoinedStates.{subr_joined, name_joined, present_joined}, Subsets.{stub_is, same_font, same_encoding, code_joined}}
 use Rattle.t1_algebra.proofs.Sums.{total_kept, total_mapped, names_total, names_count}
 use Rattle.t1_algebra.proofs.Tables.{get-numbered, entries-numbered, get-name, charstring_in, Shows, cases_key, codes_shown, shown_agree, agree_shown, shown_joined, to_agree}
+use Rattle.std.specs.FinMap as maps
 
 -- ---- states that agree
 

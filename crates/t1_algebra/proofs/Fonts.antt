@@ -1,12 +1,11 @@
 -- Subsets and joins of fonts are fonts, and subsets of one font join in any order and grouping.
 use Rattle.std.proofs.{Common.{◌≡◌, ℕ, ◌||◌, List, [], ◌∷◌, refl, sym, ◌∙◌, ap, IsPermutation, ◌≤◌, subst}, lemmas.List.Folds.{list_any-append}, lemmas.List.Sorted.{list_any-IsPermutation}}
-use Rattle.std.specs.FinSet as sets
 use Rattle.t1_join.specs.Groupings.{Grouping, one, two, map_grouping, EachLeaf, leaves}
-use Rattle.t1_font.specs.{FontValue.{FontValue, name_cmp, weight_limit, weight}, IsFont.{IsFont}}
-use Rattle.t1_font.proofs.Kept.{restrict_is_font, join_is_font}
+use Rattle.t1_font.{specs.{FontValue.{FontValue, name_cmp, weight_limit, weight}, IsFont.{IsFont}}, proofs.Kept.{restrict_is_font, join_is_font}}
 use Rattle.t1_algebra.specs.{Keep.{subset, keep, kept, IsOf}, Groupings.{union_all, Merges}, States.{KeepsLimits, Join, joined_font}}
 use Rattle.t1_algebra.proofs.{Words.{list_any, nat_list_cmp_total, Interpreter, Names}, Sets.{name_same, cases}, Subsets.{join_is_subset, subsets_join}, Kept.{keep_closed}}
 use Rattle.t1_algebra.proofs.{Orders.{any_order, one_result, join_back, each_weaker}, JoinedStates.{joined_are_entries}}
+use Rattle.std.specs.FinSet as sets
 
 -- the union of the sets at the leaves, in their grouping
 abbrev pub all_of : Grouping Names → Names

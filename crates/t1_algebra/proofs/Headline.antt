@@ -2,8 +2,7 @@
 use Rattle.std.proofs.Common.{◌≡◌, List, sym, ◌∙◌, ap, subst, Ok, IsPermutation}
 use Rattle.t1_bytes.specs.{declared.form.Form.{Form}, declared.form.Form.TheVariants.{Pfa, Pfb}}
 use Rattle.t1_join.specs.Groupings.{EachLeaf, leaves}
-use Rattle.t1_font.specs.{FontValue.{FontValue}, Canon.{canon, Fits}, IsFont.{IsFont}, ReadFont.{read_font}}
-use Rattle.t1_font.proofs.canonical.RoundTrip.{round_trip}
+use Rattle.t1_font.{specs.{FontValue.{FontValue}, Canon.{canon, Fits}, IsFont.{IsFont}, ReadFont.{read_font}}, proofs.canonical.RoundTrip.{round_trip}}
 use Rattle.t1_algebra.specs.{Interpreter.{Names}, Keep.{subset, IsOf}, Profile.{profile}, States.{joined_font}, Groupings.{union_all}, Alike.{DrawsAlike}}
 use Rattle.t1_algebra.specs.Headline.{Making, Subset, Merge, Again, sets_of, FormsFit, Makes, ComesToSubset}
 use Rattle.t1_algebra.proofs.{Fonts.{subset_is_font, two_subsets, all_of, all_is_of, all_alike}, Drawings.{subset_alike}}

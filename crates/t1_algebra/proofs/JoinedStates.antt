@@ -1,12 +1,11 @@
 -- The states and the entries of a join are those of its fonts, and the glyphs of each font run in it as before.
 use Rattle.std.proofs.Common.{◌≡◌, ℕ, true, ◌||◌, List, refl, sym, Some}
-use Rattle.std.specs.FinSet as sets
-use Rattle.std.specs.FinMap as maps
-use Rattle.t1_font.specs.{Joins.{joined_subr, join_parts}, FontValue.{FontValue}}
-use Rattle.t1_font.proofs.MapLemmas.{get-map_values}
+use Rattle.t1_font.{specs.{Joins.{joined_subr, join_parts}, FontValue.{FontValue}}, proofs.MapLemmas.{get-map_values}}
 use Rattle.t1_algebra.specs.{States.{executes, calls_for, Agree, joined_option, subr_state, name_state, code_state, joined_font, Compatible}, JoinedEntries.{EntriesJoin}}
 use Rattle.t1_algebra.proofs.{Words.{nat_cmp_total, nat_cmp-IsAntisymmetric, Interpreter}, Maps.{agree_back}, Uses.{some_joined, executing_there, naming_there, called}, Sets.{cases}}
 use Rattle.t1_algebra.proofs.Subsets.{same_font, stub_is, same_encoding, code_joined, subr_in_join, glyph_in_join}
+use Rattle.std.specs.FinSet as sets
+use Rattle.std.specs.FinMap as maps
 
 -- ---- both orders
 

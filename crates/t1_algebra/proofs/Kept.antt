@@ -1,12 +1,12 @@
 -- What is kept is closed and least, and two sets of names keep together what each of them keeps.
 use Rattle.std.proofs.Common.{◌≡◌, ◌↔◌, ℕ, true, not, ◌||◌, ◌&&◌, List, [], ◌∷◌, ◌++◌, flat_map, refl, sym, ◌∙◌, ap, ◌⊎◌, inl, inr, nat_cmp, Some, unwrap_or}
 use Rattle.std.proofs.{lemmas.Bool.{and_from, or_left, or_right, or_cases}, lemmas.List.Folds.{list_any-append}}
-use Rattle.std.specs.FinSet as sets
-use Rattle.std.specs.FinMap as maps
 use Rattle.t1_font.specs.FontValue.{FontValue, name_cmp, notdef}
 use Rattle.t1_algebra.specs.{Interpreter.{Numbers}, Keep.{Closed, is_closed, is_needed, keep, kept, components, components_here, has, charstring, IsOf}, Laws.{Inside}}
 use Rattle.t1_algebra.proofs.Words.{list_any, eq_by_cmp, nat_cmp_total, first_so, second_so, nat_list_cmp_total, nat_cmp-IsAntisymmetric, Interpreter, Names, same_bytes}
 use Rattle.t1_algebra.proofs.Sets.{any_at, any_one, all_at, all_from, any_flat_map, same_members, contains-filter, in_items, from_in_items, name_same, each_set, cases}
+use Rattle.std.specs.FinSet as sets
+use Rattle.std.specs.FinMap as maps
 
 module _ {O : Type 0} (m : Interpreter O) (f : FontValue) where
   -- a set passes the test exactly if it is closed

@@ -1,12 +1,11 @@
 -- Merges from left to right, merges of subsets of one font, and how the glyphs of many fonts draw.
 use Rattle.std.proofs.Common.{◌≡◌, List, [], ◌∷◌, ◌++◌, map, refl, sym, ◌∙◌, ap, subst, IsPermutation, ◌<◌, ℕ, true, length, arith, is_some}
 use Rattle.std.proofs.{lemmas.List.Sorted.{IsPermutation-refl, length_permutation}, lemmas.List.{length-append}}
-use Rattle.std.specs.FinSet as sets
-use Rattle.t1_join.proofs.OrderLemmas.{leaves_from_left, all_of_both, each_leaf}
-use Rattle.t1_join.specs.Groupings.{Grouping, one, two, EachLeaf, map_grouping, from_left, leaves}
+use Rattle.t1_join.{proofs.OrderLemmas.{leaves_from_left, all_of_both, each_leaf}, specs.Groupings.{Grouping, one, two, EachLeaf, map_grouping, from_left, leaves}}
 use Rattle.t1_font.specs.{FontValue.{FontValue, name_cmp}, IsFont.{IsFont}}
 use Rattle.t1_algebra.specs.{Keep.{subset, has, IsOf}, Profile.{profile}, Groupings.{Merges, union_all}, Merges.{DrawsAll}, Alike.{DrawsAlike}}
 use Rattle.t1_algebra.proofs.{Words.{AllByRecursion, nat_list_cmp_total, Names}, Fonts.{many_subsets}, Orders.{one_result, all_weaker}, Sets.{cases}, Drawings.{left_alike, right_alike}}
+use Rattle.std.specs.FinSet as sets
 
 -- ---- from left to right
 

@@ -1,10 +1,9 @@
 -- The join of flat states, and what a merged map has at a key.
 use Rattle.std.proofs.Common.{◌≡◌, ℕ, ◌||◌, refl, arith, Option, Some, None, option_map, Ordering, cond, List, [], ◌∷◌, map, ◌∙◌}
-use Rattle.std.specs.FinMap as maps
 use Rattle.t1_font.specs.Maps.{merged}
+use Rattle.t1_algebra.{specs.{Conflicts.{keys_of_both}, States.{Agree, joined_option}}, proofs.{Words.{list_any, eq_by_cmp, IsTotalOrder, IsAntisymmetric}, Sets.{cases}}}
+use Rattle.std.specs.FinMap as maps
 use Rattle.t1_font.proofs.MapLemmas as cuts
-use Rattle.t1_algebra.specs.{Conflicts.{keys_of_both}, States.{Agree, joined_option}}
-use Rattle.t1_algebra.proofs.{Words.{list_any, eq_by_cmp, IsTotalOrder, IsAntisymmetric}, Sets.{cases}}
 
 -- states agree in both orders
 pub agree_back : {V : Type 0} (x y : Option V) → Agree x y → Agree y x

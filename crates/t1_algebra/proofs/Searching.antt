@@ -1,12 +1,10 @@
 -- Searches: what they find, and when they find nothing.
 use Rattle.std.proofs.{Common.{◌≡◌, ℕ, Bool, true, false, cond, List, [], ◌∷◌, map, refl, sym, ◌∙◌, ap, true≢false, Ordering, Less, Option, Some, None}, lemmas.Bool.{or_right}}
-use Rattle.std.specs.FinMap.Entries.{below_all, is_sorted}
-use Rattle.std.specs.FinMap as maps
-use Rattle.std.specs.List.{find}
+use Rattle.std.specs.{FinMap.Entries.{below_all, is_sorted}, List.{find}}
 use Rattle.t1_join.proofs.Sorted.{lt_is}
 use Rattle.t1_font.proofs.MapLemmas.{T_true}
-use Rattle.t1_algebra.specs.Searches.{members, smallest, found}
-use Rattle.t1_algebra.proofs.{Words.{list_any, AllByRecursion, eq_by_cmp, IsTotalOrder, first_so, second_so, IsAntisymmetric}, Sets.{tied, itself, cases}}
+use Rattle.t1_algebra.{specs.Searches.{members, smallest, found}, proofs.{Words.{list_any, AllByRecursion, eq_by_cmp, IsTotalOrder, first_so, second_so, IsAntisymmetric}, Sets.{tied, itself, cases}}}
+use Rattle.std.specs.FinMap as maps
 
 module _ {X : Type 0} (p : X → Bool) where
   -- if a search finds nothing, no element passes

@@ -1,12 +1,11 @@
 -- Members of lists and of finite sets.
-use Rattle.std.proofs.Common.{◌≡◌, ℕ, Bool, true, false, ◌||◌, ◌&&◌, List, [], ◌∷◌, ◌++◌, map, refl, sym, ◌∙◌, ap}
-use Rattle.std.proofs.Common.{true≢false, ◌⊎◌, ◌↔◌, inl, inr, filter, Ordering, flat_map, arith, Option, Some, None}
+use Rattle.std.proofs.Common.{◌≡◌, ℕ, Bool, true, false, ◌||◌, ◌&&◌, List, [], ◌∷◌, ◌++◌, map, refl, sym, ◌∙◌, ap, true≢false, ◌⊎◌, ◌↔◌, inl, inr, filter, Ordering, flat_map, arith, Option, Some}
+use Rattle.std.proofs.{Common.{None}, lemmas.Bool.{and_from, or_left, or_right, or_cases, cases_Bool}, lemmas.List.Folds.{list_all-append, list_all-map, list_any-append}}
+use Rattle.std.proofs.lemmas.Map.Views.{any-filter_same}
 use Rattle.std.specs.{Cmp.{Equal-is, both_ways, tied_itself}, FinSet.{FinSet, slice_cmp-IsAntisymmetric}}
-use Rattle.std.proofs.{lemmas.Bool.{and_from, or_left, or_right, or_cases, cases_Bool}, lemmas.List.Folds.{list_all-append, list_all-map, list_any-append}, lemmas.Map.Views.{any-filter_same}}
-use Rattle.std.specs.FinSet as sets
 use Rattle.t1_font.specs.FontValue.{name_cmp, Encoding, Word, Codes, Numbered}
-use Rattle.t1_algebra.specs.Keep.{sets_of}
-use Rattle.t1_algebra.proofs.Words.{list_any, list_all, eq_by_cmp, IsTotalOrder, first_so, second_so, nat_list_cmp_total, IsAntisymmetric, nat_cmp-IsAntisymmetric, Names}
+use Rattle.t1_algebra.{specs.Keep.{sets_of}, proofs.Words.{list_any, list_all, eq_by_cmp, IsTotalOrder, first_so, second_so, nat_list_cmp_total, IsAntisymmetric, nat_cmp-IsAntisymmetric, Names}}
+use Rattle.std.specs.FinSet as sets
 
 -- ---- tests and options
 

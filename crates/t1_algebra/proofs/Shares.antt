@@ -1,12 +1,12 @@
 -- Fonts share what they have to exactly if no part differs, and the first part that differs is the same in both orders.
 use Rattle.std.proofs.{Common.{◌≡◌, ◌↔◌, option_map, ℕ, Bool, true, not, map, sym, ◌∙◌, ap, true≢false, Option, Some, None, is_some, nat_cmp, arith}, lemmas.Bool.{not-false, and_parts}}
 use Rattle.std.proofs.lemmas.Simd.{map-map}
-use Rattle.std.specs.FinMap as maps
 use Rattle.std.specs.List.{find}
 use Rattle.t1_font.specs.{FontValue.{FontValue, SubrsShell, Numbered, declared_count}, FontModel.{word_of}, Maps.{map_values}, Encodings.{SameKind}}
 use Rattle.t1_font.proofs.MapLemmas.{Some_None, get-map_values, entries-map_values}
 use Rattle.t1_algebra.specs.Shared.{Shared, shared_of, ShellPart, all_parts, same_number, same_bool, same_word, same_words, same_part, differing_part}
 use Rattle.t1_algebra.proofs.{Words.{list_any, eq_by_cmp, nat_cmp_total, nat_list_cmp_total, nat_cmp-IsAntisymmetric, same_bytes}, Searching.{none_passes}, Sets.{name_same, tied, itself, cases}}
+use Rattle.std.specs.FinMap as maps
 
 -- ---- each test decides
 

@@ -1,15 +1,14 @@
 -- The states of a subset of a font, and the join of two subsets: the subset over both sets of names.
 use Rattle.std.proofs.Common.{◌≡◌, ℕ, ◌≤◌, Bool, true, false, cond, List, [], get_or, refl, sym, ◌∙◌, ap, subst, Some, None, option_map, unwrap_or, arith, le_trans}
 use Rattle.std.proofs.{lemmas.Slice.Eq.{bytes_eq-Decides}, lemmas.List.Folds.{list_any_none}}
-use Rattle.std.specs.FinSet as sets
-use Rattle.std.specs.FinMap as maps
-use Rattle.t1_font.specs.{Cut.{stub, restrict, restrict_encoding}, FontValue.{FontValue, notdef, weight, Encoding, Word, Codes}}
+use Rattle.t1_font.specs.{Cut.{stub, restrict, restrict_encoding}, FontValue.{FontValue, notdef, weight, Encoding, Word, Codes, names_in}, FontModel.{word_of}, Encodings.{join_encodings, SameKind}}
 use Rattle.t1_font.proofs.{Kept.{restrict_light, cut_had}, MapLemmas.{get-map_values, get-retain, total-le, length_total, Some_same, Some_None}}
-use Rattle.t1_font.specs.{FontModel.{word_of}, Encodings.{join_encodings, SameKind}, FontValue.{names_in}}
 use Rattle.t1_algebra.specs.Keep.{keep, kept, has, subset, IsOf}
 use Rattle.t1_algebra.specs.States.{joined_option, executes, calls_for, is_called, is_sought, state_of_entry, subr_state, is_stub, KeepsLimits, code_state, joined_font, Compatible, Join}
 use Rattle.t1_algebra.proofs.{Words.{nat_cmp_total, nat_list_cmp_total, nat_cmp-IsAntisymmetric, Interpreter, Names}, Kept.{keep_part, kept_call, keep_union, kept_union}, Sets.{name_same, cases}}
 use Rattle.t1_algebra.proofs.Maps.{get-merged}
+use Rattle.std.specs.FinSet as sets
+use Rattle.std.specs.FinMap as maps
 
 -- ---- stubs and entries
 

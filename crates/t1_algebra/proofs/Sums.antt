@@ -1,11 +1,11 @@
 -- Sums over the entries of tables: what they weigh, and how many glyphs they have.
 use Rattle.std.proofs.Common.{◌≡◌, ℕ, ◌+◌, Bool, true, not, List, [], ◌∷◌, map, filter, length, refl, sym, ◌∙◌, ap, arith, Some}
-use Rattle.std.specs.FinMap as maps
 use Rattle.t1_join.specs.{Meaning.{Meaning}, TableMeaning.{TableMeaning, TablesAgree, joined_table}, TableLaws.{get_joined}}
 use Rattle.t1_font.specs.{Maps.{merged}, FontValue.{total, Named}}
 use Rattle.t1_font.proofs.{even_fonts.FilledWeights.{total_split}, CutEntries.{entries-retain}, MapLemmas.{entries-map_values, entries_all, get-retain, length_total}}
 use Rattle.t1_algebra.specs.StateTables.{name_meaning, name_counts, glyph_table, names_table, AreSought}
 use Rattle.t1_algebra.proofs.{Words.{AllByRecursion, nat_list_cmp_total}, Sets.{name_same, cases}, Tables.{names_join, are_joined}}
+use Rattle.std.specs.FinMap as maps
 
 -- the sum over entries with other keys and values
 pub total_mapped : {K X : Type 0} (k : K → Meaning) (v : X → Meaning) (w : Meaning → Meaning → ℕ) (es : List (K × X)) →

@@ -1,23 +1,15 @@
 -- Tables of codes, of Subrs and of names: what stands at each key, and how they join.
-use Rattle.std.proofs.Common.{◌≡◌, ℕ, Bor, option_map, Bool, true, false, not, cond, T, List, [], ◌∷◌, refl, sym, ◌∙◌, ap, arith, Option}
-use Rattle.std.proofs.Common.{Some, None, is_some, Less, Equal, Greater, ◌&&◌, map, subst, true≢false, nat_cmp, is_lt, ◌↔◌, inl, inr, ◌⊎◌}
-use Rattle.std.specs.{Ordering.{is_eq, ordering_then}, FinMap.{find, is_sorted}, FinMap.Entries.{below_all}, Option.{option_copied}}
-use Rattle.std.proofs.lemmas.{Bool.{cases_Bool}, Option.{MatchOption-at_none, MatchOption-at_some}}
-use Rattle.std.specs.FinMap as maps
-use Rattle.std.specs.Prelude.{MatchOption}
-use Rattle.std.specs.Str.{bytes_eq}
-use Rattle.std.proofs.lemmas.Map.Text.{is_eq-slice_cmp}
-use Rattle.t1_join.proofs.Conflicts.{Says, both_agree, says_first}
-use Rattle.t1_join.proofs.Sorted.{map_of}
+use Rattle.std.proofs.Common.{◌≡◌, ℕ, Bor, option_map, Bool, true, false, not, cond, T, List, [], ◌∷◌, refl, sym, ◌∙◌, ap, arith, Option, Some, None, is_some, Less, Equal, Greater, ◌&&◌, map, subst}
+use Rattle.std.proofs.{Common.{true≢false, nat_cmp, is_lt, ◌↔◌, inl, inr, ◌⊎◌}, lemmas.Bool.{cases_Bool}, lemmas.Option.{MatchOption-at_none, MatchOption-at_some}, lemmas.Map.Text.{is_eq-slice_cmp}}
+use Rattle.std.specs.{Ordering.{is_eq, ordering_then}, FinMap.{find, is_sorted}, FinMap.Entries.{below_all}, Option.{option_copied}, Prelude.{MatchOption}, Str.{bytes_eq}}
+use Rattle.t1_join.proofs.{Conflicts.{Says, both_agree, says_first}, Sorted.{map_of}}
 use Rattle.t1_join.specs.{TableMeaning.{TableMeaning, Rises, entry_meanings, joined_table, TablesAgree}, Meaning.{Meaning, meaning_cmp, of_number, by_number_law, same_meaning}}
 use Rattle.t1_join.specs.{Join.{joined_state, State, states_agree, StatesAgree}, TableLaws.{get_joined, same_table}, StateLaws.{same_meaning-true, same_meaning-self}}
-use Rattle.t1_font.specs.{Maps.{merged}, Joins.{differing_name}, Lent.{lent_number}}
-use Rattle.t1_font.specs.FontValue.{Numbered, Named, name_cmp, Encoding, Word, Codes}
-use Rattle.t1_font.proofs.MapLemmas.{get-map_values}
+use Rattle.t1_font.{specs.{Maps.{merged}, Joins.{differing_name}, Lent.{lent_number}, FontValue.{Numbered, Named, name_cmp, Encoding, Word, Codes}}, proofs.MapLemmas.{get-map_values}}
 use Rattle.t1_algebra.specs.{Conflicts.{agrees}, StateTables.{numbered, name_meaning, AreNameStates, behind_mark, glyph_table, names_table, AreSought, code_states}, Searches.{IsLowest}}
 use Rattle.t1_algebra.specs.{NameStates.{is_sought_in, charstrings_differ, one_lacks}, States.{Agree, code_state, joined_option}}
-use Rattle.t1_algebra.proofs.{Words.{list_any, eq_by_cmp, nat_cmp_total, nat_list_cmp_total, same_bytes}, Maps.{get-merged}}
-use Rattle.t1_algebra.proofs.{Sets.{cases_Option, name_same, cases}, Shares.{bytes_decide}}
+use Rattle.t1_algebra.proofs.{Words.{list_any, eq_by_cmp, nat_cmp_total, nat_list_cmp_total, same_bytes}, Maps.{get-merged}, Sets.{cases_Option, name_same, cases}, Shares.{bytes_decide}}
+use Rattle.std.specs.FinMap as maps
 
 -- a copy of what is borrowed is there if it is
 pub some_copied : {V : Type 0} {X : Type 0} (f : V → X) (r : Option (Bor V)) → is_some r ≡ is_some (option_map f (option_copied r))

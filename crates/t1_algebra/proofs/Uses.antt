@@ -1,11 +1,9 @@
 -- When some glyph of a font executes an index or names a component.
-use Rattle.std.proofs.Common.{◌≡◌, ℕ, Bool, true, ◌||◌, inl, inr, List, sym, ◌∙◌, Option, is_some}
-use Rattle.std.specs.Cmp.{both_ways}
-use Rattle.std.proofs.lemmas.Bool.{or_cases, or_left, or_right}
-use Rattle.std.specs.FinMap as maps
+use Rattle.std.{proofs.{Common.{◌≡◌, ℕ, Bool, true, ◌||◌, inl, inr, List, sym, ◌∙◌, Option, is_some}, lemmas.Bool.{or_cases, or_left, or_right}}, specs.Cmp.{both_ways}}
 use Rattle.t1_font.specs.FontValue.{FontValue, names_in}
 use Rattle.t1_algebra.specs.{Keep.{has}, States.{executed_at, executes, called_at, calls_for, is_called, is_sought}}
 use Rattle.t1_algebra.proofs.{Words.{list_any, nat_list_cmp_total, Interpreter}, Sets.{name_same, any_one, any_at, cases}}
+use Rattle.std.specs.FinMap as maps
 
 module _ (p : FontValue → List ℕ → Bool) (there : (h : FontValue) (n : List ℕ) → p h n ≡ true → has h n ≡ true) where
   -- what holds of a glyph holds of some glyph

@@ -1,9 +1,8 @@
 -- What it means that a glyph of one font is the same in another.
 use Rattle.std.specs.Prelude.{◌≡◌, ℕ, List, Some}
-use Rattle.std.specs.FinMap as maps
-use Rattle.t1_run.specs.Run.{direct, direct3, exec}
-use Rattle.t1_run.specs.Drawings.{draw, draw3}
+use Rattle.t1_run.specs.{Run.{direct, direct3, exec}, Drawings.{draw, draw3}}
 use Rattle.t1_font.specs.FontValue.{FontValue}
+use Rattle.std.specs.FinMap as maps
 
 -- a glyph of f is the same in j, where hints are replaced and where they are kept: its charstring, its runs and the Subrs that they execute, and its drawings
 pub record DrawsAlike (f j : FontValue) (n : List ℕ) : Type 0 where

@@ -1,17 +1,10 @@
 -- Why two fonts do not join: the lowest conflict, and all conflicts.
-use Rattle.std.specs.Prelude.{ℕ, Bool, true, cond, not, ◌&&◌, ◌||◌, List, [], ◌∷◌, ◌++◌, map, Option, Some, None, nat_le}
-use Rattle.std.specs.declared.cmp.Ordering.{Ordering}
-use Rattle.std.specs.Ordering.{nat_cmp}
-use Rattle.std.specs.List.{list_any}
+use Rattle.std.specs.{Prelude.{ℕ, Bool, true, cond, not, ◌&&◌, ◌||◌, List, [], ◌∷◌, ◌++◌, map, Option, Some, None, nat_le}, declared.cmp.Ordering.{Ordering}, Ordering.{nat_cmp}, List.{list_any}}
 use Rattle.std.specs.Option.{unwrap_or}
+use Rattle.t1_font.specs.{FontValue.{FontValue, Encoding, Word, Codes, name_cmp, count_limit, weight_limit, weight}, Maps.{map_values, merged}}
+use Rattle.t1_algebra.specs.{Interpreter.{Interpreter, same_bytes}, Keep.{has}, Shared.{ShellPart, shared_of, differing_part, differing_parts}}
+use Rattle.t1_algebra.specs.{Searches.{KeySet, members, smallest, passing, found, or_else}, States.{executes, calls_for, code_state, subr_state, joined_font}}
 use Rattle.std.specs.FinMap as maps
-use Rattle.t1_font.specs.FontValue.{FontValue, Encoding, Word, Codes, name_cmp, count_limit, weight_limit, weight}
-use Rattle.t1_font.specs.Maps.{map_values, merged}
-use Rattle.t1_algebra.specs.Interpreter.{Interpreter, same_bytes}
-use Rattle.t1_algebra.specs.Keep.{has}
-use Rattle.t1_algebra.specs.Shared.{ShellPart, shared_of, differing_part, differing_parts}
-use Rattle.t1_algebra.specs.Searches.{KeySet, members, smallest, passing, found, or_else}
-use Rattle.t1_algebra.specs.States.{executes, calls_for, code_state, subr_state, joined_font}
 
 -- why two fonts do not join, the lowest kind first; a component is told with the smallest glyph that names it in a font that lacks it, and a Subr with the
 -- smallest glyph that executes it

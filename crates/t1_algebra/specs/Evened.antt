@@ -1,12 +1,8 @@
 -- What glyphs draw in fonts that are made even.
 use Rattle.std.specs.Prelude.{◌≡◌, ℕ, List, [], ◌∷◌, Some}
+use Rattle.t1_run.specs.{Run.{Subrs, direct, direct3, exec}, Drawings.{draw, draw3}, Growth.{NoFault, IsDrawn}}
+use Rattle.t1_font.specs.{FontValue.{FontValue}, FontModel.{subr_at}, Evening.{even, filled, evened}}
 use Rattle.std.specs.FinMap as maps
-use Rattle.t1_run.specs.Run.{Subrs, direct, direct3, exec}
-use Rattle.t1_run.specs.Drawings.{draw, draw3}
-use Rattle.t1_run.specs.Growth.{NoFault, IsDrawn}
-use Rattle.t1_font.specs.FontValue.{FontValue}
-use Rattle.t1_font.specs.FontModel.{subr_at}
-use Rattle.t1_font.specs.Evening.{even, filled, evened}
 
 -- A glyph of f has the same charstring in j, and what runs in f without a fault or is drawn in f runs and draws the same in j, by each answer to hint
 -- replacement by itself; `subrs` says which Subrs a font shows.

@@ -1,11 +1,9 @@
 -- Merges in any order and grouping.
-use Rattle.std.specs.Prelude.{◌≡◌, List, [], ◌∷◌}
-use Rattle.std.specs.FinSet as sets
-use Rattle.std.specs.List.{AllByRecursion}
+use Rattle.std.specs.{Prelude.{◌≡◌, List, [], ◌∷◌}, List.{AllByRecursion}}
 use Rattle.t1_join.specs.Groupings.{Grouping, Gives}
 use Rattle.t1_font.specs.FontValue.{FontValue}
-use Rattle.t1_algebra.specs.Interpreter.{Interpreter, Names}
-use Rattle.t1_algebra.specs.States.{Join, Compatible, joined_font}
+use Rattle.t1_algebra.specs.{Interpreter.{Interpreter, Names}, States.{Join, Compatible, joined_font}}
+use Rattle.std.specs.FinSet as sets
 
 -- the union of all sets of a list
 abbrev pub union_all : List Names → Names

@@ -1,18 +1,10 @@
 -- The headline: what becomes of the written subsets of a font when they are read and merged.
 use Rattle.std.specs.Prelude.{◌≡◌, ℕ, true, List, Ok, IsPermutation}
-use Rattle.std.specs.FinSet as sets
-use Rattle.t1_bytes.specs.declared.form.Form.{Form}
-use Rattle.t1_bytes.specs.Laws.{AreBytes}
+use Rattle.t1_bytes.specs.{declared.form.Form.{Form}, Laws.{AreBytes}}
 use Rattle.t1_join.specs.Groupings.{Grouping, one, two, EachLeaf, leaves}
-use Rattle.t1_font.specs.FontValue.{FontValue}
-use Rattle.t1_font.specs.Canon.{canon, Fits}
-use Rattle.t1_font.specs.ReadFont.{read_font}
-use Rattle.t1_font.specs.Spelling.{Spells}
-use Rattle.t1_algebra.specs.Interpreter.{Names}
-use Rattle.t1_algebra.specs.Keep.{keep, subset, IsOf}
-use Rattle.t1_algebra.specs.Profile.{profile}
-use Rattle.t1_algebra.specs.Alike.{DrawsAlike}
-use Rattle.t1_algebra.specs.Groupings.{JoinTo, union_all}
+use Rattle.t1_font.specs.{FontValue.{FontValue}, Canon.{canon, Fits}, ReadFont.{read_font}, Spelling.{Spells}}
+use Rattle.t1_algebra.specs.{Interpreter.{Names}, Keep.{keep, subset, IsOf}, Profile.{profile}, Alike.{DrawsAlike}, Groupings.{JoinTo, union_all}}
+use Rattle.std.specs.FinSet as sets
 
 -- How a font is made of a font's subsets: the file of the subset over some names is read; two fonts are merged; a font
 -- on the way is written and read again.

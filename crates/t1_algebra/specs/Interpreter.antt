@@ -1,9 +1,8 @@
 -- Sets of names and of indices, and what subsets and merges ask of an interpreter of charstrings.
-use Rattle.std.specs.Prelude.{◌≡◌, ℕ, Bool, true, List}
-use Rattle.std.specs.Ordering.{nat_cmp, is_eq}
+use Rattle.std.specs.{Prelude.{◌≡◌, ℕ, Bool, true, List}, Ordering.{nat_cmp, is_eq}}
+use Rattle.t1_font.specs.FontValue.{Numbered, name_cmp}
 use Rattle.std.specs.FinMap as maps
 use Rattle.std.specs.FinSet as sets
-use Rattle.t1_font.specs.FontValue.{Numbered, name_cmp}
 
 -- a set of glyph names
 abbrev pub Names : Type 0

@@ -1,9 +1,8 @@
 -- The join of two fonts as the entries of both: what merging does once nothing is in conflict.
 use Rattle.std.specs.Prelude.{◌≡◌, ℕ, cond, List, Option, Some, None}
-use Rattle.std.specs.FinMap as maps
-use Rattle.t1_font.specs.FontValue.{FontValue}
-use Rattle.t1_font.specs.Encodings.{SameKind}
+use Rattle.t1_font.specs.{FontValue.{FontValue}, Encodings.{SameKind}}
 use Rattle.t1_algebra.specs.States.{Agree, code_state, is_stub}
+use Rattle.std.specs.FinMap as maps
 
 -- an entry, or nothing if it is a stub
 abbrev pub past_stub : Option (List ℕ) → Option (List ℕ)

@@ -1,12 +1,9 @@
 -- The names and Subrs that a set of names needs, and the subset.
-use Rattle.std.specs.Prelude.{◌≡◌, ℕ, Bool, true, not, ◌&&◌, ◌||◌, List, [], ◌∷◌, ◌++◌, map, filter, flat_map}
-use Rattle.std.specs.List.{list_all}
-use Rattle.std.specs.Option.{unwrap_or}
+use Rattle.std.specs.{Prelude.{◌≡◌, ℕ, Bool, true, not, ◌&&◌, ◌||◌, List, [], ◌∷◌, ◌++◌, map, filter, flat_map}, List.{list_all}, Option.{unwrap_or}}
+use Rattle.t1_font.specs.{FontValue.{FontValue, Numbered, notdef}, Cut.{restrict}}
+use Rattle.t1_algebra.specs.Interpreter.{Interpreter, Names, Numbers}
 use Rattle.std.specs.FinMap as maps
 use Rattle.std.specs.FinSet as sets
-use Rattle.t1_font.specs.FontValue.{FontValue, Numbered, notdef}
-use Rattle.t1_font.specs.Cut.{restrict}
-use Rattle.t1_algebra.specs.Interpreter.{Interpreter, Names, Numbers}
 
 -- each set of some of the names
 abbrev pub sets_of : List (List ℕ) → List Names

@@ -1,12 +1,8 @@
 -- Glyphs that execute a Subr that their font lacks and that another font of a list has. A stub there would draw something else, without a word.
-use Rattle.std.specs.Prelude.{ℕ, zero, suc, Bool, not, cond, ◌&&◌, List, [], ◌∷◌, Option, None}
-use Rattle.std.specs.List.{list_any, find}
-use Rattle.std.specs.Option.{option_map}
-use Rattle.std.specs.FinMap as maps
+use Rattle.std.specs.{Prelude.{ℕ, zero, suc, Bool, not, cond, ◌&&◌, List, [], ◌∷◌, Option, None}, List.{list_any, find}, Option.{option_map}}
 use Rattle.t1_font.specs.FontValue.{FontValue, declared_count, names_in}
-use Rattle.t1_algebra.specs.Profile.{profile}
-use Rattle.t1_algebra.specs.Searches.{found}
-use Rattle.t1_algebra.specs.States.{executes}
+use Rattle.t1_algebra.specs.{Profile.{profile}, Searches.{found}, States.{executes}}
+use Rattle.std.specs.FinMap as maps
 
 -- an index, and a glyph that executes it
 abbrev pub Lack : Type 0

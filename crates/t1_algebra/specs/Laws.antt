@@ -1,23 +1,14 @@
 -- The laws of subsets and joins of fonts, each the contract of a function in `laws`.
 use Rattle.std.specs.Prelude.{◌≡◌, ◌↔◌, ◌≤◌, ℕ, true, false, List, [], ◌∷◌, Some, None, IsPermutation}
+use Rattle.t1_run.specs.{Run.{direct, direct3, exec}, Drawings.{draw, draw3}}
+use Rattle.t1_join.specs.Groupings.{Grouping, EachLeaf, leaves, map_grouping, one, from_left}
+use Rattle.t1_font.specs.{FontValue.{FontValue, weight}, FontModel.{subr_at}, IsFont.{IsFont}, Joins.{join_parts}}
+use Rattle.t1_algebra.specs.{Interpreter.{Interpreter, Names}, Keep.{IsOf, has, keep, kept, subset, Closed}, Alike.{DrawsAlike}}
+use Rattle.t1_algebra.specs.States.{Compatible, Join, KeepsLimits, joined_option, joined_font, subr_state, name_state, code_state, is_sought}
+use Rattle.t1_algebra.specs.{StateTables.{states_of, FontStatesAgree, FontStatesJoin}, Conflicts.{conflict, conflicts}, Searches.{first_of}, JoinedEntries.{EntriesJoin}}
+use Rattle.t1_algebra.specs.Groupings.{union_all, Merges, folded, EachPair}
 use Rattle.std.specs.FinSet as sets
 use Rattle.std.specs.FinMap as maps
-use Rattle.t1_run.specs.Run.{direct, direct3, exec}
-use Rattle.t1_run.specs.Drawings.{draw, draw3}
-use Rattle.t1_join.specs.Groupings.{Grouping, EachLeaf, leaves, map_grouping, one, from_left}
-use Rattle.t1_font.specs.FontValue.{FontValue, weight}
-use Rattle.t1_font.specs.FontModel.{subr_at}
-use Rattle.t1_font.specs.IsFont.{IsFont}
-use Rattle.t1_font.specs.Joins.{join_parts}
-use Rattle.t1_algebra.specs.Interpreter.{Interpreter, Names}
-use Rattle.t1_algebra.specs.Keep.{IsOf, has, keep, kept, subset, Closed}
-use Rattle.t1_algebra.specs.Alike.{DrawsAlike}
-use Rattle.t1_algebra.specs.States.{Compatible, Join, KeepsLimits, joined_option, joined_font, subr_state, name_state, code_state, is_sought}
-use Rattle.t1_algebra.specs.StateTables.{states_of, FontStatesAgree, FontStatesJoin}
-use Rattle.t1_algebra.specs.Conflicts.{conflict, conflicts}
-use Rattle.t1_algebra.specs.Searches.{first_of}
-use Rattle.t1_algebra.specs.JoinedEntries.{EntriesJoin}
-use Rattle.t1_algebra.specs.Groupings.{union_all, Merges, folded, EachPair}
 
 -- each name of a is a name of b
 abbrev pub Inside : Names → Names → Type 0

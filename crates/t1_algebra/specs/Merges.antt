@@ -1,15 +1,8 @@
 -- What merges of fonts come to.
-use Rattle.std.specs.Prelude.{◌≡◌, ℕ, true, List, [], ◌∷◌}
-use Rattle.std.specs.List.{AllByRecursion}
+use Rattle.std.specs.{Prelude.{◌≡◌, ℕ, true, List, [], ◌∷◌}, List.{AllByRecursion}}
 use Rattle.t1_join.specs.Groupings.{Grouping, one, from_left}
-use Rattle.t1_font.specs.FontValue.{FontValue}
-use Rattle.t1_font.specs.IsFont.{IsFont}
-use Rattle.t1_algebra.specs.Keep.{has}
-use Rattle.t1_algebra.specs.Profile.{profile}
-use Rattle.t1_algebra.specs.States.{KeepsLimits}
-use Rattle.t1_algebra.specs.StateTables.{StatesValue, states_of}
-use Rattle.t1_algebra.specs.Alike.{DrawsAlike}
-use Rattle.t1_algebra.specs.Groupings.{folded, EachPair, Merges}
+use Rattle.t1_font.specs.{FontValue.{FontValue}, IsFont.{IsFont}}
+use Rattle.t1_algebra.specs.{Keep.{has}, Profile.{profile}, States.{KeepsLimits}, StateTables.{StatesValue, states_of}, Alike.{DrawsAlike}, Groupings.{folded, EachPair, Merges}}
 
 -- each glyph of either font runs and draws in j as it did
 abbrev pub DrawsBoth : FontValue → FontValue → FontValue → Type 0

@@ -1,11 +1,8 @@
 -- How the states of a name clash in two tables.
 use Rattle.std.specs.Prelude.{Bool, true, false, not, ◌&&◌, ◌||◌, [], ◌∷◌, Some, None, is_some}
+use Rattle.t1_join.specs.{Meaning.{Meaning}, Join.{State}, TableMeaning.{TableMeaning}}
+use Rattle.t1_algebra.specs.{StateTables.{behind_mark}, Conflicts.{agrees}}
 use Rattle.std.specs.FinMap as maps
-use Rattle.t1_join.specs.Meaning.{Meaning}
-use Rattle.t1_join.specs.Join.{State}
-use Rattle.t1_join.specs.TableMeaning.{TableMeaning}
-use Rattle.t1_algebra.specs.StateTables.{behind_mark}
-use Rattle.t1_algebra.specs.Conflicts.{agrees}
 
 -- the name is sought
 abbrev pub is_sought_in : State → Bool

@@ -1,9 +1,8 @@
 -- What a drawing of a glyph is made of.
 use Rattle.std.specs.Prelude.{List, ℕ, map, Option, option_map}
-use Rattle.std.specs.FinMap as maps
 use Rattle.t1_font.specs.FontValue.{FontValue}
-use Rattle.t1_algebra.specs.Interpreter.{Interpreter}
-use Rattle.t1_algebra.specs.Keep.{components}
+use Rattle.t1_algebra.specs.{Interpreter.{Interpreter}, Keep.{components}}
+use Rattle.std.specs.FinMap as maps
 
 -- a component's own outcome, if the font has the component
 abbrev pub component_outcome : {O : Type 0} → Interpreter O → FontValue → List ℕ → Option O

@@ -1,19 +1,11 @@
 -- The interpreter of this project's rules of charstrings, over the Subrs of a font.
-use Rattle.std.specs.Prelude.{◌≡◌, ℕ, true, List, ◌++◌}
-use Rattle.std.proofs.Common.{sym, ◌∙◌, ap}
-use Rattle.std.specs.List.{Contains}
-use Rattle.std.proofs.lemmas.Map.Views.{list_any-from_Contains}
-use Rattle.std.proofs.lemmas.Cmp.{eq_by_cmp_equiv}
-use Rattle.std.specs.Ordering.{nat_cmp}
-use Rattle.std.specs.Cmp.{nat_cmp_total}
-use Rattle.std.specs.FinMap as maps
-use Rattle.std.specs.FinSet as sets
-use Rattle.t1_run.specs.State.{Ending}
-use Rattle.t1_run.specs.Run.{direct, direct3, exec}
-use Rattle.t1_run.specs.Drawings.{parts_of}
-use Rattle.t1_run.proofs.Locality.{local}
+use Rattle.std.specs.{Prelude.{◌≡◌, ℕ, true, List, ◌++◌}, List.{Contains}, Ordering.{nat_cmp}, Cmp.{nat_cmp_total}}
+use Rattle.std.proofs.{Common.{sym, ◌∙◌, ap}, lemmas.Map.Views.{list_any-from_Contains}, lemmas.Cmp.{eq_by_cmp_equiv}}
+use Rattle.t1_run.{specs.{State.{Ending}, Run.{direct, direct3, exec}, Drawings.{parts_of}}, proofs.Locality.{local}}
 use Rattle.t1_font.specs.FontValue.{Numbered}
 use Rattle.t1_algebra.specs.Interpreter.{Interpreter, Numbers}
+use Rattle.std.specs.FinMap as maps
+use Rattle.std.specs.FinSet as sets
 
 -- an index in a list is in the set of the list
 pub in_set_of : (indices : List ℕ) (i : ℕ) → Contains indices i → sets.contains (sets.from_list {R = nat_cmp} indices) i ≡ true

@@ -1,22 +1,11 @@
 -- Subsets that other programs cut, and what they come to when they are made even and merged.
-use Rattle.std.specs.Prelude.{◌≡◌, ℕ, ◌≤◌, ◌<◌, max, nat_lt, true, List, [], ◌∷◌, map, Option, Some, None, IsPermutation}
-use Rattle.std.specs.List.{AllByRecursion, list_all}
-use Rattle.std.specs.Option.{option_map}
+use Rattle.std.specs.{Prelude.{◌≡◌, ℕ, ◌≤◌, ◌<◌, max, nat_lt, true, List, [], ◌∷◌, map, Option, Some, None, IsPermutation}, List.{AllByRecursion, list_all}, Option.{option_map}}
+use Rattle.t1_join.specs.Groupings.{Grouping, leaves, map_grouping}
+use Rattle.t1_font.specs.{FontValue.{FontValue, SubrsShell, declared_count}, IsFont.{IsFont}, EvenTexts.{even_texts}, Evening.{each_even, evened_shells, evened}}
+use Rattle.t1_font.specs.FontBoxes.{Box, joined_box, box_of, font_with, can_have, boxes_of}
+use Rattle.t1_algebra.specs.{Interpreter.{Names}, Keep.{keep, kept, subset, IsOf}, Profile.{profile}, Alike.{DrawsAlike}, Groupings.{union_all, Merges}, Lacks.{first_lack}, Merges.{MergesTo}}
 use Rattle.std.specs.FinMap as maps
 use Rattle.std.specs.FinSet as sets
-use Rattle.t1_join.specs.Groupings.{Grouping, leaves, map_grouping}
-use Rattle.t1_font.specs.FontValue.{FontValue, SubrsShell, declared_count}
-use Rattle.t1_font.specs.IsFont.{IsFont}
-use Rattle.t1_font.specs.EvenTexts.{even_texts}
-use Rattle.t1_font.specs.Evening.{each_even, evened_shells, evened}
-use Rattle.t1_font.specs.FontBoxes.{Box, joined_box, box_of, font_with, can_have, boxes_of}
-use Rattle.t1_algebra.specs.Interpreter.{Names}
-use Rattle.t1_algebra.specs.Keep.{keep, kept, subset, IsOf}
-use Rattle.t1_algebra.specs.Profile.{profile}
-use Rattle.t1_algebra.specs.Alike.{DrawsAlike}
-use Rattle.t1_algebra.specs.Groupings.{union_all, Merges}
-use Rattle.t1_algebra.specs.Lacks.{first_lack}
-use Rattle.t1_algebra.specs.Merges.{MergesTo}
 
 -- ---- fonts cut to their first Subrs
 

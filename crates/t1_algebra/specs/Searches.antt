@@ -1,8 +1,5 @@
 -- Searches: the smallest of a set of keys that passes a test, or all of them.
-use Rattle.std.specs.Prelude.{◌≡◌, ℕ, Bool, true, false, List, [], ◌∷◌, map, filter, Option, Some, None}
-use Rattle.std.specs.declared.cmp.Ordering.{Ordering}
-use Rattle.std.specs.declared.cmp.Ordering.TheVariants.{Less}
-use Rattle.std.specs.List.{find}
+use Rattle.std.specs.{Prelude.{◌≡◌, ℕ, Bool, true, false, List, [], ◌∷◌, map, filter, Option, Some, None}, declared.cmp.Ordering.{Ordering}, declared.cmp.Ordering.TheVariants.{Less}, List.{find}}
 use Rattle.std.specs.FinMap as maps
 
 -- a set of keys, as a map, so that they are listed upwards

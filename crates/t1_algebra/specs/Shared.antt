@@ -1,13 +1,9 @@
 -- What fonts have to share to join, and the first part in which they differ.
-use Rattle.std.specs.Prelude.{ℕ, Bool, true, false, cond, not, ◌&&◌, List, [], ◌∷◌, filter, Option, Some, None, is_some}
-use Rattle.std.specs.Coded.{Coded, coded×, coded_option}
-use Rattle.std.specs.Ordering.{nat_cmp, eq_by_cmp}
-use Rattle.std.specs.FinMap as maps
+use Rattle.std.specs.{Prelude.{ℕ, Bool, true, false, cond, not, ◌&&◌, List, [], ◌∷◌, filter, Option, Some, None, is_some}, Coded.{Coded, coded×, coded_option}, Ordering.{nat_cmp, eq_by_cmp}}
 use Rattle.std.specs.List.{find}
-use Rattle.t1_font.specs.FontValue.{FontValue, Shell, SubrsShell, declared_count}
-use Rattle.t1_font.specs.FontModel.{of_subrs, shell_code, word_of}
-use Rattle.t1_font.specs.Codes.{bytes_code}
+use Rattle.t1_font.specs.{FontValue.{FontValue, Shell, SubrsShell, declared_count}, FontModel.{of_subrs, shell_code, word_of}, Codes.{bytes_code}}
 use Rattle.t1_algebra.specs.Interpreter.{same_bytes}
+use Rattle.std.specs.FinMap as maps
 
 -- a shell, the Encoding if it is a word, and the indices of the Subrs that are present, upwards
 abbrev pub Shared : Type 0

@@ -1,16 +1,11 @@
 -- The laws of joins of states.
-use Rattle.std.proofs.Common.{◌≤◌, ◌+◌, ℕ, ap, sym, ◌∙◌, subst, le_trans, arith}
-use Rattle.std.specs.Cmp.Lexicographic.{nat_list_cmp_total}
-use Rattle.std.specs.FinMap as maps
-use Rattle.t1_join.specs.Meaning.{Meaning}
-use Rattle.t1_join.specs.Join.{JoinLaws, joined_state}
-use Rattle.t1_join.specs.Products.{Same, BothAgree, AgreesByPairs, same_laws, both_laws, fitting_laws, same_by_pairs, both_by_pairs}
-use Rattle.t1_join.specs.TableMeaning.{TableMeaning, TablesAgree, TablesJoin}
-use Rattle.t1_join.specs.TableLaws.{table_laws, table_by_pairs, get_joined}
-use Rattle.t1_font.specs.FontValue.{total}
-use Rattle.t1_font.proofs.MapLemmas.{total-le}
+use Rattle.std.{proofs.Common.{◌≤◌, ◌+◌, ℕ, ap, sym, ◌∙◌, subst, le_trans, arith}, specs.Cmp.Lexicographic.{nat_list_cmp_total}}
+use Rattle.t1_join.specs.{Meaning.{Meaning}, Join.{JoinLaws, joined_state}, Products.{Same, BothAgree, AgreesByPairs, same_laws, both_laws, fitting_laws, same_by_pairs, both_by_pairs}}
+use Rattle.t1_join.specs.{TableMeaning.{TableMeaning, TablesAgree, TablesJoin}, TableLaws.{table_laws, table_by_pairs, get_joined}}
+use Rattle.t1_font.{specs.FontValue.{total}, proofs.MapLemmas.{total-le}}
 use Rattle.t1_algebra.specs.StateTables.{StatesValue, name_part, subr_part, shared_weight, subr_adds, name_adds, name_counts, states_weight, StatesFit, PartsJoin, FontStatesAgree, FontStatesJoin}
 use Rattle.t1_algebra.specs.Shared.{Shared}
+use Rattle.std.specs.FinMap as maps
 
 -- two values of states agree part by part
 abbrev pub PartsAgree : StatesValue → StatesValue → Type 0

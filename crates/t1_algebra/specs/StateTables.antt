@@ -1,17 +1,9 @@
 -- The states of a font as tables, and what they weigh.
-use Rattle.std.specs.Prelude.{◌≡◌, ◌≤◌, ℕ, ◌+◌, ◌*◌, ◌-◌, List, [], ◌∷◌, map, flat_map, length, Option, Some, None, is_some, unwrap_or}
-use Rattle.std.specs.Coded.{Coded, coded×}
-use Rattle.std.specs.Option.{option_map}
+use Rattle.std.specs.{Prelude.{◌≡◌, ◌≤◌, ℕ, ◌+◌, ◌*◌, ◌-◌, List, [], ◌∷◌, map, flat_map, length, Option, Some, None, is_some, unwrap_or}, Coded.{Coded, coded×}, Option.{option_map}}
+use Rattle.t1_join.specs.{Meaning.{Meaning, of_number}, Products.{SameJoin, BothJoin, FittingAgree, FittingJoin}, TableMeaning.{TableMeaning, TablesJoin, table_code, joined_table}}
+use Rattle.t1_font.specs.{FontValue.{FontValue, Encoding, Word, Codes, Numbered, Named, total, texts_weight, weight_limit, count_limit, names_in}, Maps.{map_values}, Cut.{stub}}
+use Rattle.t1_algebra.specs.{Interpreter.{Interpreter}, States.{named_at, subr_state}, Shared.{Shared, shared_code, shared_of}}
 use Rattle.std.specs.FinMap as maps
-use Rattle.t1_join.specs.Meaning.{Meaning, of_number}
-use Rattle.t1_join.specs.Products.{SameJoin, BothJoin, FittingAgree, FittingJoin}
-use Rattle.t1_join.specs.TableMeaning.{TableMeaning, TablesJoin, table_code, joined_table}
-use Rattle.t1_font.specs.FontValue.{FontValue, Encoding, Word, Codes, Numbered, Named, total, texts_weight, weight_limit, count_limit, names_in}
-use Rattle.t1_font.specs.Maps.{map_values}
-use Rattle.t1_font.specs.Cut.{stub}
-use Rattle.t1_algebra.specs.Interpreter.{Interpreter}
-use Rattle.t1_algebra.specs.States.{named_at, subr_state}
-use Rattle.t1_algebra.specs.Shared.{Shared, shared_code, shared_of}
 
 -- what is shared, and the states of codes, of names and of Subrs, each at its key unless it is the bottom
 abbrev pub StatesValue : Type 0

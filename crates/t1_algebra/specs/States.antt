@@ -1,16 +1,9 @@
 -- The states of a font, and the join of two fonts.
-use Rattle.std.specs.Prelude.{◌≡◌, ℕ, ◌≤◌, Bool, false, cond, not, ◌&&◌, List, [], Option, Some, None}
-use Rattle.std.specs.List.{list_any}
-use Rattle.std.specs.Str.{bytes_eq}
-use Rattle.std.specs.Option.{unwrap_or}
+use Rattle.std.specs.{Prelude.{◌≡◌, ℕ, ◌≤◌, Bool, false, cond, not, ◌&&◌, List, [], Option, Some, None}, List.{list_any}, Str.{bytes_eq}, Option.{unwrap_or}}
+use Rattle.t1_font.specs.{FontValue.{FontValue, Encoding, Word, Codes, count_limit, weight_limit, weight, names_in}, Maps.{map_values, merged}, Cut.{stub}, Encodings.{join_encodings, SameKind}}
+use Rattle.t1_algebra.specs.{Interpreter.{Interpreter, same_bytes}, Keep.{components}}
 use Rattle.std.specs.FinMap as maps
 use Rattle.std.specs.FinSet as sets
-use Rattle.t1_font.specs.FontValue.{FontValue, Encoding, Word, Codes, count_limit, weight_limit, weight, names_in}
-use Rattle.t1_font.specs.Maps.{map_values, merged}
-use Rattle.t1_font.specs.Cut.{stub}
-use Rattle.t1_font.specs.Encodings.{join_encodings, SameKind}
-use Rattle.t1_algebra.specs.Interpreter.{Interpreter, same_bytes}
-use Rattle.t1_algebra.specs.Keep.{components}
 
 -- ---- flat states: None is the bottom
 

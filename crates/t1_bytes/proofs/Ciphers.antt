@@ -1,11 +1,8 @@
 -- Encryption and decryption are the two directions of one relation.
 use Rattle.std.proofs.Common.{◌≡◌, ◌↔◌, ℕ, zero, suc, ◌+◌, ◌*◌, ◌/◌, ◌%◌, ◌<◌, ◌^◌, List, [], ◌∷◌, ◌++◌, length, get_or, set, take, drop, refl, sym, ap, subst, ◌∙◌, slice_set, slice_index_or, arith}
-use Rattle.std.specs.Prelude.{bit_xor, replicate}
-use Rattle.std.proofs.lemmas.List.{take_at, drop_at, length-append, length-replicate}
-use Rattle.std.specs.Int.Bits.{xor_assoc, xor_self, xor_zero_r}
-use Rattle.std.proofs.lemmas.Nat.{xor_lt}
-use Rattle.t1_bytes.specs.Cipher.{next_key, Enciphers, encrypted, decrypted, sealed, opened, plain_of}
-use Rattle.t1_bytes.specs.Laws.{AreBytes}
+use Rattle.std.proofs.{lemmas.List.{take_at, drop_at, length-append, length-replicate}, lemmas.Nat.{xor_lt}}
+use Rattle.std.specs.{Prelude.{bit_xor, replicate}, Int.Bits.{xor_assoc, xor_self, xor_zero_r}}
+use Rattle.t1_bytes.specs.{Cipher.{next_key, Enciphers, encrypted, decrypted, sealed, opened, plain_of}, Laws.{AreBytes}}
 
 pub Enciphers-encrypted : (plains : List ℕ) (key : ℕ) → Enciphers key plains (encrypted key plains)
 Enciphers-encrypted [] key = tt

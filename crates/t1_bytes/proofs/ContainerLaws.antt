@@ -1,11 +1,7 @@
 -- Each file has exactly one flat text or bad place, and each flat text one split or reason.
 use Rattle.std.proofs.Common.{ℕ, List, ◌++◌, ap, inl, inr}
 use Rattle.t1_grammar.specs.Formats.{one_value, one_fault, not_both, one_or_other}
-use Rattle.t1_bytes.specs.FlatText.{flat_text}
-use Rattle.t1_bytes.specs.Split.{split}
-use Rattle.t1_bytes.specs.Texts.{pfb_text}
-use Rattle.t1_bytes.specs.Laws.{OneFlatText, FlattensWritten, OneSplit}
-use Rattle.t1_bytes.proofs.PfbLemmas.{pfb_flat}
+use Rattle.t1_bytes.{specs.{FlatText.{flat_text}, Split.{split}, Texts.{pfb_text}, Laws.{OneFlatText, FlattensWritten, OneSplit}}, proofs.PfbLemmas.{pfb_flat}}
 
 pub one_flat : OneFlatText
 one_flat = record {

@@ -1,14 +1,10 @@
 -- The digits at the front of a text, and the bytes that they spell.
 use Rattle.std.proofs.Common.{◌≡◌, ℕ, zero, suc, ◌+◌, ◌*◌, ◌≤◌, ◌<◌, Bool, true, false, ◌&&◌, List, [], ◌∷◌, ◌++◌, length, take, get_or, Some, refl, sym, ap, subst, ◌∙◌, arith, append_assoc}
+use Rattle.std.proofs.{lemmas.Bool.{and_parts}, lemmas.Bool.Decides.{nat_tests}, lemmas.List.{length-append, length-take-le, take_more}, lemmas.List.Sums.{take_while-cons}}
 use Rattle.std.specs.List.{AllByRecursion}
-use Rattle.std.proofs.lemmas.Bool.{and_parts}
-use Rattle.std.proofs.lemmas.Bool.Decides.{nat_tests}
-use Rattle.std.proofs.lemmas.List.{length-append, length-take-le, take_more}
-use Rattle.std.proofs.lemmas.List.Sums.{take_while-cons}
 use Rattle.hex.specs.Hex.{is_hex_digit}
 use Rattle.t1_grammar.specs.Grammar.{Stops, count, run}
-use Rattle.t1_bytes.specs.White.{is_white, white}
-use Rattle.t1_bytes.specs.Eexec.{digit_value, paired, all_hex, hex_or_white, digits_ahead, spelled_ahead}
+use Rattle.t1_bytes.specs.{White.{is_white, white}, Eexec.{digit_value, paired, all_hex, hex_or_white, digits_ahead, spelled_ahead}}
 
 -- ---- one byte
 

@@ -1,20 +1,11 @@
 -- What is known of the marker and the cipher that were read, and the split of a flat text.
-use Rattle.std.proofs.Common.{◌≡◌, ℕ, ◌≤◌, ◌-◌, List, ◌++◌, length, drop, Option, Some, None, Result, Ok, Err}
-use Rattle.std.proofs.Common.{MatchResult, refl, sym, ap, ◌∙◌, arith, inl, inr}
-use Rattle.std.specs.Prelude.{codes}
-use Rattle.std.proofs.lemmas.List.{length-append}
-use Rattle.std.proofs.Math.Seq.{drop-append-add}
-use Rattle.t1_bytes.specs.declared.eexec.Cipher.{Cipher}
-use Rattle.t1_bytes.specs.declared.eexec.Cipher.TheVariants.{Last, Spelled}
-use Rattle.std.specs.Option.{option_map}
-use Rattle.std.proofs.lemmas.Option.{same_Some, none-some}
-use Rattle.t1_bytes.specs.declared.fault.BytesFault.{BytesFault}
-use Rattle.t1_bytes.specs.declared.fault.BytesFault.TheVariants.{BadSegment, Memory, NoEexec, ShortCipher}
-use Rattle.t1_grammar.specs.Grammar.{Lacks, first, Begins}
-use Rattle.t1_grammar.specs.Formats.{if_ok, if_ok_twice, or_fault}
-use Rattle.t1_bytes.specs.Eexec.{eexec_marker, cipher_text}
-use Rattle.t1_bytes.specs.Split.{split, IsSplit, SplitFails, split_of, cipher_in, last_bytes}
-use Rattle.t1_bytes.specs.Faults.{Refused, Answers, OrMemory}
+use Rattle.std.proofs.{Common.{◌≡◌, ℕ, ◌≤◌, ◌-◌, List, ◌++◌, length, drop, Option, Some, None, Result, Ok, Err, MatchResult, refl, sym, ap, ◌∙◌, arith, inl, inr}, lemmas.List.{length-append}}
+use Rattle.std.proofs.{Math.Seq.{drop-append-add}, lemmas.Option.{same_Some, none-some}}
+use Rattle.std.specs.{Prelude.{codes}, Option.{option_map}}
+use Rattle.t1_bytes.specs.{declared.eexec.Cipher.{Cipher}, declared.eexec.Cipher.TheVariants.{Last, Spelled}, declared.fault.BytesFault.{BytesFault}}
+use Rattle.t1_bytes.specs.{declared.fault.BytesFault.TheVariants.{BadSegment, Memory, NoEexec, ShortCipher}, Eexec.{eexec_marker, cipher_text}}
+use Rattle.t1_bytes.specs.{Split.{split, IsSplit, SplitFails, split_of, cipher_in, last_bytes}, Faults.{Refused, Answers, OrMemory}}
+use Rattle.t1_grammar.specs.{Grammar.{Lacks, first, Begins}, Formats.{if_ok, if_ok_twice, or_fault}}
 
 -- the marker can be read only where `currentfile` stands
 pub eexec_begins : Begins (codes "currentfile") eexec_marker

@@ -1,8 +1,6 @@
 -- How long files and their lines are.
-use Rattle.std.proofs.Common.{◌≡◌, ℕ, zero, suc, ◌+◌, ◌-◌, ◌*◌, ◌/◌, ◌≤◌, List, [], ◌∷◌, ◌++◌, length, refl, arith}
-use Rattle.std.proofs.lemmas.List.{length-append}
-use Rattle.t1_bytes.specs.declared.form.Form.TheVariants.{Pfa, Pfb}
-use Rattle.t1_bytes.specs.Texts.{segment_text, hex_rest, hex_lines, trailer, file_text}
+use Rattle.std.proofs.{Common.{◌≡◌, ℕ, zero, suc, ◌+◌, ◌-◌, ◌*◌, ◌/◌, ◌≤◌, List, [], ◌∷◌, ◌++◌, length, refl, arith}, lemmas.List.{length-append}}
+use Rattle.t1_bytes.specs.{declared.form.Form.TheVariants.{Pfa, Pfb}, Texts.{segment_text, hex_rest, hex_lines, trailer, file_text}}
 
 rest_length : (n : ℕ) (bs : List ℕ) → n ≤ 31 → length (hex_rest n bs) ≡ 2 * length bs + 1 + (length bs - n + 31) / 32
 rest_length n [] h = omega (arith, h)

@@ -1,8 +1,7 @@
 -- Lines of hexadecimal digits, as the crate `hex` writes them.
-use Rattle.std.proofs.Common.{◌≡◌, ℕ, zero, suc, ◌≤◌, ◌<◌, ◌⊎◌, List, [], ◌∷◌, ◌++◌, length, Result, Ok, refl, ap, ◌∙◌, arith, inl, inr}
-use Rattle.std.specs.Prelude.{min}
-use Rattle.std.proofs.lemmas.Bool.{cases_lt}
+use Rattle.std.proofs.{Common.{◌≡◌, ℕ, zero, suc, ◌≤◌, ◌<◌, ◌⊎◌, List, [], ◌∷◌, ◌++◌, length, Result, Ok, refl, ap, ◌∙◌, arith, inl, inr}, lemmas.Bool.{cases_lt}}
 use Rattle.std.proofs.lemmas.List.{length-append, append-nil}
+use Rattle.std.specs.Prelude.{min}
 use Rattle.hex.specs.Hex.{encode_with, encode_lower}
 use Rattle.t1_bytes.specs.Texts.{hex_byte, hex_rest, hex_lines}
 

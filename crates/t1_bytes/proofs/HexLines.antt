@@ -1,16 +1,11 @@
 -- What is written as a cipher is read as it: lines of hexadecimal digits before the trailer, and binary bytes.
-use Rattle.std.proofs.Common.{◌≡◌, ℕ, zero, suc, ◌*◌, ◌/◌, ◌%◌, ◌+◌, ◌≤◌, ◌<◌, Bool, true, false, leb, eqb, ◌&&◌, List}
-use Rattle.std.proofs.Common.{[], ◌∷◌, ◌++◌, length, get_or, Some, None, refl, sym, ap, ◌∙◌, append_assoc, arith}
-use Rattle.std.specs.Prelude.{codes, filter, replicate}
-use Rattle.std.specs.List.{AllByRecursion}
-use Rattle.std.proofs.lemmas.Bool.{le-leb, agree_below_at, eqb-true, and_parts}
-use Rattle.std.proofs.lemmas.List.{length-append}
+use Rattle.std.proofs.Common.{◌≡◌, ℕ, zero, suc, ◌*◌, ◌/◌, ◌%◌, ◌+◌, ◌≤◌, ◌<◌, Bool, true, false, leb, eqb, ◌&&◌, List, [], ◌∷◌, ◌++◌, length, get_or, Some, None, refl, sym, ap, ◌∙◌, append_assoc}
+use Rattle.std.proofs.{Common.{arith}, lemmas.Bool.{le-leb, agree_below_at, eqb-true, and_parts}, lemmas.List.{length-append}}
+use Rattle.std.specs.{Prelude.{codes, filter, replicate}, List.{AllByRecursion}}
 use Rattle.hex.specs.Hex.{lower_digits, is_hex_digit}
-use Rattle.t1_grammar.specs.Grammar.{Grammar, Stops, run, either, all, before, pure, ◌>>=◌}
-use Rattle.t1_grammar.proofs.Grammars.{bind_read, that_read, run_read}
+use Rattle.t1_grammar.{specs.Grammar.{Grammar, Stops, run, either, all, before, pure, ◌>>=◌}, proofs.Grammars.{bind_read, that_read, run_read}}
 use Rattle.t1_bytes.specs.Eexec.{is_blank, blank_comes, digit_value, paired, is_hex_text, hex_or_white, hex_text, hex_cipher, has_four, cipher_text}
-use Rattle.t1_bytes.specs.Texts.{hex_byte, hex_rest, hex_lines, zero_lines, trailer}
-use Rattle.t1_bytes.specs.Laws.{AreBytes, ReadsHexLines, ReadsBinary}
+use Rattle.t1_bytes.specs.{Texts.{hex_byte, hex_rest, hex_lines, zero_lines, trailer}, Laws.{AreBytes, ReadsHexLines, ReadsBinary}}
 
 -- ---- digits
 

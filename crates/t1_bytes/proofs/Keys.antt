@@ -1,10 +1,7 @@
 -- The keys of many cipher bytes without a chain: a key is made of the first key and of the bytes before it, each of them
 -- times a weight of its own, times the power of 52845 and on top of the sum that belong to its place, modulo 65536.
-use Rattle.std.proofs.Common.{◌≡◌, ℕ, zero, suc, ◌+◌, ◌*◌, ◌/◌, ◌%◌, ◌<◌, List, [], ◌∷◌, ◌++◌, length, refl, sym, ap, ◌∙◌, arith}
-use Rattle.std.specs.Prelude.{bit_xor}
-use Rattle.std.proofs.lemmas.Nat.{mul-mod}
-use Rattle.t1_bytes.specs.Cipher.{next_key, decrypted}
-use Rattle.t1_bytes.specs.Keys.{keys_of, key_behind}
+use Rattle.std.{proofs.{Common.{◌≡◌, ℕ, zero, suc, ◌+◌, ◌*◌, ◌/◌, ◌%◌, ◌<◌, List, [], ◌∷◌, ◌++◌, length, refl, sym, ap, ◌∙◌, arith}, lemmas.Nat.{mul-mod}}, specs.Prelude.{bit_xor}}
+use Rattle.t1_bytes.specs.{Cipher.{next_key, decrypted}, Keys.{keys_of, key_behind}}
 
 -- ---- what a place has, and what its bytes come to
 

@@ -1,14 +1,10 @@
 -- Eight bytes of a cipher in vectors: what the code computes lane by lane is what the laws of `Keys` say of eight bytes.
 use Rattle.std.proofs.Common.{◌≡◌, ℕ, ◌+◌, ◌-◌, ◌*◌, ◌/◌, ◌%◌, ◌^◌, ◌<◌, ◌≤◌, List, [], ◌∷◌, ◌++◌, map, length, get_or, take, drop, refl, sym, ap, subst, ◌∙◌, Fits, w8, arith}
-use Rattle.std.specs.Prelude.{bit_xor, replicate}
-use Rattle.std.proofs.Math.Nat.{mod-add-mod, add-mod-mod}
-use Rattle.std.proofs.lemmas.List.{append_assoc, append-nil, length-append, length-take-le, length-drop, take_all, drop_all, drop_at, drop-drop}
+use Rattle.std.proofs.{Math.Nat.{mod-add-mod, add-mod-mod}, lemmas.List.{append_assoc, append-nil, length-append, length-take-le, length-drop, take_all, drop_all, drop_at, drop-drop}}
 use Rattle.std.proofs.lemmas.Simd.{length-chunk, chunk-drop, take_more_put_chunk, put_chunk_is}
+use Rattle.std.specs.Prelude.{bit_xor, replicate}
+use Rattle.t1_bytes.{specs.{Cipher.{decrypted}, Keys.{keys_of, key_behind, sums_from}}, proofs.{Ciphers.{length-decrypted}, Keys.{keys_by, keys_are, key_behind_is, decrypted-append}}}
 use lib.Lanes.{Each1, zip2, pick_l, chunk, put_chunk}
-use Rattle.t1_bytes.specs.Cipher.{decrypted}
-use Rattle.t1_bytes.specs.Keys.{keys_of, key_behind, sums_from}
-use Rattle.t1_bytes.proofs.Ciphers.{length-decrypted}
-use Rattle.t1_bytes.proofs.Keys.{keys_by, keys_are, key_behind_is, decrypted-append}
 
 -- what holds of each list of eight numbers
 pub eight_lanes : (P : List ℕ → Type 0) → ((a b c d e f g h : ℕ) → P (a ∷ b ∷ c ∷ d ∷ e ∷ f ∷ g ∷ h ∷ [])) → (xs : List ℕ) → length xs ≡ 8 → P xs

@@ -1,12 +1,8 @@
 -- The first place where a grammar can be read, by a search for the text that it begins with.
-use Rattle.std.proofs.Common.{◌≡◌, ℕ, ◌+◌, ◌≤◌, inl, inr, List, ◌++◌, length, take, drop}
-use Rattle.std.proofs.Common.{get_or, Option, Some, None, refl, sym, ap, subst, ◌∙◌, arith, ◌-◌, add_assoc}
-use Rattle.std.proofs.lemmas.List.{length-append, length-drop, get_or-drop, get_or_append_left}
-use Rattle.std.proofs.lemmas.Slice.Eq.{bytes_eq-Decides}
-use Rattle.std.proofs.lemmas.Bool.{cases_lt}
+use Rattle.std.proofs.Common.{◌≡◌, ℕ, ◌+◌, ◌≤◌, inl, inr, List, ◌++◌, length, take, drop, get_or, Option, Some, None, refl, sym, ap, subst, ◌∙◌, arith, ◌-◌, add_assoc}
+use Rattle.std.proofs.{lemmas.List.{length-append, length-drop, get_or-drop, get_or_append_left}, lemmas.Slice.Eq.{bytes_eq-Decides}, lemmas.Bool.{cases_lt}}
 use Rattle.bstr.specs.Find.{OccursAt, Nowhere}
-use Rattle.t1_grammar.specs.Grammar.{Grammar, fixed, first_at, Begins}
-use Rattle.t1_grammar.specs.Places.{NoneBelow, first_found, first_nowhere, one_more}
+use Rattle.t1_grammar.specs.{Grammar.{Grammar, fixed, first_at, Begins}, Places.{NoneBelow, first_found, first_nowhere, one_more}}
 
 -- where a text stands, its bytes occur
 fixed_occurs : (w bytes : List ℕ) (k : ℕ) (x : List ℕ × List ℕ) → (fixed w).read (drop k bytes) ≡ Some x → k ≤ length bytes → OccursAt bytes w k

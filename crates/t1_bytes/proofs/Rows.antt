@@ -1,15 +1,8 @@
 -- Worked rows of the definitions, computed.
-use Rattle.std.proofs.Common.{◌≡◌, [], ◌∷◌, ◌++◌, length, take, Ok, Err, refl}
-use Rattle.std.specs.Prelude.{codes, replicate}
-use Rattle.t1_bytes.specs.declared.fault.BytesFault.TheVariants.{NoEexec, ShortCipher}
-use Rattle.t1_bytes.specs.declared.form.Form.TheVariants.{Pfa, Pfb}
-use Rattle.t1_grammar.specs.Grammar.{first_at}
-use Rattle.t1_grammar.specs.Tables.{table_within}
-use Rattle.t1_bytes.specs.White.{gap}
-use Rattle.t1_bytes.specs.FlatText.{flat_of}
-use Rattle.t1_bytes.specs.Eexec.{eexec_marker, cipher_text}
-use Rattle.t1_bytes.specs.Split.{split, split_of}
-use Rattle.t1_bytes.specs.Texts.{hex_lines, trailer, pfb_text, file_text}
+use Rattle.std.{proofs.Common.{◌≡◌, [], ◌∷◌, ◌++◌, length, take, Ok, Err, refl}, specs.Prelude.{codes, replicate}}
+use Rattle.t1_bytes.specs.{declared.fault.BytesFault.TheVariants.{NoEexec, ShortCipher}, declared.form.Form.TheVariants.{Pfa, Pfb}, White.{gap}, FlatText.{flat_of}, Eexec.{eexec_marker, cipher_text}}
+use Rattle.t1_bytes.specs.{Split.{split, split_of}, Texts.{hex_lines, trailer, pfb_text, file_text}}
+use Rattle.t1_grammar.specs.{Grammar.{first_at}, Tables.{table_within}}
 
 -- ---- flat texts
 

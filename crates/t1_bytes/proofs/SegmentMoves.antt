@@ -1,13 +1,9 @@
 -- The data of segments, moved to the front of their file.
-use Rattle.std.proofs.Common.{◌≡◌, ℕ, ◌+◌, ◌-◌, ◌≤◌, Bool, true, List, [], ◌∷◌, ◌++◌, length, take, drop}
-use Rattle.std.proofs.Common.{Some, None, Ok, Err, refl, sym, ap, ap₂, ◌∙◌, append_assoc, arith}
+use Rattle.std.proofs.Common.{◌≡◌, ℕ, ◌+◌, ◌-◌, ◌≤◌, Bool, true, List, [], ◌∷◌, ◌++◌, length, take, drop, Some, None, Ok, Err, refl, sym, ap, ap₂, ◌∙◌, append_assoc, arith}
+use Rattle.std.proofs.{lemmas.List.{flat_map_more, length-append, length-drop, drop-drop, take_at, drop_at}, lemmas.List.Edits.{take-paste, drop-paste, length-paste}}
 use Rattle.std.specs.List.{copy_within, flat_map}
-use Rattle.std.proofs.lemmas.List.{flat_map_more, length-append, length-drop, drop-drop, take_at, drop_at}
-use Rattle.std.proofs.lemmas.List.Edits.{take-paste, drop-paste, length-paste}
-use Rattle.t1_grammar.specs.Tables.{with_front, table_at}
-use Rattle.t1_grammar.specs.TableLaws.{front_nil, turns, closes, breaks}
-use Rattle.t1_bytes.specs.Segments.{segment, end, segment_eats}
-use Rattle.t1_bytes.specs.FlatText.{starts_segment, flat_when, flat_of}
+use Rattle.t1_grammar.specs.{Tables.{with_front, table_at}, TableLaws.{front_nil, turns, closes, breaks}}
+use Rattle.t1_bytes.specs.{Segments.{segment, end, segment_eats}, FlatText.{starts_segment, flat_when, flat_of}}
 
 -- the front of a buffer is the flat text so far, and what stands from an offset on is the rest of the file
 pub record Joins (file now : List ℕ) (len at : ℕ) : Type 0 where

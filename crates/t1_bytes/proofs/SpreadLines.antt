@@ -1,11 +1,9 @@
 -- Bytes that are made lines of digits where they stand, the last line first.
-use Rattle.std.proofs.Common.{◌≡◌, ℕ, ◌+◌, ◌*◌, ◌-◌, ◌≤◌, ◌<◌, ◌⊎◌, List, [], ◌∷◌, ◌++◌, length, take, drop, refl, sym, ap, ◌∙◌, arith, inl, inr}
-use Rattle.std.specs.Prelude.{min}
-use Rattle.std.proofs.lemmas.Bool.{cases_lt}
+use Rattle.std.proofs.{Common.{◌≡◌, ℕ, ◌+◌, ◌*◌, ◌-◌, ◌≤◌, ◌<◌, ◌⊎◌, List, [], ◌∷◌, ◌++◌, length, take, drop, refl, sym, ap, ◌∙◌, arith, inl, inr}, lemmas.Bool.{cases_lt}}
 use Rattle.std.proofs.lemmas.List.{length-take, length-take-le, length-drop, take-append-drop, take-append-le, take-take, drop-take, drop-drop, drop_at, drop_all}
+use Rattle.std.specs.Prelude.{min}
 use Rattle.hex.specs.Hex.{encode_lower}
-use Rattle.t1_bytes.specs.Texts.{hex_lines}
-use Rattle.t1_bytes.proofs.HexLemmas.{one_line}
+use Rattle.t1_bytes.{specs.Texts.{hex_lines}, proofs.HexLemmas.{one_line}}
 
 module _ (whole : List ℕ) (from count lines : ℕ) where
   abbrev pub bytes : List ℕ

@@ -1,8 +1,6 @@
 -- The printed texts of the refusals.
-use Rattle.std.specs.Prelude.{ℕ, List, ◌++◌, codes}
-use Rattle.std.specs.Fmt.{decimal}
-use Rattle.t1_bytes.specs.declared.fault.BytesFault.{BytesFault}
-use Rattle.t1_bytes.specs.declared.fault.BytesFault.TheVariants.{BadSegment, Memory, NoEexec, ShortCipher}
+use Rattle.std.specs.{Prelude.{ℕ, List, ◌++◌, codes}, Fmt.{decimal}}
+use Rattle.t1_bytes.specs.{declared.fault.BytesFault.{BytesFault}, declared.fault.BytesFault.TheVariants.{BadSegment, Memory, NoEexec, ShortCipher}}
 
 -- what is printed of a fault
 abbrev pub fault_text : BytesFault → List ℕ

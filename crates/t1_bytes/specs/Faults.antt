@@ -1,8 +1,6 @@
 -- What a function returned, against what its definition gives.
 use Rattle.std.specs.Prelude.{◌≡◌, ℕ, List, Result, Ok, Err}
-use Rattle.t1_bytes.specs.FlatText.{IsBad}
-use Rattle.t1_bytes.specs.declared.fault.BytesFault.{BytesFault}
-use Rattle.t1_bytes.specs.declared.fault.BytesFault.TheVariants.{BadSegment, Memory, NoEexec, ShortCipher}
+use Rattle.t1_bytes.specs.{FlatText.{IsBad}, declared.fault.BytesFault.{BytesFault}, declared.fault.BytesFault.TheVariants.{BadSegment, Memory, NoEexec, ShortCipher}}
 
 -- only a bad segment has a place, and want of memory may come in place of each answer
 abbrev pub Fails : {Y : Type 0} → BytesFault → Result Y ℕ → Type 0

@@ -1,6 +1,5 @@
 -- The flat text of a file (Technical Note 5040).
-use Rattle.std.specs.Prelude.{ℕ, ◌-◌, ◌==◌, Bool, true, false, List, [], ◌∷◌, length, Result}
-use Rattle.std.specs.List.{flat_map}
+use Rattle.std.specs.{Prelude.{ℕ, ◌-◌, ◌==◌, Bool, true, false, List, [], ◌∷◌, length, Result}, List.{flat_map}}
 use Rattle.t1_grammar.specs.Formats.{Format, give, ◌>>=◌, table}
 use Rattle.t1_bytes.specs.Segments.{segment, end, segment_eats, segment_apart}
 

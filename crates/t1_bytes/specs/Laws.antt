@@ -1,16 +1,9 @@
 -- The laws of containers and ciphers, each the contract of a function in `laws`.
-use Rattle.std.specs.Prelude.{◌≡◌, ◌⊎◌, ◌↔◌, ◌≤◌, ◌<◌, ◌^◌, ℕ, List, [], ◌∷◌, ◌++◌, length, drop, replicate, codes, false, None}
-use Rattle.std.specs.List.{AllByRecursion}
-use Rattle.t1_bytes.specs.declared.fault.BytesFault.{BytesFault}
-use Rattle.t1_bytes.specs.declared.fault.BytesFault.TheVariants.{NoEexec}
-use Rattle.t1_bytes.specs.Cipher.{Enciphers, encrypted, decrypted, sealed, opened}
-use Rattle.t1_grammar.specs.Grammar.{AtFront, IsExact, count, fixed, first}
-use Rattle.t1_bytes.specs.White.{white, gap}
-use Rattle.t1_bytes.specs.Segments.{segment, end}
-use Rattle.t1_bytes.specs.FlatText.{IsFlat, IsBad}
-use Rattle.t1_bytes.specs.Eexec.{eexec_marker, blank_comes, is_hex_text, hex_text, hex_cipher, cipher_text}
-use Rattle.t1_bytes.specs.Split.{IsSplit, SplitFails}
+use Rattle.std.specs.{Prelude.{◌≡◌, ◌⊎◌, ◌↔◌, ◌≤◌, ◌<◌, ◌^◌, ℕ, List, [], ◌∷◌, ◌++◌, length, drop, replicate, codes, false, None}, List.{AllByRecursion}}
+use Rattle.t1_bytes.specs.{declared.fault.BytesFault.{BytesFault}, declared.fault.BytesFault.TheVariants.{NoEexec}, Cipher.{Enciphers, encrypted, decrypted, sealed, opened}, White.{white, gap}}
+use Rattle.t1_bytes.specs.{Segments.{segment, end}, FlatText.{IsFlat, IsBad}, Eexec.{eexec_marker, blank_comes, is_hex_text, hex_text, hex_cipher, cipher_text}, Split.{IsSplit, SplitFails}}
 use Rattle.t1_bytes.specs.Texts.{pfb_text, hex_lines, trailer}
+use Rattle.t1_grammar.specs.Grammar.{AtFront, IsExact, count, fixed, first}
 
 -- what is read of counted bytes, of a fixed text, of white space, of segments and their end, of the marker and of the cipher
 -- is what is spelled, and what is spelled is read

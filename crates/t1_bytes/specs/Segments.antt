@@ -1,14 +1,8 @@
 -- Segments of a PFB file (Technical Note 5040; what ends a file is this project's own choice).
-use Rattle.std.proofs.Common.{suc, cond, eqb, leb, arith, refl, sym, ap, ◌∙◌}
-use Rattle.std.specs.Prelude.{◌≡◌, ℕ, ◌||◌, ◌&&◌, Bool, true, false, List, [], ◌∷◌, length, Option, Some, None}
-use Rattle.std.specs.Option.{option_and_then}
-use Rattle.std.specs.Str.{bytes_eq}
-use Rattle.std.proofs.lemmas.Bool.{eqb-true, and_parts, le-leb}
-use Rattle.std.proofs.lemmas.List.{length-append}
-use Rattle.std.proofs.lemmas.Option.{none-some}
+use Rattle.std.proofs.{Common.{suc, cond, eqb, leb, arith, refl, sym, ap, ◌∙◌}, lemmas.Bool.{eqb-true, and_parts, le-leb}, lemmas.List.{length-append}, lemmas.Option.{none-some}}
+use Rattle.std.specs.{Prelude.{◌≡◌, ℕ, ◌||◌, ◌&&◌, Bool, true, false, List, [], ◌∷◌, length, Option, Some, None}, Option.{option_and_then}, Str.{bytes_eq}}
 use Rattle.byteorder.specs.Endian.{little_number}
-use Rattle.t1_grammar.specs.Grammar.{Grammar, pure, ◌>>=◌, ◌>>◌, that, count, fixed, before, either}
-use Rattle.t1_grammar.specs.TableLaws.{Eats, Eats-spelled, Apart}
+use Rattle.t1_grammar.specs.{Grammar.{Grammar, pure, ◌>>=◌, ◌>>◌, that, count, fixed, before, either}, TableLaws.{Eats, Eats-spelled, Apart}}
 
 -- a segment of text or of binary data: 128, the kind, the length in four bytes, least significant first, and the data
 abbrev pub segment : Grammar (List ℕ)

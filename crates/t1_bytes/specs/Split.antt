@@ -1,12 +1,8 @@
 -- The split of a flat text, at the end of its clear text (Adobe Type 1 Font Format 1.1, chapter 7).
-use Rattle.std.specs.Prelude.{ℕ, ◌-◌, List, length, drop, Result}
-use Rattle.std.specs.Global.{Vec}
+use Rattle.std.specs.{Prelude.{ℕ, ◌-◌, List, length, drop, Result}, Global.{Vec}}
 use Rattle.t1_grammar.specs.Formats.{Format, give, ◌>>=◌, sought, wanted}
-use Rattle.t1_bytes.specs.declared.fault.BytesFault.{BytesFault}
-use Rattle.t1_bytes.specs.declared.fault.BytesFault.TheVariants.{NoEexec, ShortCipher}
-use Rattle.t1_bytes.specs.declared.eexec.Cipher.{Cipher}
-use Rattle.t1_bytes.specs.declared.eexec.Cipher.TheVariants.{Last, Spelled}
-use Rattle.t1_bytes.specs.Eexec.{eexec_marker, cipher_text}
+use Rattle.t1_bytes.specs.{declared.fault.BytesFault.{BytesFault}, declared.fault.BytesFault.TheVariants.{NoEexec, ShortCipher}, declared.eexec.Cipher.{Cipher}}
+use Rattle.t1_bytes.specs.{declared.eexec.Cipher.TheVariants.{Last, Spelled}, Eexec.{eexec_marker, cipher_text}}
 
 -- the offset of what follows the first marker, and the cipher there
 unfoldable pub split : List ℕ → Format BytesFault (ℕ × List ℕ)

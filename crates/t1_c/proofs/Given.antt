@@ -1,16 +1,10 @@
 -- What a call gives, from what the call over files answered.
-use Rattle.std.proofs.Common.{◌≡◌, ◌<◌, ℕ, inl, inr, subst, List, [], ◌∷◌, length, All, slice_set, Option, None, Result, Ok, Err, arith}
-use Rattle.std.proofs.lemmas.List.Elements.{All-cons, All-tail}
+use Rattle.std.proofs.{Common.{◌≡◌, ◌<◌, ℕ, inl, inr, subst, List, [], ◌∷◌, length, All, slice_set, Option, None, Result, Ok, Err, arith}, lemmas.List.Elements.{All-cons, All-tail}}
 use Rattle.std.specs.Prelude.{IfOk, IfErr, MatchResult}
 use Rattle.t1_bytes.specs.declared.form.Form.{Form}
-use Rattle.t1_cmd.specs.declared.faults.FilesRefusal.{FilesRefusal}
-use Rattle.t1_cmd.specs.declared.faults.Reason.{Reason}
-use Rattle.t1_cmd.specs.declared.faults.Reason.TheVariants.{Memory}
-use Rattle.t1_cmd.specs.Files.{OfFiles, RefusesFiles}
-use Rattle.t1_cmd.specs.WrittenSubsets.{OfUnion}
-use Rattle.t1_cmd.specs.Cuts.{OfRejoined}
-use Rattle.t1_c.specs.declared.answers.Answer.{Answer}
-use Rattle.t1_c.specs.Gives.{HasWhole, IsSaid, GivesReason, HoldsNothing, FirstGives, GivesFiles, GivesText}
+use Rattle.t1_cmd.specs.{declared.faults.FilesRefusal.{FilesRefusal}, declared.faults.Reason.{Reason}, declared.faults.Reason.TheVariants.{Memory}, Files.{OfFiles, RefusesFiles}}
+use Rattle.t1_cmd.specs.{WrittenSubsets.{OfUnion}, Cuts.{OfRejoined}}
+use Rattle.t1_c.specs.{declared.answers.Answer.{Answer}, Gives.{HasWhole, IsSaid, GivesReason, HoldsNothing, FirstGives, GivesFiles, GivesText}}
 
 -- a call over several files gives what that call answered
 pub gives_files : {A : Type 0} (understand : List ℕ → Result A Reason) (Answers : List A → Result (List ℕ) Reason → Type 0) (files : List (List ℕ))

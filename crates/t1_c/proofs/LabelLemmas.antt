@@ -1,7 +1,5 @@
 -- The labels of documents.
-use Rattle.std.proofs.Common.{◌≡◌, ◌+◌, ◌++◌, ℕ, [], ◌∷◌, arith}
-use Rattle.std.proofs.lemmas.List.FromFn.{map-range_with_len_more}
-use Rattle.std.specs.Fmt.{decimal}
+use Rattle.std.{proofs.{Common.{◌≡◌, ◌+◌, ◌++◌, ℕ, [], ◌∷◌, arith}, lemmas.List.FromFn.{map-range_with_len_more}}, specs.Fmt.{decimal}}
 use Rattle.t1_c.specs.Gives.{place_labels}
 
 -- the labels of one document more

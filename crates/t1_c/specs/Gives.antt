@@ -1,18 +1,11 @@
 -- What a call gives to C.
-use Rattle.std.specs.Prelude.{◌≡◌, ◌⊎◌, ℕ, ◌-◌, ◌^◌, min, ℤ, pos, negsuc, List, [], ◌∷◌, map, All, Option, None, Some, Result, Ok, Err}
-use Rattle.std.specs.List.{range_with_len}
-use Rattle.std.specs.Fmt.{decimal}
+use Rattle.std.specs.{Prelude.{◌≡◌, ◌⊎◌, ℕ, ◌-◌, ◌^◌, min, ℤ, pos, negsuc, List, [], ◌∷◌, map, All, Option, None, Some, Result, Ok, Err}, List.{range_with_len}, Fmt.{decimal}}
 use Rattle.t1_bytes.specs.declared.form.Form.{Form}
 use Rattle.t1_font.specs.FontValue.{FontValue}
-use Rattle.t1_cmd.specs.declared.faults.Reason.{Reason}
-use Rattle.t1_cmd.specs.declared.faults.Reason.TheVariants.{TooLong, Memory, Font}
-use Rattle.t1_cmd.specs.Texts.{reason_text}
-use Rattle.t1_cmd.specs.Fonts.{of_file, of_mended}
-use Rattle.t1_cmd.specs.Files.{OfFiles, RefusedAt, IsUnread}
-use Rattle.t1_cmd.specs.Documents.{text_input}
+use Rattle.t1_cmd.specs.{declared.faults.Reason.{Reason}, declared.faults.Reason.TheVariants.{TooLong, Memory, Font}, Texts.{reason_text}, Fonts.{of_file, of_mended}}
+use Rattle.t1_cmd.specs.{Files.{OfFiles, RefusedAt, IsUnread}, Documents.{text_input}}
 use Rattle.t1_document.specs.Joins.{LevelsTo}
-use Rattle.t1_c.specs.declared.answers.Answer.{Answer}
-use Rattle.t1_c.specs.Numbers.{ok, memory, bad_call, number_of, detail_of}
+use Rattle.t1_c.specs.{declared.answers.Answer.{Answer}, Numbers.{ok, memory, bad_call, number_of, detail_of}}
 
 -- ---- what is given
 

@@ -1,20 +1,16 @@
 -- The numbers by which C knows forms, refusals, and the parts of a font. `include/t1subset.h` has the same names and
 -- numbers. A number that was released never changes.
 use Rattle.std.specs.Prelude.{ℕ, Option, Some, None, if◌then◌else◌, ◌==◌}
-use Rattle.t1_bytes.specs.declared.form.Form.{Form}
-use Rattle.t1_bytes.specs.declared.form.Form.TheVariants.{Pfa, Pfb}
+use Rattle.t1_bytes.specs.{declared.form.Form.{Form}, declared.form.Form.TheVariants.{Pfa, Pfb}}
 use Rattle.t1_font.specs.declared.fault.ReadFault.{ReadFault}
+use Rattle.t1_subset.specs.{declared.conflict.ShellPart.{ShellPart}, declared.conflict.Conflict.{Conflict}}
+use Rattle.t1_join.specs.{declared.listing.ListFault.{ListFault}, declared.listing.JoinFault.{JoinFault}}
+use Rattle.t1_cmd.specs.{declared.faults.Reason.{Reason}, declared.faults.Reason.TheVariants.{TooLong, Memory, List, Join, Font, NoGlyph, NoCode, NoFont, Lacks, Merge}}
 use Rattle.t1_font.specs.declared.fault.ReadFault.TheVariants as fault
-use Rattle.t1_subset.specs.declared.conflict.ShellPart.{ShellPart}
 use Rattle.t1_subset.specs.declared.conflict.ShellPart.TheVariants as part
-use Rattle.t1_subset.specs.declared.conflict.Conflict.{Conflict}
 use Rattle.t1_subset.specs.declared.conflict.Conflict.TheVariants as conflict
-use Rattle.t1_join.specs.declared.listing.ListFault.{ListFault}
 use Rattle.t1_join.specs.declared.listing.ListFault.TheVariants as list
-use Rattle.t1_join.specs.declared.listing.JoinFault.{JoinFault}
 use Rattle.t1_join.specs.declared.listing.JoinFault.TheVariants as join
-use Rattle.t1_cmd.specs.declared.faults.Reason.{Reason}
-use Rattle.t1_cmd.specs.declared.faults.Reason.TheVariants.{TooLong, Memory, List, Join, Font, NoGlyph, NoCode, NoFont, Lacks, Merge}
 
 -- ---- forms
 

@@ -1,9 +1,6 @@
 -- What an iterator over the tokens of a charstring has left.
-use Rattle.std.specs.Prelude.{◌≡◌, ℕ, List, Option, drop}
-use Rattle.std.specs.Iterator.{YieldsFirst}
-use Rattle.t1_char.specs.declared.token.Token.{Token}
-use Rattle.t1_char.specs.declared.charstring.Tokens.{Tokens}
-use Rattle.t1_char.specs.Tokens.{tokens}
+use Rattle.std.specs.{Prelude.{◌≡◌, ℕ, List, Option, drop}, Iterator.{YieldsFirst}}
+use Rattle.t1_char.specs.{declared.token.Token.{Token}, declared.charstring.Tokens.{Tokens}, Tokens.{tokens}}
 
 -- The charstring whose tokens an iterator gives.
 abbrev pub charstring_of : Tokens → List ℕ

@@ -1,13 +1,10 @@
 -- Codes: rows that are computed, a list that is read from its front, and the names of codes.
 use Rattle.std.proofs.Common.{◌≡◌, ◌<◌, ◌+◌, ◌-◌, ℕ, suc, arith, refl, sym, ◌∙◌, ap, List, [], ◌∷◌, ◌++◌, length, cond, Bool, true, false, ◌==◌, Option, Some, None, Result, Ok, append_assoc}
 use Rattle.std.proofs.lemmas.List.{append-nil}
-use Rattle.std.specs.Prelude.{codes, option_and_then}
-use Rattle.std.specs.Option.{option_map}
+use Rattle.std.specs.{Prelude.{codes, option_and_then}, Option.{option_map}}
 use Rattle.t1_join.specs.ListingText.{split_at, with_digit}
 use Rattle.t1_font.specs.FontValue.{Encoding}
-use Rattle.t1_cmd.specs.declared.faults.Reason.{Reason}
-use Rattle.t1_cmd.specs.Answers.{if_there}
-use Rattle.t1_cmd.specs.Subsets.{subset_answer, names_with, SubsetWithoutCodes}
+use Rattle.t1_cmd.specs.{declared.faults.Reason.{Reason}, Answers.{if_there}, Subsets.{subset_answer, names_with, SubsetWithoutCodes}}
 use Rattle.t1_cmd.specs.CodeLists.{codes_from, codes_between, ends_of, onto_first, words_of, codes_in, codes_listed}
 
 -- ---- rows

@@ -1,44 +1,20 @@
 -- Truncated subsets of one font rejoin to the subset over all the names, and each glyph that is drawn stays drawn.
 use Rattle.std.proofs.Common.{◌≡◌, ℕ, ◌+◌, refl, sym, ◌∙◌, ap, subst, List, [], ◌∷◌, map, inl, inr, Option, Some, None, Result, Ok, Err, option_and_then, IsPermutation}
-use Rattle.std.specs.Prelude.{IfOk, IfErr, MatchResult, is_some}
-use Rattle.std.specs.List.{AllByRecursion}
-use Rattle.std.specs.Result.{result_ok}
-use Rattle.std.specs.FinMap as maps
 use Rattle.std.proofs.lemmas.List.Sorted.{IsPermutation-refl}
+use Rattle.std.specs.{Prelude.{IfOk, IfErr, MatchResult, is_some}, List.{AllByRecursion}, Result.{result_ok}}
 use Rattle.t1_bytes.specs.declared.form.Form.{Form}
-use Rattle.t1_font.specs.FontValue.{FontValue, Named}
-use Rattle.t1_font.specs.IsFont.{IsFont}
-use Rattle.t1_font.specs.Canon.{canon}
-use Rattle.t1_font.specs.Evening.{indices_of_all, evened_shells, evened}
-use Rattle.t1_font.specs.Filling.{AreLight}
-use Rattle.t1_join.specs.Groupings.{one, from_left}
-use Rattle.t1_join.proofs.OrderLemmas.{leaves_from_left}
-use Rattle.t1_algebra.specs.Interpreter.{Names}
-use Rattle.t1_algebra.specs.Profile.{profile}
-use Rattle.t1_algebra.specs.Keep.{subset, IsOf}
-use Rattle.t1_algebra.specs.Merges.{ComesTo}
-use Rattle.t1_algebra.specs.Rejoins.{cut_to, with_even_texts, Truncated, IsTruncated, truncated_fonts, sets_of, largest}
-use Rattle.t1_algebra.specs.Rejoins.{GetBox, boxed_as, shared_font, rejoined, Rejoins}
-use Rattle.t1_font.specs.FontBoxes.{Box}
-use Rattle.t1_algebra.proofs.Fonts.{subset_is_font}
-use Rattle.t1_algebra.proofs.rejoining.Evened.{evened_draw}
+use Rattle.t1_font.specs.{FontValue.{FontValue, Named}, IsFont.{IsFont}, Canon.{canon}, Evening.{indices_of_all, evened_shells, evened}, Filling.{AreLight}, FontBoxes.{Box}}
+use Rattle.t1_join.{specs.Groupings.{one, from_left}, proofs.OrderLemmas.{leaves_from_left}}
+use Rattle.t1_algebra.specs.{Interpreter.{Names}, Profile.{profile}, Keep.{subset, IsOf}, Merges.{ComesTo}}
+use Rattle.t1_algebra.specs.Rejoins.{cut_to, with_even_texts, Truncated, IsTruncated, truncated_fonts, sets_of, largest, GetBox, boxed_as, shared_font, rejoined, Rejoins}
+use Rattle.t1_algebra.proofs.{Fonts.{subset_is_font}, rejoining.Evened.{evened_draw}, rejoining.Boxed.{truncated_subsets_rejoin}}
 use Rattle.t1_subset.proofs.Answered.{draws_all}
-use Rattle.t1_algebra.proofs.rejoining.Boxed.{truncated_subsets_rejoin}
-use Rattle.t1_document.proofs.OneOutcome.{light_or_heavy}
-use Rattle.t1_document.proofs.Drawn.{each_through, shells_are_fonts, each_filled, comes_to_font}
-use Rattle.t1_cmd.specs.declared.counting.Counted.{Counted}
-use Rattle.t1_cmd.specs.declared.faults.Reason.{Reason}
-use Rattle.t1_cmd.specs.declared.faults.Reason.TheVariants.{Memory}
-use Rattle.t1_cmd.specs.declared.faults.RunFault.{RunFault}
-use Rattle.t1_cmd.specs.declared.faults.FilesRefusal.{FilesRefusal}
-use Rattle.t1_cmd.specs.Inputs.{Input, value_and, values_of}
-use Rattle.t1_cmd.specs.Files.{Values, value_before, values_from, OfFiles, RefusesFiles}
-use Rattle.t1_cmd.specs.Runs.{RunEnds}
-use Rattle.t1_cmd.specs.Fonts.{mended_input}
-use Rattle.t1_cmd.specs.Rejoins.{RejoinsUnless, RejoinsTo}
-use Rattle.t1_cmd.specs.Cuts.{AreCutFiles, OfRejoined, InputsAreCuts, WritesRejoined, AllStayDrawnIn, RejoinedDraw}
-use Rattle.t1_cmd.proofs.OneAnswer.{OneAnswer, files_answered, inputs_answered}
-use Rattle.t1_cmd.proofs.RejoinLemmas.{all_light, rejoins_unlacking, with_no_lack, has_no_lack, rejoins_apart}
+use Rattle.t1_document.proofs.{OneOutcome.{light_or_heavy}, Drawn.{each_through, shells_are_fonts, each_filled, comes_to_font}}
+use Rattle.t1_cmd.specs.{declared.counting.Counted.{Counted}, declared.faults.Reason.{Reason}, declared.faults.Reason.TheVariants.{Memory}, declared.faults.RunFault.{RunFault}}
+use Rattle.t1_cmd.specs.{declared.faults.FilesRefusal.{FilesRefusal}, Inputs.{Input, value_and, values_of}, Files.{Values, value_before, values_from, OfFiles, RefusesFiles}, Runs.{RunEnds}}
+use Rattle.t1_cmd.specs.{Fonts.{mended_input}, Rejoins.{RejoinsUnless, RejoinsTo}, Cuts.{AreCutFiles, OfRejoined, InputsAreCuts, WritesRejoined, AllStayDrawnIn, RejoinedDraw}}
+use Rattle.t1_cmd.proofs.{OneAnswer.{OneAnswer, files_answered, inputs_answered}, RejoinLemmas.{all_light, rejoins_unlacking, with_no_lack, has_no_lack, rejoins_apart}}
+use Rattle.std.specs.FinMap as maps
 
 -- ---- what truncated subsets rejoin to
 

@@ -1,17 +1,9 @@
 -- The lines of all conflicts of two fonts.
-use Rattle.std.proofs.Common.{◌≡◌, ◌↔◌, ◌∙◌, ap, sym, refl, arith, ℕ, Bool, true, List, [], ◌∷◌, length, IfSome, Ok, Err}
-use Rattle.std.proofs.lemmas.List.{length-append}
-use Rattle.std.specs.List.{flat_map}
+use Rattle.std.{proofs.{Common.{◌≡◌, ◌↔◌, ◌∙◌, ap, sym, refl, arith, ℕ, Bool, true, List, [], ◌∷◌, length, IfSome, Ok, Err}, lemmas.List.{length-append}}, specs.List.{flat_map}}
 use Rattle.t1_font.specs.FontValue.{FontValue}
-use Rattle.t1_algebra.specs.Profile.{profile}
-use Rattle.t1_algebra.specs.States.{Join}
-use Rattle.t1_subset.specs.declared.conflict.Conflict.{Conflict}
-use Rattle.t1_subset.specs.FaultTexts.{conflict_text}
-use Rattle.t1_cmd.specs.declared.faults.Reason.{Reason}
-use Rattle.t1_cmd.specs.Inputs.{Input, values_of, Say}
-use Rattle.t1_cmd.specs.Fonts.{font_input}
-use Rattle.t1_cmd.specs.Files.{values_from}
-use Rattle.t1_cmd.specs.Diffs.{conflict_line, SaysJoin, DiffersBy}
+use Rattle.t1_algebra.specs.{Profile.{profile}, States.{Join}}
+use Rattle.t1_subset.specs.{declared.conflict.Conflict.{Conflict}, FaultTexts.{conflict_text}}
+use Rattle.t1_cmd.specs.{declared.faults.Reason.{Reason}, Inputs.{Input, values_of, Say}, Fonts.{font_input}, Files.{values_from}, Diffs.{conflict_line, SaysJoin, DiffersBy}}
 use Rattle.t1_cmd.proofs.RunLemmas.{values_have}
 
 -- conflicts without a line are none

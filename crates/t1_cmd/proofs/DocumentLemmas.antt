@@ -1,7 +1,7 @@
 -- Documents one behind the other, and lines of lists.
 use Rattle.std.proofs.Common.{◌≡◌, ◌≤◌, ◌<◌, ◌+◌, ℕ, Bool, true, false, cond, List, [], ◌∷◌, ◌++◌, length, get_or, drop, arith, sym, ap, ◌∙◌, append_assoc}
-use Rattle.std.specs.List.{flat_map}
 use Rattle.std.proofs.lemmas.List.{length-append, drop_more, drop_all, append-nil}
+use Rattle.std.specs.List.{flat_map}
 use Rattle.t1_document.specs.Lines.{breaks, with_document, behind_documents}
 
 -- documents behind others are no shorter

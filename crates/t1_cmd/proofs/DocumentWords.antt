@@ -1,14 +1,9 @@
 -- Documents within the file limit, and the words about them.
-use Rattle.std.proofs.Common.{◌≡◌, ◌<◌, ◌≤◌, ℕ, Bool, arith, sym, ◌∙◌, List, length, Ok, Err}
+use Rattle.std.proofs.{Common.{◌≡◌, ◌<◌, ◌≤◌, ℕ, Bool, arith, sym, ◌∙◌, List, length, Ok, Err}, lemmas.Bool.{cond-true, cond-false, lt-ltb, le-ltb}, lemmas.Option.{none-some}}
 use Rattle.std.specs.Prelude.{nat_lt}
-use Rattle.std.proofs.lemmas.Bool.{cond-true, cond-false, lt-ltb, le-ltb}
-use Rattle.std.proofs.lemmas.Option.{none-some}
 use Rattle.t1_bytes.specs.Limits.{file_limit}
-use Rattle.t1_cmd.specs.declared.faults.Reason.{Reason}
-use Rattle.t1_cmd.specs.declared.faults.Reason.TheVariants.{TooLong, Memory, List as ListReason, Join as JoinReason, Font, NoGlyph, NoCode, NoFont, Lacks, Merge}
-use Rattle.t1_cmd.specs.Documents.{text_input, PoolsTo}
-use Rattle.t1_cmd.specs.FontPlaces.{ListsTo}
-use Rattle.t1_cmd.specs.Extracts.{ExtractsTo}
+use Rattle.t1_cmd.specs.{declared.faults.Reason.{Reason}, declared.faults.Reason.TheVariants.{TooLong, Memory, List as ListReason, Join as JoinReason, Font, NoGlyph, NoCode, NoFont, Lacks, Merge}}
+use Rattle.t1_cmd.specs.{Documents.{text_input, PoolsTo}, FontPlaces.{ListsTo}, Extracts.{ExtractsTo}}
 
 -- ---- one document
 

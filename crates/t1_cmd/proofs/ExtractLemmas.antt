@@ -1,23 +1,10 @@
 -- The first font of a name in documents.
-use Rattle.std.proofs.Common.{◌≡◌, ℕ, Bool, true, false, cond, List, [], ◌∷◌, ◌++◌, Some, None, Result, Ok, Err, refl, sym, ap, subst, ◌∙◌}
-use Rattle.std.specs.List.{find, AllByRecursion}
-use Rattle.std.specs.Str.{bytes_eq}
-use Rattle.std.specs.Prelude.{nat_lt, length}
-use Rattle.std.proofs.lemmas.Bool.{cond-false, le-ltb}
-use Rattle.t1_bytes.specs.Limits.{file_limit}
-use Rattle.t1_bytes.specs.declared.form.Form.TheVariants.{Pfa}
-use Rattle.t1_font.specs.declared.fault.ReadFault.{ReadFault}
-use Rattle.t1_font.specs.FontValue.{FontValue}
-use Rattle.t1_font.specs.ReadFont.{read_font_widely}
-use Rattle.t1_font.specs.FontTest.{untested_font}
-use Rattle.t1_document.specs.Documents.{Place, document_of}
-use Rattle.t1_document.specs.Laws.{SpellsPlace}
-use Rattle.t1_document.proofs.Spelled.{places_spell}
-use Rattle.t1_cmd.specs.declared.faults.Reason.{Reason}
-use Rattle.t1_cmd.specs.Answers.{with_reason, if_there, MayRefuse}
-use Rattle.t1_cmd.specs.Fonts.{font_reason, file_answer}
-use Rattle.t1_document.specs.Joins.{places_of_all}
-use Rattle.t1_cmd.specs.Extracts.{first_named, ExtractsTo, TakesOutMended}
+use Rattle.std.proofs.{Common.{◌≡◌, ℕ, Bool, true, false, cond, List, [], ◌∷◌, ◌++◌, Some, None, Result, Ok, Err, refl, sym, ap, subst, ◌∙◌}, lemmas.Bool.{cond-false, le-ltb}}
+use Rattle.std.specs.{List.{find, AllByRecursion}, Str.{bytes_eq}, Prelude.{nat_lt, length}}
+use Rattle.t1_bytes.specs.{Limits.{file_limit}, declared.form.Form.TheVariants.{Pfa}}
+use Rattle.t1_font.specs.{declared.fault.ReadFault.{ReadFault}, FontValue.{FontValue}, ReadFont.{read_font_widely}, FontTest.{untested_font}}
+use Rattle.t1_document.{specs.{Documents.{Place, document_of}, Laws.{SpellsPlace}, Joins.{places_of_all}}, proofs.Spelled.{places_spell}}
+use Rattle.t1_cmd.specs.{declared.faults.Reason.{Reason}, Answers.{with_reason, if_there, MayRefuse}, Fonts.{font_reason, file_answer}, Extracts.{first_named, ExtractsTo, TakesOutMended}}
 use Rattle.t1_cmd.proofs.Refusals.{by_answer}
 
 -- ---- places that spell fonts

@@ -1,13 +1,10 @@
 -- Files that are read one after the other.
-use Rattle.std.proofs.Common.{◌≡◌, ◌<◌, ◌≤◌, ◌+◌, ℕ, zero, suc, refl, sym, ◌∙◌, ap, subst, List, [], ◌∷◌, ◌++◌, length, drop, get_or, append_assoc, arith}
-use Rattle.std.proofs.Common.{Option, Some, None, Result, Ok, Err, OnOk, is_err, false}
+use Rattle.std.proofs.Common.{◌≡◌, ◌<◌, ◌≤◌, ◌+◌, ℕ, zero, suc, refl, sym, ◌∙◌, ap, subst, List, [], ◌∷◌, ◌++◌, length, drop, get_or, append_assoc, arith, Option, Some, None, Result, Ok, Err, OnOk}
+use Rattle.std.proofs.{Common.{is_err, false}, lemmas.List.{append-nil}}
 use Rattle.std.specs.Borrow.{Bor}
-use Rattle.std.proofs.lemmas.List.{append-nil}
 use Rattle.t1_subset.specs.NameSets.{lent}
-use Rattle.t1_cmd.specs.declared.faults.FilesRefusal.{FilesRefusal}
-use Rattle.t1_cmd.specs.declared.faults.Reason.{Reason}
-use Rattle.t1_cmd.specs.declared.faults.Reason.TheVariants.{TooLong, Memory, List as ListReason, Join as JoinReason, Font, NoGlyph, NoCode, NoFont, Lacks, Merge}
-use Rattle.t1_cmd.specs.Answers.{MayRefuse}
+use Rattle.t1_cmd.specs.{declared.faults.FilesRefusal.{FilesRefusal}, declared.faults.Reason.{Reason}}
+use Rattle.t1_cmd.specs.{declared.faults.Reason.TheVariants.{TooLong, Memory, List as ListReason, Join as JoinReason, Font, NoGlyph, NoCode, NoFont, Lacks, Merge}, Answers.{MayRefuse}}
 use Rattle.t1_cmd.specs.Files.{Values, value_before, values_from, IsUnread, IsRefusalAt, OfFiles, RefusedAt}
 use Rattle.t1_cmd.proofs.Refusals.{refuses, by_answer}
 

@@ -1,22 +1,11 @@
 -- The answers of engines of one input.
-use Rattle.std.proofs.Common.{◌≡◌, ℕ, List, [], ◌∷◌, ◌++◌, map, ◌∙◌, ap, refl, sym, append_assoc, Option, Result, Ok, Err}
-use Rattle.std.specs.List.{flat_map}
-use Rattle.std.proofs.lemmas.List.{append-nil}
-use Rattle.t1_run.specs.declared.answer.Mark.{Mark}
-use Rattle.t1_run.specs.Pens.{drawn_on}
+use Rattle.std.{proofs.{Common.{◌≡◌, ℕ, List, [], ◌∷◌, ◌++◌, map, ◌∙◌, ap, refl, sym, append_assoc, Option, Result, Ok, Err}, lemmas.List.{append-nil}}, specs.List.{flat_map}}
+use Rattle.t1_run.specs.{declared.answer.Mark.{Mark}, Pens.{drawn_on}}
 use Rattle.t1_font.specs.FontValue.{FontValue}
-use Rattle.t1_cmd.specs.declared.counting.Counted.{Counted}
-use Rattle.t1_cmd.specs.declared.faults.Reason.{Reason}
-use Rattle.t1_cmd.specs.declared.faults.Reason.TheVariants.{Memory}
-use Rattle.t1_cmd.specs.declared.faults.RunFault.{RunFault}
-use Rattle.t1_cmd.specs.declared.faults.RunFault.TheVariants.{Refused}
-use Rattle.t1_cmd.specs.Inputs.{Input, Holds}
-use Rattle.t1_cmd.specs.Answers.{if_there, MayRefuse, Prints}
-use Rattle.t1_cmd.specs.Runs.{Stops, RunEnds, Succeeds}
-use Rattle.t1_cmd.specs.Fonts.{of_input}
+use Rattle.t1_cmd.specs.{declared.counting.Counted.{Counted}, declared.faults.Reason.{Reason}, declared.faults.Reason.TheVariants.{Memory}, declared.faults.RunFault.{RunFault}}
+use Rattle.t1_cmd.specs.{declared.faults.RunFault.TheVariants.{Refused}, Inputs.{Input, Holds}, Answers.{if_there, MayRefuse, Prints}, Runs.{Stops, RunEnds, Succeeds}, Fonts.{of_input}}
 use Rattle.t1_cmd.specs.DrawingText.{mark_line, with_mark_line}
-use Rattle.t1_cmd.proofs.Refusals.{by_answer, says_so, input_stops}
-use Rattle.t1_cmd.proofs.RunLemmas.{Says, stops_after, stops_together, ends_succeeds}
+use Rattle.t1_cmd.proofs.{Refusals.{by_answer, says_so, input_stops}, RunLemmas.{Says, stops_after, stops_together, ends_succeeds}}
 
 -- ---- files
 

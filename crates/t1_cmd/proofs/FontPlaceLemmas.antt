@@ -1,15 +1,10 @@
 -- The loops that list the places of fonts.
 use Rattle.std.proofs.Common.{◌≡◌, ◌+◌, ◌<◌, ◌≤◌, ◌^◌, ℕ, Bool, true, false, cond, arith, List, [], ◌∷◌, ◌++◌, length, get_or, drop, map, filter, Option, sym, ap, subst, ◌∙◌, append_assoc}
-use Rattle.std.specs.List.{flat_map}
-use Rattle.std.specs.Borrow.{Bor}
-use Rattle.std.proofs.lemmas.Bool.{cond-true, cond-false}
-use Rattle.std.proofs.lemmas.List.{drop_more, drop_all, append-nil, length-append, length-map, get_or-map}
+use Rattle.std.proofs.{lemmas.Bool.{cond-true, cond-false}, lemmas.List.{drop_more, drop_all, append-nil, length-append, length-map, get_or-map}}
+use Rattle.std.specs.{List.{flat_map}, Borrow.{Bor}}
 use Rattle.t1_font.specs.FontModel.{clamp}
 use Rattle.t1_subset.specs.NameSets.{lent}
-use Rattle.t1_document.specs.declared.documents.Place.{Place as CodePlace}
-use Rattle.t1_document.specs.declared.joins.Outcome.{Outcome}
-use Rattle.t1_document.specs.Documents.{Document, place_bytes, document_bytes, document_of}
-use Rattle.t1_document.specs.Joins.{Outcomes}
+use Rattle.t1_document.specs.{declared.documents.Place.{Place as CodePlace}, declared.joins.Outcome.{Outcome}, Documents.{Document, place_bytes, document_bytes, document_of}, Joins.{Outcomes}}
 use Rattle.t1_document.specs.Views.{place_view}
 use Rattle.t1_document.proofs.PlaceLemmas.{document_text}
 use Rattle.t1_cmd.specs.FontPlaces.{place_line, place_lines, document_lines}

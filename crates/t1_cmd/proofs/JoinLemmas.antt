@@ -1,8 +1,7 @@
 -- The answers of the engine of listings.
 use Rattle.std.proofs.Common.{◌≡◌, ℕ, refl, List, [], ◌∷◌, Ok}
 use Rattle.t1_join.specs.ListingMeaning.{ListingMeaning}
-use Rattle.t1_cmd.specs.Files.{values_from}
-use Rattle.t1_cmd.specs.Listings.{listing_input}
+use Rattle.t1_cmd.specs.{Files.{values_from}, Listings.{listing_input}}
 
 -- what two texts say that both spell listings
 pub both_said : (first second : List ℕ) (left right : ListingMeaning)

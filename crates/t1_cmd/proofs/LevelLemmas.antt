@@ -1,16 +1,8 @@
 -- Documents that are levelled, each by itself.
-use Rattle.std.proofs.Common.{◌≡◌, ℕ, List, [], ◌∷◌, ◌++◌, map, refl, ap, Option, Some, None, Result, Ok, Err, IfErr, IsSome, IsOkUnless}
-use Rattle.std.specs.List.{flat_map}
-use Rattle.std.proofs.lemmas.Bool.{false≢true}
-use Rattle.t1_document.specs.Documents.{Place, Document, document_of}
-use Rattle.t1_document.specs.Rewriting.{NewTexts, document_levelled, levelled}
-use Rattle.t1_cmd.specs.declared.faults.Reason.{Reason}
-use Rattle.t1_cmd.specs.declared.faults.Reason.TheVariants.{TooLong, Memory, List as ListReason, Join as JoinReason, Font, NoGlyph, NoCode, NoFont, Lacks, Merge}
-use Rattle.t1_cmd.specs.declared.faults.RunFault.{RunFault}
-use Rattle.t1_cmd.specs.declared.faults.RunFault.TheVariants.{Refused, Read, Write}
-use Rattle.t1_cmd.specs.Inputs.{Input, AllQuiet, values_of}
-use Rattle.t1_cmd.specs.Mergers.{InputsStop}
-use Rattle.t1_document.specs.Joins.{places_of_all}
+use Rattle.std.{proofs.{Common.{◌≡◌, ℕ, List, [], ◌∷◌, ◌++◌, map, refl, ap, Option, Some, None, Result, Ok, Err, IfErr, IsSome, IsOkUnless}, lemmas.Bool.{false≢true}}, specs.List.{flat_map}}
+use Rattle.t1_document.specs.{Documents.{Place, Document, document_of}, Rewriting.{NewTexts, document_levelled, levelled}, Joins.{places_of_all}}
+use Rattle.t1_cmd.specs.{declared.faults.Reason.{Reason}, declared.faults.Reason.TheVariants.{TooLong, Memory, List as ListReason, Join as JoinReason, Font, NoGlyph, NoCode, NoFont, Lacks, Merge}}
+use Rattle.t1_cmd.specs.{declared.faults.RunFault.{RunFault}, declared.faults.RunFault.TheVariants.{Refused, Read, Write}, Inputs.{Input, AllQuiet, values_of}, Mergers.{InputsStop}}
 use Rattle.t1_cmd.proofs.RunLemmas.{first_refused, first_failed}
 
 -- what is made of what was made

@@ -1,7 +1,5 @@
 -- Texts of lines, one for each element of a list, as a loop adds them.
-use Rattle.std.proofs.Common.{◌≡◌, ◌∙◌, ap, sym, append_assoc, ℕ, ◌+◌, ◌<◌, ◌≤◌, List, ◌++◌, length, drop, get_or}
-use Rattle.std.proofs.lemmas.List.{append-nil, drop_more, drop_all}
-use Rattle.std.specs.List.{flat_map}
+use Rattle.std.{proofs.{Common.{◌≡◌, ◌∙◌, ap, sym, append_assoc, ℕ, ◌+◌, ◌<◌, ◌≤◌, List, ◌++◌, length, drop, get_or}, lemmas.List.{append-nil, drop_more, drop_all}}, specs.List.{flat_map}}
 
 module _ {X : Type 0} (line : X → List ℕ) (xs : List X) (i : ℕ) where
   -- one line more is added

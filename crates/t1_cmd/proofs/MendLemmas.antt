@@ -1,39 +1,15 @@
 -- What is mended once is mended.
-use Rattle.std.proofs.Common.{◌≡◌, ◌∙◌, ap, subst, refl, ℕ, ◌+◌, Bool, true, false, nat_lt, if◌then◌else◌}
-use Rattle.std.proofs.Common.{List, [], ◌∷◌, ◌++◌, length, None, Result, Ok, Err}
-use Rattle.std.specs.Prelude.{IfOk}
-use Rattle.std.proofs.lemmas.Bool.{le-ltb}
-use Rattle.t1_bytes.specs.declared.form.Form.{Form}
-use Rattle.t1_bytes.specs.Limits.{file_limit}
-use Rattle.t1_bytes.specs.Laws.{AreBytes}
-use Rattle.t1_font.specs.declared.fault.ReadFault.{ReadFault}
-use Rattle.t1_font.specs.FontValue.{FontValue}
-use Rattle.t1_font.specs.FontTest.{untested_font}
-use Rattle.t1_font.specs.IsFont.{IsFont}
-use Rattle.t1_font.specs.Canon.{canon, Fits}
-use Rattle.t1_font.specs.ReadFont.{read_font, read_font_widely}
-use Rattle.t1_font.proofs.Spelled.{reads, reads_again}
-use Rattle.t1_font.proofs.Widely.{spells_widely}
-use Rattle.t1_font.proofs.Untested.{untested_twice, untested_is_font}
-use Rattle.t1_font.proofs.canonical.RoundTrip.{round_trip}
-use Rattle.t1_font.proofs.canonical.LengthLemmas.{canon_short}
-use Rattle.t1_font.proofs.read_fonts.ReadFontLaws.{read_is_font}
-use Rattle.t1_cmd.specs.declared.faults.Reason.{Reason}
-use Rattle.t1_cmd.specs.declared.faults.Reason.TheVariants.{TooLong}
-use Rattle.t1_cmd.specs.declared.faults.RunFault.TheVariants.{Refused}
-use Rattle.t1_cmd.specs.Inputs.{Input, Holds}
-use Rattle.t1_cmd.specs.Runs.{Stops}
-use Rattle.t1_cmd.specs.Answers.{with_reason, if_there, MayRefuse, Prints}
-use Rattle.t1_cmd.specs.Fonts.{font_reason, font_input, mended_input, file_answer}
-use Rattle.t1_cmd.specs.Files.{value_before, values_from}
-use Rattle.t1_cmd.proofs.Refusals.{by_answer, says_so, input_stops}
-use Rattle.t1_cmd.proofs.RunLemmas.{stops_after}
-use Rattle.t1_font.specs.Mends.{mends_in, mends_by_rules, mends_by_test}
-use Rattle.t1_font.specs.FontTest.{taken_test}
-use Rattle.t1_font.proofs.Mended.{tells_the_test}
-use Rattle.std.specs.List.{flat_map}
+use Rattle.std.proofs.{Common.{◌≡◌, ◌∙◌, ap, subst, refl, ℕ, ◌+◌, Bool, true, false, nat_lt, if◌then◌else◌, List, [], ◌∷◌, ◌++◌, length, None, Result, Ok, Err}, lemmas.Bool.{le-ltb}}
+use Rattle.std.specs.{Prelude.{IfOk}, List.{flat_map}}
+use Rattle.t1_bytes.specs.{declared.form.Form.{Form}, Limits.{file_limit}, Laws.{AreBytes}}
+use Rattle.t1_font.specs.{declared.fault.ReadFault.{ReadFault}, FontValue.{FontValue}, FontTest.{untested_font, taken_test}, IsFont.{IsFont}, Canon.{canon, Fits}}
+use Rattle.t1_font.specs.{ReadFont.{read_font, read_font_widely}, Mends.{mends_in, mends_by_rules, mends_by_test}, Dialect.{strict, wide}}
+use Rattle.t1_font.proofs.{Spelled.{reads, reads_again}, Widely.{spells_widely}, Untested.{untested_twice, untested_is_font}, canonical.RoundTrip.{round_trip}, canonical.LengthLemmas.{canon_short}}
+use Rattle.t1_font.proofs.{read_fonts.ReadFontLaws.{read_is_font}, Mended.{tells_the_test}}
+use Rattle.t1_cmd.specs.{declared.faults.Reason.{Reason}, declared.faults.Reason.TheVariants.{TooLong}, declared.faults.RunFault.TheVariants.{Refused}, Inputs.{Input, Holds}, Runs.{Stops}}
+use Rattle.t1_cmd.specs.{Answers.{with_reason, if_there, MayRefuse, Prints}, Fonts.{font_reason, font_input, mended_input, file_answer}, Files.{value_before, values_from}}
 use Rattle.t1_cmd.specs.Mends.{mend_line, mends_answer, IsMendedFile, AreMendedFiles, MendsAgain, MendsNothing, MendedIsSpelled, TellsNothing, RejoinsMended}
-use Rattle.t1_font.specs.Dialect.{strict, wide}
+use Rattle.t1_cmd.proofs.{Refusals.{by_answer, says_so, input_stops}, RunLemmas.{stops_after}}
 
 -- ---- the font of a file
 

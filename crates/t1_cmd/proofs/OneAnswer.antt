@@ -1,21 +1,13 @@
 -- What files and inputs come to whose fonts have one answer.
 use Rattle.std.proofs.Common.{◌≡◌, ℕ, refl, sym, ◌∙◌, subst, List, [], ◌∷◌, ◌⊎◌, inl, inr, ⊎_elim, Option, None, Some, Result, Ok, Err, IfSome}
-use Rattle.std.specs.Prelude.{IfOk, IfErr, MatchResult}
-use Rattle.std.specs.Io.KnownBytes.{Appends}
+use Rattle.std.specs.{Prelude.{IfOk, IfErr, MatchResult}, Io.KnownBytes.{Appends}}
 use Rattle.t1_font.specs.FontValue.{FontValue}
-use Rattle.t1_cmd.specs.declared.counting.Counted.{Counted}
-use Rattle.t1_cmd.specs.declared.faults.Reason.{Reason}
-use Rattle.t1_cmd.specs.declared.faults.Reason.TheVariants.{TooLong, Memory, List as ListReason, Join as JoinReason, Font, NoGlyph, NoCode, NoFont, Lacks, Merge}
-use Rattle.t1_cmd.specs.declared.faults.RunFault.{RunFault}
-use Rattle.t1_cmd.specs.declared.faults.RunFault.TheVariants.{Refused, Read, Write}
-use Rattle.t1_cmd.specs.declared.faults.FilesRefusal.{FilesRefusal}
-use Rattle.t1_cmd.specs.Count.{inner_of}
-use Rattle.t1_cmd.specs.Inputs.{Input, HasFailed, IsRefused, FirstWith, values_of}
-use Rattle.t1_cmd.specs.Files.{Values, values_from, OfFiles, RefusedAt, RefusesFiles}
-use Rattle.t1_cmd.specs.Runs.{AppendsPrefix, RunEnds, Stops, RefusedTogether}
-use Rattle.t1_cmd.specs.WrittenSubsets.{SomeFailed, Writes}
-use Rattle.t1_cmd.proofs.Refusals.{by_answer}
-use Rattle.t1_cmd.proofs.RunLemmas.{first_refused}
+use Rattle.t1_cmd.specs.{declared.counting.Counted.{Counted}, declared.faults.Reason.{Reason}}
+use Rattle.t1_cmd.specs.{declared.faults.Reason.TheVariants.{TooLong, Memory, List as ListReason, Join as JoinReason, Font, NoGlyph, NoCode, NoFont, Lacks, Merge}, declared.faults.RunFault.{RunFault}}
+use Rattle.t1_cmd.specs.{declared.faults.RunFault.TheVariants.{Refused, Read, Write}, declared.faults.FilesRefusal.{FilesRefusal}, Count.{inner_of}}
+use Rattle.t1_cmd.specs.{Inputs.{Input, HasFailed, IsRefused, FirstWith, values_of}, Files.{Values, values_from, OfFiles, RefusedAt, RefusesFiles}}
+use Rattle.t1_cmd.specs.{Runs.{AppendsPrefix, RunEnds, Stops, RefusedTogether}, WrittenSubsets.{SomeFailed, Writes}}
+use Rattle.t1_cmd.proofs.{Refusals.{by_answer}, RunLemmas.{first_refused}}
 
 module _ (input : List ℕ → Result FontValue Reason) (Answers : List FontValue → Result (List ℕ) Reason → Type 0) (fonts : List FontValue) (one : List ℕ) where
   -- the fonts are answered with this text, and refused for want of memory alone

@@ -1,17 +1,10 @@
 -- Readers that are read one after the other: what they have said so far, and how they stop.
-use Rattle.std.proofs.Common.{◌≡◌, ◌<◌, ◌≤◌, ◌+◌, ℕ, zero, suc, refl, sym, ◌∙◌, ap, subst, List, [], ◌∷◌, ◌++◌, length, get_or, set, inl, inr, Option}
-use Rattle.std.proofs.Common.{Result, Ok, IfSome, arith}
-use Rattle.t1_cmd.specs.declared.counting.Counted.{Counted}
-use Rattle.t1_cmd.specs.declared.faults.Reason.TheVariants.{TooLong, Memory, List as ListReason, Join as JoinReason, Font, NoGlyph, NoCode, NoFont, Lacks, Merge}
-use Rattle.t1_cmd.specs.declared.faults.RunFault.{RunFault}
-use Rattle.t1_cmd.specs.declared.faults.RunFault.TheVariants.{Refused, Read, Write}
-use Rattle.t1_cmd.specs.Count.{inner_of, calls_counted}
-use Rattle.t1_cmd.specs.Inputs.{Input, input_of, HasFailed, IsRefused, FirstWith, Say}
-use Rattle.t1_bytes.specs.Limits.{file_limit}
-use Rattle.t1_cmd.specs.Runs.{InputStops}
-use Rattle.t1_cmd.specs.declared.faults.Reason.{Reason}
-use Rattle.t1_cmd.specs.Mergers.{inputs_of, InTurns, InputsStop}
+use Rattle.std.proofs.Common.{◌≡◌, ◌<◌, ◌≤◌, ◌+◌, ℕ, zero, suc, refl, sym, ◌∙◌, ap, subst, List, [], ◌∷◌, ◌++◌, length, get_or, set, inl, inr, Option, Result, Ok, IfSome, arith}
+use Rattle.t1_cmd.specs.{declared.counting.Counted.{Counted}, declared.faults.Reason.TheVariants.{TooLong, Memory, List as ListReason, Join as JoinReason, Font, NoGlyph, NoCode, NoFont, Lacks, Merge}}
+use Rattle.t1_cmd.specs.{declared.faults.RunFault.{RunFault}, declared.faults.RunFault.TheVariants.{Refused, Read, Write}, Count.{inner_of, calls_counted}}
+use Rattle.t1_cmd.specs.{Inputs.{Input, input_of, HasFailed, IsRefused, FirstWith, Say}, Runs.{InputStops}, declared.faults.Reason.{Reason}, Mergers.{inputs_of, InTurns, InputsStop}}
 use Rattle.t1_cmd.proofs.RunLemmas.{says_understood}
+use Rattle.t1_bytes.specs.Limits.{file_limit}
 
 module _ {A : Type 0} (input : List ℕ → Result A Reason) {X : Type 0} (remaining : X → Option (List ℕ)) where
   -- where it is known, the reader says the font

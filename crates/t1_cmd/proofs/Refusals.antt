@@ -1,11 +1,7 @@
 -- What refuses a value, a file, or the input that has the file.
 use Rattle.std.proofs.Common.{◌≡◌, ℕ, List, subst, sym, Option, Some, None, Result, Err, IfSome}
-use Rattle.t1_cmd.specs.declared.faults.Reason.{Reason}
-use Rattle.t1_cmd.specs.declared.faults.Reason.TheVariants.{TooLong, Memory, List as ListReason, Join as JoinReason, Font, NoGlyph, NoCode, NoFont, Lacks, Merge}
-use Rattle.t1_cmd.specs.declared.faults.RunFault.TheVariants.{Refused}
-use Rattle.t1_cmd.specs.Inputs.{Input, Holds, Say}
-use Rattle.t1_cmd.specs.Answers.{MayRefuse}
-use Rattle.t1_cmd.specs.Runs.{InputStops, Stops}
+use Rattle.t1_cmd.specs.{declared.faults.Reason.{Reason}, declared.faults.Reason.TheVariants.{TooLong, Memory, List as ListReason, Join as JoinReason, Font, NoGlyph, NoCode, NoFont, Lacks, Merge}}
+use Rattle.t1_cmd.specs.{declared.faults.RunFault.TheVariants.{Refused}, Inputs.{Input, Holds, Say}, Answers.{MayRefuse}, Runs.{InputStops, Stops}}
 use Rattle.t1_cmd.proofs.RunLemmas.{stops_together}
 
 -- an answer is a right refusal

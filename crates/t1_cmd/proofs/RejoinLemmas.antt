@@ -1,27 +1,12 @@
 -- How the engine that rejoins fonts ends.
-use Rattle.std.proofs.Common.{◌≡◌, ℕ, arith, List, [], ◌∷◌, map, inl, inr, Option, Some, None, Result, Ok, Err, refl, sym, ap, subst, ◌∙◌}
-use Rattle.std.specs.List.{AllByRecursion}
+use Rattle.std.{proofs.Common.{◌≡◌, ℕ, arith, List, [], ◌∷◌, map, inl, inr, Option, Some, None, Result, Ok, Err, refl, sym, ap, subst, ◌∙◌}, specs.List.{AllByRecursion}}
 use Rattle.t1_bytes.specs.declared.form.Form.{Form}
-use Rattle.t1_font.specs.FontValue.{FontValue}
-use Rattle.t1_font.specs.Canon.{canon}
-use Rattle.t1_font.specs.Evening.{evened_shells, evened}
-use Rattle.t1_font.specs.Filling.{AreLight, AnyHeavy}
-use Rattle.t1_font.specs.IsFont.{IsFont}
-use Rattle.t1_algebra.specs.Lacks.{Lack, first_lack}
-use Rattle.t1_algebra.specs.Merges.{ComesTo}
-use Rattle.t1_algebra.specs.Profile.{profile}
-use Rattle.t1_algebra.specs.Groupings.{Merges}
-use Rattle.t1_algebra.specs.Rejoins.{with_even_texts}
-use Rattle.t1_font.proofs.even_fonts.EvenTexts.{even_shorter}
-use Rattle.t1_join.specs.Groupings.{Grouping, one, two, map_grouping, from_left}
-use Rattle.t1_join.proofs.OrderLemmas.{leaves_from_left}
-use Rattle.t1_algebra.proofs.Orders.{one_result}
-use Rattle.t1_cmd.specs.declared.faults.Reason.{Reason}
-use Rattle.t1_cmd.specs.declared.faults.Reason.TheVariants.{Memory}
-use Rattle.t1_cmd.specs.Mergers.{MergesToFile}
-use Rattle.t1_cmd.specs.Rejoins.{RejoinsUnless, RejoinsTo, RejoinsWhatMerges}
+use Rattle.t1_font.{specs.{FontValue.{FontValue}, Canon.{canon}, Evening.{evened_shells, evened}, Filling.{AreLight, AnyHeavy}, IsFont.{IsFont}}, proofs.even_fonts.EvenTexts.{even_shorter}}
+use Rattle.t1_algebra.specs.{Lacks.{Lack, first_lack}, Merges.{ComesTo}, Profile.{profile}, Groupings.{Merges}, Rejoins.{with_even_texts}}
+use Rattle.t1_algebra.proofs.{Orders.{one_result}, rejoining.Evened.{merging_fonts_are_even}}
+use Rattle.t1_join.{specs.Groupings.{Grouping, one, two, map_grouping, from_left}, proofs.OrderLemmas.{leaves_from_left}}
+use Rattle.t1_cmd.specs.{declared.faults.Reason.{Reason}, declared.faults.Reason.TheVariants.{Memory}, Mergers.{MergesToFile}, Rejoins.{RejoinsUnless, RejoinsTo, RejoinsWhatMerges}}
 use Rattle.t1_cmd.proofs.MergeLemmas.{merges_apart}
-use Rattle.t1_algebra.proofs.rejoining.Evened.{merging_fonts_are_even}
 use Rattle.t1_document.proofs.OneOutcome.{light_or_heavy}
 
 -- ---- fonts of which none lacks a Subr

@@ -1,15 +1,9 @@
 -- How engines end, from how their steps end.
-use Rattle.std.proofs.Common.{◌≡◌, ◌<◌, ℕ, refl, sym, ◌∙◌, ap, subst, List, [], ◌∷◌, ◌++◌, ◌⊎◌, inl, inr, ⊎_elim, Option, None, Some, Result, Ok, Err}
-use Rattle.std.proofs.Common.{IfSome, arith}
-use Rattle.std.specs.Prelude.{OnOk, OnErr, IfErr, IsOk, IsOkUnless, option_and_then}
-use Rattle.std.specs.Result.{result_ok}
-use Rattle.std.specs.Io.KnownBytes.{Appends}
-use Rattle.t1_cmd.specs.declared.counting.Counted.{Counted}
-use Rattle.t1_cmd.specs.declared.faults.Reason.{Reason}
-use Rattle.t1_cmd.specs.declared.faults.Reason.TheVariants.{TooLong, Memory, List as ListReason, Join as JoinReason, Font, NoGlyph, NoCode, NoFont, Lacks, Merge}
-use Rattle.t1_cmd.specs.declared.faults.RunFault.{RunFault}
-use Rattle.t1_cmd.specs.declared.faults.RunFault.TheVariants.{Refused, Read, Write}
-use Rattle.t1_cmd.specs.Count.{inner_of, failed_of, last_count}
+use Rattle.std.proofs.Common.{◌≡◌, ◌<◌, ℕ, refl, sym, ◌∙◌, ap, subst, List, [], ◌∷◌, ◌++◌, ◌⊎◌, inl, inr, ⊎_elim, Option, None, Some, Result, Ok, Err, IfSome, arith}
+use Rattle.std.specs.{Prelude.{OnOk, OnErr, IfErr, IsOk, IsOkUnless, option_and_then}, Result.{result_ok}, Io.KnownBytes.{Appends}}
+use Rattle.t1_cmd.specs.{declared.counting.Counted.{Counted}, declared.faults.Reason.{Reason}}
+use Rattle.t1_cmd.specs.{declared.faults.Reason.TheVariants.{TooLong, Memory, List as ListReason, Join as JoinReason, Font, NoGlyph, NoCode, NoFont, Lacks, Merge}, declared.faults.RunFault.{RunFault}}
+use Rattle.t1_cmd.specs.{declared.faults.RunFault.TheVariants.{Refused, Read, Write}, Count.{inner_of, failed_of, last_count}}
 use Rattle.t1_cmd.specs.Inputs.{Input, Rose, RoseByOne, HasFailed, AllQuiet, Understood, AllUnderstood, IsRefused, FirstWith, value_and, values_of, Say}
 use Rattle.t1_cmd.specs.Runs.{AppendsPrefix, InputStops, RefusedTogether, Stops, RunEnds, Succeeds}
 

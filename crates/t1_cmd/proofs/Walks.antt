@@ -1,22 +1,12 @@
 -- Walks over numbers that meet each entry of a map, and over its keys.
-use Rattle.std.proofs.Common.{◌≡◌, ℕ, ◌+◌, ◌≤◌, ◌<◌, Bool, true, false, cond, ◌&&◌, ltb, List, [], ◌∷◌, ◌++◌, length, map, Option, Some, None}
-use Rattle.std.proofs.Common.{is_some, IsSome, refl, sym, ◌∙◌, ap, subst, Ordering, Less, Equal, Greater, is_lt, is_eq, arith, append_assoc}
-use Rattle.std.proofs.Common.{length-append}
-use Rattle.std.specs.List.{filter, flat_map, AllByRecursion}
-use Rattle.std.specs.Ordering.{nat_cmp}
-use Rattle.std.specs.Cmp.{IsTotalOrder, nat_cmp_total, ranked}
-use Rattle.std.specs.Cmp.Lexicographic.{nat_list_cmp_total}
-use Rattle.std.specs.FinMap.{FinMap, get, len, len-entries, contains_key, entries, entries_sorted, find, is_sorted, get-entries, IsAntisymmetric}
-use Rattle.std.specs.FinMap.{nat_cmp-IsAntisymmetric, slice_cmp-IsAntisymmetric}
-use Rattle.std.specs.FinMap.Entries.{below_all}
-use Rattle.std.proofs.lemmas.Bool.{lt-ltb, le-ltb}
-use Rattle.std.proofs.lemmas.List.{append-nil, length-map}
+use Rattle.std.proofs.Common.{◌≡◌, ℕ, ◌+◌, ◌≤◌, ◌<◌, Bool, true, false, cond, ◌&&◌, ltb, List, [], ◌∷◌, ◌++◌, length, map, Option, Some, None, is_some, IsSome, refl, sym, ◌∙◌, ap, subst, Ordering}
+use Rattle.std.proofs.{Common.{Less, Equal, Greater, is_lt, is_eq, arith, append_assoc, length-append}, lemmas.Bool.{lt-ltb, le-ltb}, lemmas.List.{append-nil, length-map}}
 use Rattle.std.proofs.lemmas.Grind.{flat_map-append}
-use Rattle.t1_font.specs.FontValue.{FontValue, Encoding, Word, Codes, Numbered, Named, declared_count, names_in}
-use Rattle.t1_font.specs.FontModel.{subr_at, subrs_below, name_at, word_of}
-use Rattle.t1_font.specs.IsFont.{IsFont, IsEncoding}
-use Rattle.t1_font.proofs.FontReaders.{subrs_seen}
-use Rattle.t1_font.proofs.MapLemmas.{T_true, entries_all}
+use Rattle.std.specs.{List.{filter, flat_map, AllByRecursion}, Ordering.{nat_cmp}, Cmp.{IsTotalOrder, nat_cmp_total, ranked}, Cmp.Lexicographic.{nat_list_cmp_total}}
+use Rattle.std.specs.FinMap.{FinMap, get, len, len-entries, contains_key, entries, entries_sorted, find, is_sorted, get-entries, IsAntisymmetric, nat_cmp-IsAntisymmetric, slice_cmp-IsAntisymmetric}
+use Rattle.std.specs.FinMap.Entries.{below_all}
+use Rattle.t1_font.specs.{FontValue.{FontValue, Encoding, Word, Codes, Numbered, Named, declared_count, names_in}, FontModel.{subr_at, subrs_below, name_at, word_of}, IsFont.{IsFont, IsEncoding}}
+use Rattle.t1_font.proofs.{FontReaders.{subrs_seen}, MapLemmas.{T_true, entries_all}}
 use Rattle.t1_cmd.specs.ListText.{line_at, code_line, subr_length_line, glyph_length_line, encoding_lines}
 
 -- the entries whose keys are below n

@@ -1,39 +1,15 @@
 -- The written subsets of one font merge to the subset over all the names.
-use Rattle.std.proofs.Common.{◌≡◌, ◌≤◌, ℕ, ◌+◌, false, Bool, nat_lt, if◌then◌else◌, refl, ◌∙◌, ap, subst, List, [], ◌∷◌, map}
-use Rattle.std.proofs.Common.{length}
-use Rattle.std.proofs.Common.{Option, None, Some, Result, Ok, Err, option_and_then}
-use Rattle.std.specs.Prelude.{IfOk, IfErr, MatchResult}
-use Rattle.std.specs.List.{AllByRecursion}
+use Rattle.std.proofs.Common.{◌≡◌, ◌≤◌, ℕ, ◌+◌, false, Bool, nat_lt, if◌then◌else◌, refl, ◌∙◌, ap, subst, List, [], ◌∷◌, map, length, Option, None, Some, Result, Ok, Err, option_and_then}
 use Rattle.std.proofs.lemmas.Bool.{le-ltb}
-use Rattle.std.specs.Result.{result_ok}
-use Rattle.t1_bytes.specs.declared.form.Form.{Form}
-use Rattle.t1_font.specs.FontValue.{FontValue}
-use Rattle.t1_font.specs.IsFont.{IsFont}
-use Rattle.t1_font.specs.Canon.{canon, Fits}
-use Rattle.t1_font.specs.ReadFont.{read_font}
-use Rattle.t1_font.proofs.canonical.LengthLemmas.{canon_short}
-use Rattle.t1_subset.specs.declared.conflict.Conflict.{Conflict as Refusal}
-use Rattle.t1_algebra.specs.Interpreter.{Names}
-use Rattle.t1_algebra.specs.Profile.{profile}
-use Rattle.t1_algebra.specs.Keep.{subset, IsOf}
-use Rattle.t1_subset.specs.Merger.{NotMerged}
-use Rattle.t1_algebra.specs.Groupings.{union_all}
-use Rattle.t1_algebra.proofs.Fonts.{subset_is_font}
-use Rattle.t1_algebra.proofs.Headline.{subset_again}
-use Rattle.t1_subset.proofs.Answered.{of_all_subsets}
-use Rattle.t1_cmd.specs.declared.counting.Counted.{Counted}
-use Rattle.t1_cmd.specs.declared.faults.Reason.{Reason}
-use Rattle.t1_cmd.specs.declared.faults.Reason.TheVariants.{TooLong, Memory, List as ListReason, Join as JoinReason, Font, NoGlyph, NoCode, NoFont, Lacks, Merge}
-use Rattle.t1_cmd.specs.declared.faults.RunFault.{RunFault}
-use Rattle.t1_cmd.specs.Inputs.{Input, values_of, value_and}
-use Rattle.t1_bytes.specs.Limits.{file_limit}
-use Rattle.t1_cmd.specs.Answers.{with_reason}
-use Rattle.t1_cmd.specs.declared.faults.FilesRefusal.{FilesRefusal}
-use Rattle.t1_cmd.specs.Files.{Values, value_before, values_from, OfFiles, RefusesFiles}
-use Rattle.t1_cmd.specs.Runs.{RunEnds}
-use Rattle.t1_cmd.specs.Fonts.{font_input, font_reason}
-use Rattle.t1_cmd.specs.Mergers.{IsTold, MergesToFile}
-use Rattle.t1_cmd.specs.WrittenSubsets.{AreSubsetFiles, OfUnion, IsSubset, AreSubsets, WritesUnion}
+use Rattle.std.specs.{Prelude.{IfOk, IfErr, MatchResult}, List.{AllByRecursion}, Result.{result_ok}}
+use Rattle.t1_bytes.specs.{declared.form.Form.{Form}, Limits.{file_limit}}
+use Rattle.t1_font.{specs.{FontValue.{FontValue}, IsFont.{IsFont}, Canon.{canon, Fits}, ReadFont.{read_font}}, proofs.canonical.LengthLemmas.{canon_short}}
+use Rattle.t1_subset.{specs.{declared.conflict.Conflict.{Conflict as Refusal}, Merger.{NotMerged}}, proofs.Answered.{of_all_subsets}}
+use Rattle.t1_algebra.{specs.{Interpreter.{Names}, Profile.{profile}, Keep.{subset, IsOf}, Groupings.{union_all}}, proofs.{Fonts.{subset_is_font}, Headline.{subset_again}}}
+use Rattle.t1_cmd.specs.{declared.counting.Counted.{Counted}, declared.faults.Reason.{Reason}}
+use Rattle.t1_cmd.specs.{declared.faults.Reason.TheVariants.{TooLong, Memory, List as ListReason, Join as JoinReason, Font, NoGlyph, NoCode, NoFont, Lacks, Merge}, declared.faults.RunFault.{RunFault}}
+use Rattle.t1_cmd.specs.{Inputs.{Input, values_of, value_and}, Answers.{with_reason}, declared.faults.FilesRefusal.{FilesRefusal}, Files.{Values, value_before, values_from, OfFiles, RefusesFiles}}
+use Rattle.t1_cmd.specs.{Runs.{RunEnds}, Fonts.{font_input, font_reason}, Mergers.{IsTold, MergesToFile}, WrittenSubsets.{AreSubsetFiles, OfUnion, IsSubset, AreSubsets, WritesUnion}}
 use Rattle.t1_cmd.proofs.OneAnswer.{OneAnswer, files_answered, inputs_answered}
 
 -- a length within the limit is not over it

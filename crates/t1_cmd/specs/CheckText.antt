@@ -1,7 +1,5 @@
 -- The line that tells of a font that reads.
-use Rattle.std.specs.Prelude.{ℕ, List, [], ◌∷◌, ◌++◌, codes, Result, Ok}
-use Rattle.std.specs.Fmt.{decimal}
-use Rattle.std.specs.FinMap.{len}
+use Rattle.std.specs.{Prelude.{ℕ, List, [], ◌∷◌, ◌++◌, codes, Result, Ok}, Fmt.{decimal}, FinMap.{len}}
 use Rattle.t1_font.specs.FontValue.{FontValue, weight}
 use Rattle.t1_cmd.specs.declared.faults.Reason.{Reason}
 

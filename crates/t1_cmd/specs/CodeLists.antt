@@ -1,6 +1,5 @@
 -- Lists of codes as the program is given them, such as `65-90,97`.
-use Rattle.std.specs.Prelude.{ℕ, ◌+◌, ◌-◌, ◌==◌, ◌&&◌, nat_le, cond, List, [], ◌∷◌, ◌++◌, length, Option, Some, None, zero, suc, option_and_then}
-use Rattle.std.specs.Option.{option_map}
+use Rattle.std.specs.{Prelude.{ℕ, ◌+◌, ◌-◌, ◌==◌, ◌&&◌, nat_le, cond, List, [], ◌∷◌, ◌++◌, length, Option, Some, None, zero, suc, option_and_then}, Option.{option_map}}
 use Rattle.t1_join.specs.ListingText.{split_at, number_after, up_to}
 
 -- a code in one to three decimal digits

@@ -1,21 +1,9 @@
 -- What fonts rejoin to where their files, or the inputs of an engine, are cuts of one font, as other programs make them.
-use Rattle.std.specs.Prelude.{◌≡◌, ℕ, true, List, [], ◌∷◌, Option, Some, Result, Ok}
-use Rattle.std.specs.List.{AllByRecursion}
+use Rattle.std.specs.{Prelude.{◌≡◌, ℕ, true, List, [], ◌∷◌, Option, Some, Result, Ok}, List.{AllByRecursion}}
 use Rattle.t1_bytes.specs.declared.form.Form.{Form}
-use Rattle.t1_font.specs.FontValue.{FontValue}
-use Rattle.t1_font.specs.FontModel.{subr_at}
-use Rattle.t1_font.specs.IsFont.{IsFont}
-use Rattle.t1_font.specs.Canon.{canon}
-use Rattle.t1_algebra.specs.Keep.{has}
-use Rattle.t1_algebra.specs.Evened.{StaysDrawn, map_subrs}
-use Rattle.t1_algebra.specs.Rejoins.{Truncated, IsTruncated, GetBox, rejoined}
-use Rattle.t1_font.specs.FontBoxes.{Box}
-use Rattle.t1_cmd.specs.declared.counting.Counted.{Counted}
-use Rattle.t1_cmd.specs.declared.faults.RunFault.{RunFault}
-use Rattle.t1_cmd.specs.Inputs.{Input}
-use Rattle.t1_cmd.specs.Fonts.{mended_input}
-use Rattle.t1_cmd.specs.Rejoins.{RejoinsTo}
-use Rattle.t1_cmd.specs.WrittenSubsets.{Writes}
+use Rattle.t1_font.specs.{FontValue.{FontValue}, FontModel.{subr_at}, IsFont.{IsFont}, Canon.{canon}, FontBoxes.{Box}}
+use Rattle.t1_algebra.specs.{Keep.{has}, Evened.{StaysDrawn, map_subrs}, Rejoins.{Truncated, IsTruncated, GetBox, rejoined}}
+use Rattle.t1_cmd.specs.{declared.counting.Counted.{Counted}, declared.faults.RunFault.{RunFault}, Inputs.{Input}, Fonts.{mended_input}, Rejoins.{RejoinsTo}, WrittenSubsets.{Writes}}
 
 -- ---- files
 

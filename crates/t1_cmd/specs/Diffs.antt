@@ -1,13 +1,8 @@
 -- What the engine that compares two fonts writes.
-use Rattle.std.specs.Prelude.{◌≡◌, ◌↔◌, ℕ, Bool, true, List, [], ◌∷◌, ◌++◌, Result, Ok}
-use Rattle.std.specs.List.{flat_map}
+use Rattle.std.specs.{Prelude.{◌≡◌, ◌↔◌, ℕ, Bool, true, List, [], ◌∷◌, ◌++◌, Result, Ok}, List.{flat_map}}
 use Rattle.t1_font.specs.FontValue.{FontValue}
-use Rattle.t1_algebra.specs.Profile.{profile}
-use Rattle.t1_algebra.specs.States.{Join}
-use Rattle.t1_algebra.specs.Conflicts.{conflicts}
-use Rattle.t1_subset.specs.declared.conflict.Conflict.{Conflict}
-use Rattle.t1_subset.specs.FaultTexts.{conflict_text}
-use Rattle.t1_subset.specs.Refusals.{TellEach}
+use Rattle.t1_algebra.specs.{Profile.{profile}, States.{Join}, Conflicts.{conflicts}}
+use Rattle.t1_subset.specs.{declared.conflict.Conflict.{Conflict}, FaultTexts.{conflict_text}, Refusals.{TellEach}}
 use Rattle.t1_cmd.specs.declared.faults.Reason.{Reason}
 
 -- the line of a conflict

@@ -1,18 +1,10 @@
 -- What the engines over documents read and write.
-use Rattle.std.specs.Prelude.{◌≡◌, ℕ, Bool, true, false, ◌≤◌, ◌<◌, List, [], ◌∷◌, ◌++◌, length, codes, Option, Some, Result, Ok, Err}
-use Rattle.std.specs.List.{flat_map}
+use Rattle.std.specs.{Prelude.{◌≡◌, ℕ, Bool, true, false, ◌≤◌, ◌<◌, List, [], ◌∷◌, ◌++◌, length, codes, Option, Some, Result, Ok, Err}, List.{flat_map}}
 use Rattle.t1_bytes.specs.Limits.{file_limit}
 use Rattle.t1_join.specs.Shown.{shown}
-use Rattle.t1_document.specs.declared.joins.Outcome.{Outcome}
-use Rattle.t1_document.specs.declared.joins.Outcome.TheVariants.{Stays}
-use Rattle.t1_document.specs.Lines.{one_text}
-use Rattle.t1_document.specs.Documents.{Place, document_of}
-use Rattle.t1_document.specs.Joins.{Outcomes, AreOutcomes, PooledBy, kept_text, names_from}
-use Rattle.t1_document.specs.Families.{family_members}
-use Rattle.t1_document.specs.FamilyLaws.{PooledByFamilies}
-use Rattle.t1_cmd.specs.declared.faults.Reason.{Reason}
-use Rattle.t1_cmd.specs.declared.faults.Reason.TheVariants.{TooLong}
-use Rattle.t1_cmd.specs.Answers.{within_limit}
+use Rattle.t1_document.specs.{declared.joins.Outcome.{Outcome}, declared.joins.Outcome.TheVariants.{Stays}, Lines.{one_text}, Documents.{Place, document_of}}
+use Rattle.t1_document.specs.{Joins.{Outcomes, AreOutcomes, PooledBy, kept_text, names_from}, Families.{family_members}, FamilyLaws.{PooledByFamilies}}
+use Rattle.t1_cmd.specs.{declared.faults.Reason.{Reason}, declared.faults.Reason.TheVariants.{TooLong}, Answers.{within_limit}}
 
 -- the bytes of a document
 abbrev pub text_input : List ℕ → Result (List ℕ) Reason

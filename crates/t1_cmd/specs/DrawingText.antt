@@ -1,18 +1,10 @@
 -- The lines of a drawing.
-use Rattle.std.specs.Prelude.{ℕ, ◌+◌, ◌/◌, ◌%◌, ℤ, pos, negsuc, List, [], ◌∷◌, ◌++◌, codes, Result, Ok, Err, if◌then◌else◌, ◌==◌}
-use Rattle.std.specs.Fmt.{decimal}
-use Rattle.std.specs.List.{flat_map}
-use Rattle.std.specs.FinMap.{get}
-use Rattle.t1_run.specs.declared.answer.Point.{Point}
-use Rattle.t1_run.specs.declared.answer.Mark.{Mark}
-use Rattle.t1_run.specs.declared.answer.Mark.TheVariants as mark
-use Rattle.t1_run.specs.declared.drawings.DrawFault.{DrawFault}
-use Rattle.t1_run.specs.declared.drawings.DrawFault.TheVariants.{NoGlyph}
-use Rattle.t1_run.specs.FaultNames.{fault_name}
-use Rattle.t1_run.specs.Drawings.{Picture, Drawn, Undrawn, draw}
-use Rattle.t1_font.specs.FontValue.{FontValue}
-use Rattle.t1_font.specs.FontModel.{subr_at}
+use Rattle.std.specs.{Prelude.{ℕ, ◌+◌, ◌/◌, ◌%◌, ℤ, pos, negsuc, List, [], ◌∷◌, ◌++◌, codes, Result, Ok, Err, if◌then◌else◌, ◌==◌}, Fmt.{decimal}, List.{flat_map}, FinMap.{get}}
+use Rattle.t1_run.specs.{declared.answer.Point.{Point}, declared.answer.Mark.{Mark}, declared.drawings.DrawFault.{DrawFault}, declared.drawings.DrawFault.TheVariants.{NoGlyph}}
+use Rattle.t1_run.specs.{FaultNames.{fault_name}, Drawings.{Picture, Drawn, Undrawn, draw}}
+use Rattle.t1_font.specs.{FontValue.{FontValue}, FontModel.{subr_at}}
 use Rattle.t1_cmd.specs.declared.faults.Reason.{Reason}
+use Rattle.t1_run.specs.declared.answer.Mark.TheVariants as mark
 use Rattle.t1_cmd.specs.declared.faults.Reason.TheVariants as reason
 
 -- this many 1/65536 of a unit: whole units as a decimal, any other as the count

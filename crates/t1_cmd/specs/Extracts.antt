@@ -1,18 +1,9 @@
 -- The font of a name, taken out of documents.
-use Rattle.std.specs.Prelude.{◌≡◌, ℕ, ◌≤◌, List, length, Option, Some, None, Result, Ok, Err}
-use Rattle.std.specs.List.{find}
-use Rattle.std.specs.Str.{bytes_eq}
-use Rattle.t1_bytes.specs.declared.form.Form.TheVariants.{Pfa}
-use Rattle.t1_bytes.specs.Limits.{file_limit}
-use Rattle.t1_font.specs.FontValue.{FontValue}
-use Rattle.t1_font.specs.ReadFont.{read_font_widely}
-use Rattle.t1_font.specs.FontTest.{untested_font}
-use Rattle.t1_font.specs.Canon.{canon}
-use Rattle.t1_document.specs.Documents.{Place}
-use Rattle.t1_cmd.specs.declared.faults.Reason.{Reason}
-use Rattle.t1_cmd.specs.declared.faults.Reason.TheVariants.{NoFont}
-use Rattle.t1_cmd.specs.Fonts.{of_mended, file_answer}
-use Rattle.t1_document.specs.Joins.{places_of_all}
+use Rattle.std.specs.{Prelude.{◌≡◌, ℕ, ◌≤◌, List, length, Option, Some, None, Result, Ok, Err}, List.{find}, Str.{bytes_eq}}
+use Rattle.t1_bytes.specs.{declared.form.Form.TheVariants.{Pfa}, Limits.{file_limit}}
+use Rattle.t1_font.specs.{FontValue.{FontValue}, ReadFont.{read_font_widely}, FontTest.{untested_font}, Canon.{canon}}
+use Rattle.t1_document.specs.{Documents.{Place}, Joins.{places_of_all}}
+use Rattle.t1_cmd.specs.{declared.faults.Reason.{Reason}, declared.faults.Reason.TheVariants.{NoFont}, Fonts.{of_mended, file_answer}}
 
 -- the first place of a name
 abbrev pub first_named : List ℕ → List Place → Option Place

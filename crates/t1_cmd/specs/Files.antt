@@ -1,9 +1,6 @@
 -- What lists of files come to.
 use Rattle.std.specs.Prelude.{◌≡◌, ℕ, ◌+◌, List, [], ◌∷◌, Option, None, Some, Result, Ok, Err}
-use Rattle.t1_cmd.specs.declared.faults.Reason.{Reason}
-use Rattle.t1_cmd.specs.declared.faults.Reason.TheVariants.{Memory}
-use Rattle.t1_cmd.specs.declared.faults.FilesRefusal.{FilesRefusal}
-use Rattle.t1_cmd.specs.Answers.{MayRefuse}
+use Rattle.t1_cmd.specs.{declared.faults.Reason.{Reason}, declared.faults.Reason.TheVariants.{Memory}, declared.faults.FilesRefusal.{FilesRefusal}, Answers.{MayRefuse}}
 
 -- what files say, or the place of a file that is refused, and why
 abbrev pub Values : Type 0 → Type 0

@@ -1,17 +1,10 @@
 -- The places of fonts in documents, as they are listed.
-use Rattle.std.specs.Prelude.{◌≡◌, ℕ, ◌+◌, List, [], ◌∷◌, ◌++◌, length, get_or, filter, codes, Bool, true, false, Option, Some, Result, Ok, Err}
-use Rattle.std.specs.Fmt.{decimal}
-use Rattle.std.specs.FinMap.{len}
-use Rattle.t1_font.specs.declared.fault.ReadFault.{ReadFault}
-use Rattle.t1_font.specs.FontValue.{FontValue}
-use Rattle.t1_font.specs.ReadFont.{read_font_widely}
+use Rattle.std.specs.{Prelude.{◌≡◌, ℕ, ◌+◌, List, [], ◌∷◌, ◌++◌, length, get_or, filter, codes, Bool, true, false, Option, Some, Result, Ok, Err}, Fmt.{decimal}, FinMap.{len}}
+use Rattle.t1_font.specs.{declared.fault.ReadFault.{ReadFault}, FontValue.{FontValue}, ReadFont.{read_font_widely}}
 use Rattle.t1_join.specs.Shown.{shown}
-use Rattle.t1_document.specs.declared.joins.Outcome.{Outcome}
-use Rattle.t1_document.specs.declared.joins.Outcome.TheVariants.{Stays}
-use Rattle.t1_document.specs.Documents.{Place, place_bytes, document_of}
-use Rattle.t1_document.specs.Joins.{Outcomes, AreOutcomes, kept_text, names_from}
+use Rattle.t1_document.specs.{declared.joins.Outcome.{Outcome}, declared.joins.Outcome.TheVariants.{Stays}, Documents.{Place, place_bytes, document_of}}
+use Rattle.t1_document.specs.Joins.{Outcomes, AreOutcomes, kept_text, names_from, places_of_all}
 use Rattle.t1_cmd.specs.declared.faults.Reason.{Reason}
-use Rattle.t1_document.specs.Joins.{places_of_all}
 
 -- ---- the line of a place
 

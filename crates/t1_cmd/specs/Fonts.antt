@@ -1,17 +1,10 @@
 -- What the engines over one font read and write.
 use Rattle.std.specs.Prelude.{ℕ, List, Result, Ok}
 use Rattle.t1_bytes.specs.declared.form.Form.{Form}
-use Rattle.t1_font.specs.declared.fault.ReadFault.{ReadFault}
+use Rattle.t1_font.specs.{declared.fault.ReadFault.{ReadFault}, FontValue.{FontValue}, ReadFont.{read_font, read_font_widely}, FontTest.{untested_font}, Canon.{canon}}
+use Rattle.t1_cmd.specs.{declared.words.Taking.{Taking}, declared.words.Taking.TheVariants.{Spelled, Mended}, declared.faults.Reason.{Reason}}
+use Rattle.t1_cmd.specs.{declared.faults.Reason.TheVariants.{TooLong, Memory, Font}, Answers.{with_reason, within_limit, if_there}}
 use Rattle.t1_font.specs.declared.fault.ReadFault.TheVariants as faults
-use Rattle.t1_font.specs.FontValue.{FontValue}
-use Rattle.t1_font.specs.ReadFont.{read_font, read_font_widely}
-use Rattle.t1_font.specs.FontTest.{untested_font}
-use Rattle.t1_font.specs.Canon.{canon}
-use Rattle.t1_cmd.specs.declared.words.Taking.{Taking}
-use Rattle.t1_cmd.specs.declared.words.Taking.TheVariants.{Spelled, Mended}
-use Rattle.t1_cmd.specs.declared.faults.Reason.{Reason}
-use Rattle.t1_cmd.specs.declared.faults.Reason.TheVariants.{TooLong, Memory, Font}
-use Rattle.t1_cmd.specs.Answers.{with_reason, within_limit, if_there}
 
 -- a fault of reading as a reason
 abbrev pub font_reason : ReadFault → Reason

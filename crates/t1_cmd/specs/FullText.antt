@@ -1,17 +1,11 @@
 -- The lines that `list` adds in full: what the font's dictionary says, and the widths of the glyphs.
-use Rattle.std.specs.Prelude.{ℕ, ◌==◌, ◌||◌, not, Bool, false, List, [], ◌∷◌, ◌++◌, codes, Option, Some, None, Result, Ok, if◌then◌else◌}
-use Rattle.std.specs.List.{flat_map}
-use Rattle.std.specs.FinMap.{get}
+use Rattle.std.specs.{Prelude.{ℕ, ◌==◌, ◌||◌, not, Bool, false, List, [], ◌∷◌, ◌++◌, codes, Option, Some, None, Result, Ok, if◌then◌else◌}, List.{flat_map}, FinMap.{get}}
 use Rattle.t1_grammar.specs.Grammar.{fixed}
 use Rattle.t1_bytes.specs.White.{is_white}
 use Rattle.t1_run.specs.Drawings.{Picture, Drawn, Undrawn, draw}
-use Rattle.t1_font.specs.FontValue.{FontValue, names_in}
-use Rattle.t1_font.specs.FontModel.{subr_at}
-use Rattle.t1_join.specs.Shown.{shown}
-use Rattle.t1_join.specs.ListingMeaning.{ends_name}
-use Rattle.t1_cmd.specs.declared.faults.Reason.{Reason}
-use Rattle.t1_cmd.specs.DrawingText.{line, fault_line}
-use Rattle.t1_cmd.specs.ListText.{list_lines}
+use Rattle.t1_font.specs.{FontValue.{FontValue, names_in}, FontModel.{subr_at}}
+use Rattle.t1_join.specs.{Shown.{shown}, ListingMeaning.{ends_name}}
+use Rattle.t1_cmd.specs.{declared.faults.Reason.{Reason}, DrawingText.{line, fault_line}, ListText.{list_lines}}
 
 -- ---- what the dictionary says
 

@@ -1,9 +1,6 @@
 -- What an engine's readers have, and how they are understood one after the other.
-use Rattle.std.specs.Prelude.{ℕ, ◌≡◌, ◌<◌, ◌≤◌, List, [], ◌∷◌, ◌⊎◌, Option, None, Some, Result, Ok, Err, IfSome, IsOk, option_and_then}
-use Rattle.std.specs.Result.{result_ok}
-use Rattle.t1_cmd.specs.declared.counting.Counted.{Counted}
-use Rattle.t1_cmd.specs.declared.faults.Reason.{Reason}
-use Rattle.t1_cmd.specs.Count.{next_count, last_count, inner_of, failed_of}
+use Rattle.std.specs.{Prelude.{ℕ, ◌≡◌, ◌<◌, ◌≤◌, List, [], ◌∷◌, ◌⊎◌, Option, None, Some, Result, Ok, Err, IfSome, IsOk, option_and_then}, Result.{result_ok}}
+use Rattle.t1_cmd.specs.{declared.counting.Counted.{Counted}, declared.faults.Reason.{Reason}, Count.{next_count, last_count, inner_of, failed_of}}
 
 -- one reader: its bytes, where these are known, and its failed calls before and after
 pub record Input : Type 0 where

@@ -1,8 +1,5 @@
 -- The lines that list a font.
-use Rattle.std.specs.Prelude.{ℕ, List, [], ◌∷◌, ◌++◌, length, codes, Option, Some, None, Result, Ok}
-use Rattle.std.specs.Fmt.{decimal}
-use Rattle.std.specs.List.{flat_map}
-use Rattle.std.specs.FinMap.{entries}
+use Rattle.std.specs.{Prelude.{ℕ, List, [], ◌∷◌, ◌++◌, length, codes, Option, Some, None, Result, Ok}, Fmt.{decimal}, List.{flat_map}, FinMap.{entries}}
 use Rattle.t1_font.specs.FontValue.{FontValue, Encoding, Word, Codes}
 use Rattle.t1_cmd.specs.declared.faults.Reason.{Reason}
 use Rattle.t1_join.specs.Shown.{shown}

@@ -1,19 +1,10 @@
 -- What the engine of listings answers.
 use Rattle.std.specs.Prelude.{ℕ, ◌≡◌, ◌⊎◌, List, [], ◌∷◌, Result, Ok, Err, IfSome}
-use Rattle.t1_join.specs.declared.listing.ListFault.{ListFault}
-use Rattle.t1_join.specs.declared.listing.ListFault.TheVariants.{BadLine, Repeated, Memory as ListMemory}
-use Rattle.t1_join.specs.declared.listing.JoinFault.{JoinFault}
-use Rattle.t1_join.specs.declared.listing.JoinFault.TheVariants.{Subr, Glyph, Memory as JoinMemory}
-use Rattle.t1_join.specs.ListingMeaning.{ListingMeaning}
-use Rattle.t1_join.specs.ListingText.{listing_of, text_of}
+use Rattle.t1_join.specs.{declared.listing.ListFault.{ListFault}, declared.listing.ListFault.TheVariants.{BadLine, Repeated, Memory as ListMemory}, declared.listing.JoinFault.{JoinFault}}
+use Rattle.t1_join.specs.{declared.listing.JoinFault.TheVariants.{Subr, Glyph, Memory as JoinMemory}, ListingMeaning.{ListingMeaning}, ListingText.{listing_of, text_of}}
 use Rattle.t1_join.specs.ListingJoin.{IsJoined, IsJoinFault}
-use Rattle.t1_cmd.specs.declared.faults.Reason.{Reason}
-use Rattle.t1_cmd.specs.declared.faults.Reason.TheVariants.{Memory, List as ListReason, Join as JoinReason}
-use Rattle.t1_cmd.specs.declared.faults.RunFault.{RunFault}
-use Rattle.t1_cmd.specs.declared.faults.RunFault.TheVariants.{Refused}
-use Rattle.t1_cmd.specs.Inputs.{Input}
-use Rattle.t1_cmd.specs.Runs.{InputStops}
-use Rattle.t1_cmd.specs.Answers.{with_reason, within_limit, MayRefuse}
+use Rattle.t1_cmd.specs.{declared.faults.Reason.{Reason}, declared.faults.Reason.TheVariants.{Memory, List as ListReason, Join as JoinReason}, declared.faults.RunFault.{RunFault}}
+use Rattle.t1_cmd.specs.{declared.faults.RunFault.TheVariants.{Refused}, Inputs.{Input}, Runs.{InputStops}, Answers.{with_reason, within_limit, MayRefuse}}
 
 -- a fault of a listing as a reason
 abbrev pub list_reason : ListFault → Reason

@@ -1,20 +1,12 @@
 -- What the engine that merges fonts reads and writes.
 use Rattle.std.specs.Prelude.{◌≡◌, ℕ, ◌+◌, ◌≤◌, List, [], ◌∷◌, Option, Result, Ok, Err}
-use Rattle.t1_bytes.specs.declared.form.Form.{Form}
-use Rattle.t1_font.specs.FontValue.{FontValue}
-use Rattle.t1_font.specs.Canon.{canon}
-use Rattle.t1_subset.specs.declared.conflict.Conflict.{Conflict}
-use Rattle.t1_subset.specs.declared.conflict.Conflict.TheVariants as conflict
-use Rattle.t1_subset.specs.Merger.{NotMerged}
+use Rattle.t1_bytes.specs.{declared.form.Form.{Form}, Limits.{file_limit}}
+use Rattle.t1_font.specs.{FontValue.{FontValue}, Canon.{canon}}
+use Rattle.t1_subset.specs.{declared.conflict.Conflict.{Conflict}, Merger.{NotMerged}}
 use Rattle.t1_algebra.specs.Merges.{ComesTo}
-use Rattle.t1_cmd.specs.declared.counting.Counted.{Counted}
-use Rattle.t1_cmd.specs.declared.faults.Reason.{Reason}
-use Rattle.t1_cmd.specs.declared.faults.Reason.TheVariants.{Memory, Merge}
-use Rattle.t1_cmd.specs.declared.faults.RunFault.{RunFault}
-use Rattle.t1_cmd.specs.declared.faults.RunFault.TheVariants.{Refused, Read, Write}
-use Rattle.t1_cmd.specs.Count.{calls_counted}
-use Rattle.t1_cmd.specs.Inputs.{Input, HasFailed, IsRefused, FirstWith, input_of}
-use Rattle.t1_bytes.specs.Limits.{file_limit}
+use Rattle.t1_cmd.specs.{declared.counting.Counted.{Counted}, declared.faults.Reason.{Reason}, declared.faults.Reason.TheVariants.{Memory, Merge}, declared.faults.RunFault.{RunFault}}
+use Rattle.t1_cmd.specs.{declared.faults.RunFault.TheVariants.{Refused, Read, Write}, Count.{calls_counted}, Inputs.{Input, HasFailed, IsRefused, FirstWith, input_of}}
+use Rattle.t1_subset.specs.declared.conflict.Conflict.TheVariants as conflict
 
 -- ---- readers
 

@@ -1,20 +1,10 @@
 -- What the engine that rejoins fonts writes: fonts that other programs cut are made even, and merged.
-use Rattle.std.specs.Prelude.{◌≡◌, ◌⊎◌, ℕ, List, Option, Some, None, Result, Ok, Err}
+use Rattle.std.specs.{Prelude.{◌≡◌, ◌⊎◌, ℕ, List, Option, Some, None, Result, Ok, Err}, List.{AllByRecursion}}
 use Rattle.t1_bytes.specs.declared.form.Form.{Form}
-use Rattle.std.specs.List.{AllByRecursion}
-use Rattle.t1_font.specs.FontValue.{FontValue}
-use Rattle.t1_font.specs.IsFont.{IsFont}
-use Rattle.t1_font.specs.Canon.{canon}
-use Rattle.t1_font.specs.Evening.{evened_shells, evened}
-use Rattle.t1_font.specs.Filling.{AreLight, AnyHeavy}
-use Rattle.t1_subset.specs.Refusals.{Tells}
-use Rattle.t1_subset.specs.Rejoins.{heavy_conflict}
-use Rattle.t1_algebra.specs.Lacks.{Lack, first_lack}
-use Rattle.t1_algebra.specs.Merges.{ComesTo}
-use Rattle.t1_algebra.specs.Rejoins.{with_even_texts}
-use Rattle.t1_cmd.specs.declared.faults.Reason.{Reason}
-use Rattle.t1_cmd.specs.declared.faults.Reason.TheVariants.{Lacks, Merge}
-use Rattle.t1_cmd.specs.Mergers.{IsTold, MergesToFile}
+use Rattle.t1_font.specs.{FontValue.{FontValue}, IsFont.{IsFont}, Canon.{canon}, Evening.{evened_shells, evened}, Filling.{AreLight, AnyHeavy}}
+use Rattle.t1_subset.specs.{Refusals.{Tells}, Rejoins.{heavy_conflict}}
+use Rattle.t1_algebra.specs.{Lacks.{Lack, first_lack}, Merges.{ComesTo}, Rejoins.{with_even_texts}}
+use Rattle.t1_cmd.specs.{declared.faults.Reason.{Reason}, declared.faults.Reason.TheVariants.{Lacks, Merge}, Mergers.{IsTold, MergesToFile}}
 
 -- why fonts of which one is too heavy once it has its stubs don't merge is told
 abbrev pub TellsHeavy : List FontValue → Result (List ℕ) Reason → Type 0

@@ -1,18 +1,11 @@
 -- What the engine that subsets a font writes.
-use Rattle.std.specs.Prelude.{◌≡◌, ℕ, List, [], ◌∷◌, ◌++◌, codes, not, if◌then◌else◌, Option, Some, None, Result, Ok, Err}
-use Rattle.std.specs.FinMap.{get}
-use Rattle.std.specs.FinSet as sets
-use Rattle.std.specs.Str.{bytes_eq}
-use Rattle.std.specs.List.{find}
+use Rattle.std.specs.{Prelude.{◌≡◌, ℕ, List, [], ◌∷◌, ◌++◌, codes, not, if◌then◌else◌, Option, Some, None, Result, Ok, Err}, FinMap.{get}, Str.{bytes_eq}, List.{find}}
 use Rattle.t1_bytes.specs.declared.form.Form.{Form}
 use Rattle.t1_run.specs.Standard.{standard_name}
-use Rattle.t1_font.specs.FontValue.{FontValue, Encoding, Word, Codes}
-use Rattle.t1_font.specs.Canon.{canon}
-use Rattle.t1_algebra.specs.Profile.{profile}
-use Rattle.t1_algebra.specs.Keep.{has, subset}
-use Rattle.t1_cmd.specs.declared.faults.Reason.{Reason}
-use Rattle.t1_cmd.specs.declared.faults.Reason.TheVariants.{NoGlyph, NoCode}
-use Rattle.t1_cmd.specs.Answers.{if_there}
+use Rattle.t1_font.specs.{FontValue.{FontValue, Encoding, Word, Codes}, Canon.{canon}}
+use Rattle.t1_algebra.specs.{Profile.{profile}, Keep.{has, subset}}
+use Rattle.t1_cmd.specs.{declared.faults.Reason.{Reason}, declared.faults.Reason.TheVariants.{NoGlyph, NoCode}, Answers.{if_there}}
+use Rattle.std.specs.FinSet as sets
 
 -- the first of these names that the font lacks
 abbrev pub first_absent : FontValue → List (List ℕ) → Option (List ℕ)

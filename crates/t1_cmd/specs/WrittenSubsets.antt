@@ -1,21 +1,10 @@
 -- What fonts merge to where their files, or the inputs of an engine, are the written subsets of one font.
-use Rattle.std.specs.Prelude.{◌≡◌, ℕ, List, [], ◌∷◌, ◌⊎◌, Option, Some, Result, Ok, Err}
-use Rattle.std.specs.Io.KnownBytes.{Appends}
+use Rattle.std.specs.{Prelude.{◌≡◌, ℕ, List, [], ◌∷◌, ◌⊎◌, Option, Some, Result, Ok, Err}, Io.KnownBytes.{Appends}}
 use Rattle.t1_bytes.specs.declared.form.Form.{Form}
-use Rattle.t1_font.specs.FontValue.{FontValue}
-use Rattle.t1_font.specs.IsFont.{IsFont}
-use Rattle.t1_font.specs.Canon.{canon, Fits}
-use Rattle.t1_algebra.specs.Interpreter.{Names}
-use Rattle.t1_algebra.specs.Profile.{profile}
-use Rattle.t1_algebra.specs.Keep.{subset, IsOf}
-use Rattle.t1_algebra.specs.Groupings.{union_all}
-use Rattle.t1_cmd.specs.declared.counting.Counted.{Counted}
-use Rattle.t1_cmd.specs.declared.faults.Reason.TheVariants.{Memory}
-use Rattle.t1_cmd.specs.declared.faults.RunFault.{RunFault}
-use Rattle.t1_cmd.specs.declared.faults.RunFault.TheVariants.{Refused, Read, Write}
-use Rattle.t1_cmd.specs.Count.{inner_of, failed_of}
-use Rattle.t1_cmd.specs.Inputs.{Input, RoseByOne, HasFailed}
-use Rattle.t1_cmd.specs.Runs.{AppendsPrefix}
+use Rattle.t1_font.specs.{FontValue.{FontValue}, IsFont.{IsFont}, Canon.{canon, Fits}}
+use Rattle.t1_algebra.specs.{Interpreter.{Names}, Profile.{profile}, Keep.{subset, IsOf}, Groupings.{union_all}}
+use Rattle.t1_cmd.specs.{declared.counting.Counted.{Counted}, declared.faults.Reason.TheVariants.{Memory}, declared.faults.RunFault.{RunFault}}
+use Rattle.t1_cmd.specs.{declared.faults.RunFault.TheVariants.{Refused, Read, Write}, Count.{inner_of, failed_of}, Inputs.{Input, RoseByOne, HasFailed}, Runs.{AppendsPrefix}}
 
 -- ---- files
 

@@ -1,30 +1,15 @@
 -- What was joined is joined to itself.
-use Rattle.std.proofs.Common.{◌≡◌, ℕ, Bool, true, false, cond, refl, sym, ◌∙◌, ap, subst, List, [], ◌∷◌, ◌++◌, map, inl, inr, Option, Some, None, Result, Ok, Err}
-use Rattle.std.specs.Prelude.{◌&&◌, ◌||◌, not}
-use Rattle.std.specs.List.{AllByRecursion, list_all}
-use Rattle.std.specs.Option.{option_and_then}
-use Rattle.std.specs.Str.{bytes_eq}
-use Rattle.std.proofs.Math.Bool.{and-false}
-use Rattle.std.proofs.lemmas.Bool.{and_parts, true≢false}
-use Rattle.std.proofs.lemmas.List.{map-append}
-use Rattle.std.proofs.lemmas.Option.{none-some, same_Some}
-use Rattle.std.proofs.lemmas.Slice.Eq.{bytes_eq-Decides}
-use Rattle.t1_font.specs.declared.fault.ReadFault.{ReadFault}
-use Rattle.t1_font.specs.FontValue.{FontValue}
-use Rattle.t1_document.specs.declared.rewriting.Way.TheVariants.{Level, Pool}
-use Rattle.t1_document.specs.declared.joins.Outcome.{Outcome}
-use Rattle.t1_document.specs.declared.joins.Outcome.TheVariants.{Same, Joined, Stays}
+use Rattle.std.proofs.{Common.{◌≡◌, ℕ, Bool, true, false, cond, refl, sym, ◌∙◌, ap, subst, List, [], ◌∷◌, ◌++◌, map, inl, inr, Option, Some, None, Result, Ok, Err}, Math.Bool.{and-false}}
+use Rattle.std.proofs.{lemmas.Bool.{and_parts, true≢false}, lemmas.List.{map-append}, lemmas.Option.{none-some, same_Some}, lemmas.Slice.Eq.{bytes_eq-Decides}}
+use Rattle.std.specs.{Prelude.{◌&&◌, ◌||◌, not}, List.{AllByRecursion, list_all}, Option.{option_and_then}, Str.{bytes_eq}}
+use Rattle.t1_font.specs.{declared.fault.ReadFault.{ReadFault}, FontValue.{FontValue}}
+use Rattle.t1_document.specs.{declared.rewriting.Way.TheVariants.{Level, Pool}, declared.joins.Outcome.{Outcome}, declared.joins.Outcome.TheVariants.{Same, Joined, Stays}}
 use Rattle.t1_document.specs.Documents.{Place, Document, document_bytes, document_of}
 use Rattle.t1_document.specs.Rewriting.{NewTexts, can_stand, is_barred, is_refused, standing, document_rewritten, levelled, with_new, renewed, ArePooled}
 use Rattle.t1_document.specs.Joins.{Outcomes, AreOutcomes, places_of_all, places_under, fonts_of_places, new_texts, text_for_places, ComeTo, OfPlaces, OfFonts, IsSame, PooledBy, LevelsTo}
-use Rattle.t1_document.specs.Laws.{HasNew, NoneRefused}
-use Rattle.t1_document.specs.JoinLaws.{NewTextsStand, PooledAgain, LevelledAgain}
-use Rattle.t1_document.proofs.PlaceLemmas.{document_text}
-use Rattle.t1_document.proofs.OwnTexts.{Own, own_texts_stand, own_texts_stay}
-use Rattle.t1_document.proofs.Rewritten.{same_bytes, where_stands, rewritten_is_read, level_renews}
-use Rattle.t1_document.proofs.Pooled.{bare, pools_all, kept_left, pooled_stays}
-use Rattle.t1_document.proofs.OneOutcome.{same_text, one_text_for}
-use Rattle.t1_document.proofs.Bare.{to_bare}
+use Rattle.t1_document.specs.{Laws.{HasNew, NoneRefused}, JoinLaws.{NewTextsStand, PooledAgain, LevelledAgain}}
+use Rattle.t1_document.proofs.{PlaceLemmas.{document_text}, OwnTexts.{Own, own_texts_stand, own_texts_stay}, Rewritten.{same_bytes, where_stands, rewritten_is_read, level_renews}}
+use Rattle.t1_document.proofs.{Pooled.{bare, pools_all, kept_left, pooled_stays}, OneOutcome.{same_text, one_text_for}, Bare.{to_bare}}
 
 -- ---- lists
 

@@ -1,23 +1,12 @@
 -- The line by which a name becomes one of the font that another names.
 use Rattle.std.proofs.Common.{◌≡◌, ℕ, ◌+◌, suc, Bool, true, false, cond, refl, sym, ◌∙◌, ap, subst, List, [], ◌∷◌, ◌++◌, take, inl, inr, Option, Some, None, arith, append_assoc}
-use Rattle.std.specs.Prelude.{◌==◌, ◌&&◌, ◌||◌, not, codes, is_some}
-use Rattle.std.specs.List.{AllByRecursion, list_any, prefix_len}
-use Rattle.std.specs.Option.{option_map}
-use Rattle.std.proofs.lemmas.Bool.{cases_Bool, eqb-true, and_parts, true≢false}
-use Rattle.std.proofs.lemmas.Option.{none-some, same_Some}
+use Rattle.std.proofs.{lemmas.Bool.{cases_Bool, eqb-true, and_parts, true≢false}, lemmas.Option.{none-some, same_Some}}
+use Rattle.std.specs.{Prelude.{◌==◌, ◌&&◌, ◌||◌, not, codes, is_some}, List.{AllByRecursion, list_any, prefix_len}, Option.{option_map}}
 use Rattle.t1_grammar.specs.Grammar.{first}
-use Rattle.t1_font.specs.Words.{is_regular, all_regular}
-use Rattle.t1_font.specs.Rewriting.{parted}
-use Rattle.t1_font.specs.Tags.{name_marker, name_in}
-use Rattle.t1_document.specs.declared.marks.Mark.{Mark}
-use Rattle.t1_document.specs.Lines.{line_closes, lf_comes, is_line_end, into_first, lines_of}
-use Rattle.t1_document.specs.Marks.{mark_of}
-use Rattle.t1_document.specs.Documents.{Place, document_of}
-use Rattle.t1_document.specs.Laws.{SpellsPlace}
+use Rattle.t1_font.specs.{Words.{is_regular, all_regular}, Rewriting.{parted}, Tags.{name_marker, name_in}}
+use Rattle.t1_document.specs.{declared.marks.Mark.{Mark}, Lines.{line_closes, lf_comes, is_line_end, into_first, lines_of}, Marks.{mark_of}, Documents.{Place, document_of}, Laws.{SpellsPlace}}
 use Rattle.t1_document.specs.Families.{alias_line}
-use Rattle.t1_document.proofs.Breaks.{mark_starts}
-use Rattle.t1_document.proofs.Retold.{IsLine, slash_or_percent}
-use Rattle.t1_document.proofs.Spelled.{places_spell}
+use Rattle.t1_document.proofs.{Breaks.{mark_starts}, Retold.{IsLine, slash_or_percent}, Spelled.{places_spell}}
 
 -- ---- names
 

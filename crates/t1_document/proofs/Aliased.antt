@@ -1,26 +1,15 @@
 -- The laws of documents whose families have one font each.
-use Rattle.std.proofs.Common.{◌≡◌, ℕ, Bool, true, false, cond, refl, sym, ◌∙◌, ap, subst, List, [], ◌∷◌, map, inr, Option, Some, None}
-use Rattle.std.specs.Prelude.{◌||◌}
-use Rattle.std.specs.List.{AllByRecursion, find}
-use Rattle.std.specs.Option.{option_and_then, option_map}
-use Rattle.std.specs.Str.{bytes_eq}
-use Rattle.std.proofs.lemmas.Option.{none-some, same_Some}
+use Rattle.std.proofs.{Common.{◌≡◌, ℕ, Bool, true, false, cond, refl, sym, ◌∙◌, ap, subst, List, [], ◌∷◌, map, inr, Option, Some, None}, lemmas.Option.{none-some, same_Some}}
 use Rattle.std.proofs.lemmas.Slice.Eq.{bytes_eq-Decides}
+use Rattle.std.specs.{Prelude.{◌||◌}, List.{AllByRecursion, find}, Option.{option_and_then, option_map}, Str.{bytes_eq}}
 use Rattle.t1_bytes.specs.Laws.{AreBytes}
-use Rattle.t1_document.specs.Stretches.{stretches, mark_lines}
-use Rattle.t1_document.specs.Documents.{Place, Document, document_bytes, document_of}
-use Rattle.t1_document.specs.Rewriting.{NewTexts, is_seen, Fate, Becomes, Gives}
+use Rattle.t1_document.specs.{Stretches.{stretches, mark_lines}, Documents.{Place, Document, document_bytes, document_of}, Rewriting.{NewTexts, is_seen, Fate, Becomes, Gives}}
 use Rattle.t1_document.specs.Joins.{Outcomes, new_texts, places_under}
-use Rattle.t1_document.specs.Families.{family, has_several, can_lead, leader_by, leader_in, if_leads, led_by, Led, names_behind}
-use Rattle.t1_document.specs.Families.{led_from, with_leaders, with_member, members_of, family_members, alias_line, fate_under, fate_led, led_fate, aliased}
+use Rattle.t1_document.specs.Families.{family, has_several, can_lead, leader_by, leader_in, if_leads, led_by, Led, names_behind, led_from, with_leaders, with_member, members_of, family_members}
+use Rattle.t1_document.specs.Families.{alias_line, fate_under, fate_led, led_fate, aliased}
 use Rattle.t1_document.specs.FamilyLaws.{AreOfFamilies, AliasedBy, AliasedIsRead, AliasedMarksStay, AliasedOthersStay, AliasesDraw, OneAliased, OneByFamilies}
-use Rattle.t1_document.proofs.Retold.{Fits, fated_by, AllFit}
-use Rattle.t1_document.proofs.Rewritten.{document_is, lines_stay, fated_is, fated_written}
-use Rattle.t1_document.proofs.OwnTexts.{Own, own_texts_stand}
-use Rattle.t1_document.proofs.Again.{MayHave, all_may_have}
-use Rattle.t1_document.proofs.OneOutcome.{one_outcome, one_pooled}
-use Rattle.t1_document.proofs.NewTextsDraw.{IsSound, places_sound, sound_under, come_to}
-use Rattle.t1_document.proofs.AliasLines.{IsRegular, places_named, alias_is_line}
+use Rattle.t1_document.proofs.{Retold.{Fits, fated_by, AllFit}, Rewritten.{document_is, lines_stay, fated_is, fated_written}, OwnTexts.{Own, own_texts_stand}, Again.{MayHave, all_may_have}}
+use Rattle.t1_document.proofs.{OneOutcome.{one_outcome, one_pooled}, NewTextsDraw.{IsSound, places_sound, sound_under, come_to}, AliasLines.{IsRegular, places_named, alias_is_line}}
 
 -- ---- leaders
 

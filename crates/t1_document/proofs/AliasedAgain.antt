@@ -1,25 +1,12 @@
 -- What was pooled by families is pooled so to itself.
-use Rattle.std.proofs.Common.{◌≡◌, ℕ, Bool, true, false, refl, sym, ◌∙◌, ap, subst, List, [], ◌∷◌, map, inl, inr, Option, Some, None}
-use Rattle.std.specs.List.{AllByRecursion}
-use Rattle.std.specs.Option.{option_and_then}
-use Rattle.std.proofs.lemmas.Bool.{cases_Bool}
-use Rattle.std.proofs.lemmas.Option.{none-some}
-use Rattle.t1_document.specs.declared.rewriting.Way.TheVariants.{Pool}
-use Rattle.t1_document.specs.declared.joins.Outcome.{Outcome}
-use Rattle.t1_document.specs.Documents.{Place, Document, document_bytes, document_of}
-use Rattle.t1_document.specs.Rewriting.{NewTexts, is_refused, standing, document_rewritten, ArePooled}
-use Rattle.t1_document.specs.Joins.{Outcomes, AreOutcomes, places_under, new_texts, text_for_places, ComeTo, OfPlaces}
-use Rattle.t1_document.specs.Families.{has_several, with_leaders, family_members, aliased}
-use Rattle.t1_document.specs.FamilyLaws.{AliasedBy, FamiliesAgain}
-use Rattle.t1_document.proofs.PlaceLemmas.{document_text}
-use Rattle.t1_document.proofs.Rewritten.{where_stands}
-use Rattle.t1_document.proofs.Pooled.{bare}
-use Rattle.t1_document.proofs.OneOutcome.{same_text, one_text_for}
-use Rattle.t1_document.proofs.Bare.{to_bare}
-use Rattle.t1_document.proofs.Again.{HaveText, have_same, one_had, among, from_names, pooled_have, pooled_by_fewer, WerePooled, were_pooled, pooled_keeps}
-use Rattle.t1_document.proofs.Aliased.{aliased_is_read}
-use Rattle.t1_document.proofs.SettledNames.{text_bare, settled_have, have_settled}
-use Rattle.t1_document.proofs.LeftPlaces.{LeftFrom, left_of, settled_left, several_left, members_stay, all_members_have, aliased_stays}
+use Rattle.std.proofs.{Common.{◌≡◌, ℕ, Bool, true, false, refl, sym, ◌∙◌, ap, subst, List, [], ◌∷◌, map, inl, inr, Option, Some, None}, lemmas.Bool.{cases_Bool}, lemmas.Option.{none-some}}
+use Rattle.std.specs.{List.{AllByRecursion}, Option.{option_and_then}}
+use Rattle.t1_document.specs.{declared.rewriting.Way.TheVariants.{Pool}, declared.joins.Outcome.{Outcome}, Documents.{Place, Document, document_bytes, document_of}}
+use Rattle.t1_document.specs.{Rewriting.{NewTexts, is_refused, standing, document_rewritten, ArePooled}, Joins.{Outcomes, AreOutcomes, places_under, new_texts, text_for_places, ComeTo, OfPlaces}}
+use Rattle.t1_document.specs.{Families.{has_several, with_leaders, family_members, aliased}, FamilyLaws.{AliasedBy, FamiliesAgain}}
+use Rattle.t1_document.proofs.{PlaceLemmas.{document_text}, Rewritten.{where_stands}, Pooled.{bare}, OneOutcome.{same_text, one_text_for}, Bare.{to_bare}}
+use Rattle.t1_document.proofs.{Again.{HaveText, have_same, one_had, among, from_names, pooled_have, pooled_by_fewer, WerePooled, were_pooled, pooled_keeps}, Aliased.{aliased_is_read}}
+use Rattle.t1_document.proofs.{SettledNames.{text_bare, settled_have, have_settled}, LeftPlaces.{LeftFrom, left_of, settled_left, several_left, members_stay, all_members_have, aliased_stays}}
 use Rattle.t1_document.proofs.LeftPooled.{HaveAll, all_pooled}
 
 -- places of one text get it

@@ -1,49 +1,23 @@
 -- In another order documents get the same texts.
 use Rattle.std.proofs.Common.{◌≡◌, ℕ, arith, Bool, true, false, cond, max, refl, sym, ◌∙◌, ap, subst, List, [], ◌∷◌, ◌++◌, map, IsPermutation, Option, Some, None, Result, Ok, Err}
-use Rattle.std.specs.Prelude.{◌&&◌, not, nat_lt}
-use Rattle.std.specs.List.{AllByRecursion, list_all, flat_map}
-use Rattle.std.specs.Option.{option_and_then, option_map}
-use Rattle.std.specs.Str.{bytes_eq}
-use Rattle.std.specs.Ordering.{nat_cmp, eq_by_cmp}
-use Rattle.std.specs.Cmp.{nat_cmp_total}
-use Rattle.std.specs.FinMap as maps
-use Rattle.std.specs.FinMap.{get-from_entries, same_map, nat_cmp-IsAntisymmetric}
-use Rattle.std.proofs.lemmas.Bool.{and_parts, true≢false}
-use Rattle.std.proofs.lemmas.Option.{none-some}
-use Rattle.std.proofs.lemmas.Slice.Eq.{bytes_eq-Decides}
+use Rattle.std.proofs.{lemmas.Bool.{and_parts, true≢false}, lemmas.Option.{none-some}, lemmas.Slice.Eq.{bytes_eq-Decides}}
 use Rattle.std.proofs.lemmas.List.Sorted.{IsPermutation-refl, IsPermutation-sym, IsPermutation-trans, IsPermutation-map, IsPermutation-cons, length_permutation, list_any-IsPermutation}
+use Rattle.std.specs.{Prelude.{◌&&◌, not, nat_lt}, List.{AllByRecursion, list_all, flat_map}, Option.{option_and_then, option_map}, Str.{bytes_eq}, Ordering.{nat_cmp, eq_by_cmp}, Cmp.{nat_cmp_total}}
+use Rattle.std.specs.FinMap.{get-from_entries, same_map, nat_cmp-IsAntisymmetric}
 use Rattle.t1_bytes.specs.Laws.{AreBytes}
-use Rattle.t1_join.specs.Groupings.{one, from_left, leaves}
-use Rattle.t1_join.proofs.OrderLemmas.{leaves_from_left}
-use Rattle.t1_font.specs.declared.fault.ReadFault.{ReadFault}
-use Rattle.t1_font.specs.FontValue.{FontValue, declared_count}
-use Rattle.t1_font.specs.IsFont.{IsFont}
-use Rattle.t1_font.specs.Cut.{stub}
-use Rattle.t1_font.specs.Maps.{merged}
-use Rattle.t1_font.specs.ReadFont.{read_font_widely}
+use Rattle.t1_join.{specs.Groupings.{one, from_left, leaves}, proofs.OrderLemmas.{leaves_from_left}}
+use Rattle.t1_font.specs.{declared.fault.ReadFault.{ReadFault}, FontValue.{FontValue, declared_count}, IsFont.{IsFont}, Cut.{stub}, Maps.{merged}, ReadFont.{read_font_widely}}
 use Rattle.t1_font.specs.FontBoxes.{Box, box_of, joined_box, can_have, font_with, boxes_of, boxed_by, boxed}
-use Rattle.t1_font.specs.Evening.{even, stubs_at, below_count, with_stubs, filled, largest_count, indices_of_all, each_even, evened_shells, filled_all}
-use Rattle.t1_font.specs.FontNames.{named, evened_named}
-use Rattle.t1_font.proofs.even_fonts.BoxOrder.{in_any_order}
-use Rattle.t1_font.proofs.even_fonts.Filled.{find_stub}
-use Rattle.t1_algebra.specs.Profile.{profile}
-use Rattle.t1_algebra.specs.Lacks.{Lack, first_below, user_of, is_had, lack_in, lack_among, first_lack}
-use Rattle.t1_algebra.specs.Searches.{found}
-use Rattle.t1_algebra.specs.Merges.{ComesTo}
-use Rattle.t1_algebra.proofs.Fonts.{any_order_of_fonts}
-use Rattle.t1_algebra.proofs.ManyMerges.{each_font}
+use Rattle.t1_font.specs.{Evening.{even, stubs_at, below_count, with_stubs, filled, largest_count, indices_of_all, each_even, evened_shells, filled_all}, FontNames.{named, evened_named}}
+use Rattle.t1_font.proofs.{even_fonts.BoxOrder.{in_any_order}, even_fonts.Filled.{find_stub}}
+use Rattle.t1_algebra.specs.{Profile.{profile}, Lacks.{Lack, first_below, user_of, is_had, lack_in, lack_among, first_lack}, Searches.{found}, Merges.{ComesTo}}
+use Rattle.t1_algebra.proofs.{Fonts.{any_order_of_fonts}, ManyMerges.{each_font}}
 use Rattle.t1_subset.specs.Rejoins.{Rejoin}
-use Rattle.t1_document.specs.declared.joins.Outcome.{Outcome}
-use Rattle.t1_document.specs.declared.joins.Outcome.TheVariants.{Same, Joined, Stays}
-use Rattle.t1_document.specs.Documents.{Place, document_of}
-use Rattle.t1_document.specs.Rewriting.{can_stand}
-use Rattle.t1_document.specs.Joins.{places_of_all, places_under, fonts_of_places, with_font, new_texts, text_for_places, ComeTo, OfPlaces, OfFonts, IsSame}
-use Rattle.t1_document.specs.JoinLaws.{InAnyOrder}
-use Rattle.t1_document.proofs.Exchanges.{Exchanged, exchanged_first, in_each_order, flat_in_order, filter_in_order, all_in_order}
-use Rattle.t1_document.proofs.Drawn.{shells_are_fonts, each_filled, each_named}
-use Rattle.t1_document.proofs.OneOutcome.{one_text_for}
-use Rattle.t1_document.proofs.Again.{HaveText, have_same}
-use Rattle.t1_document.proofs.NewTextsDraw.{IsUnder, AreFonts, all_sound, sound_under, fonts_read, fonts_sound}
+use Rattle.t1_document.specs.{declared.joins.Outcome.{Outcome}, declared.joins.Outcome.TheVariants.{Same, Joined, Stays}, Documents.{Place, document_of}, Rewriting.{can_stand}}
+use Rattle.t1_document.specs.{Joins.{places_of_all, places_under, fonts_of_places, with_font, new_texts, text_for_places, ComeTo, OfPlaces, OfFonts, IsSame}, JoinLaws.{InAnyOrder}}
+use Rattle.t1_document.proofs.{Exchanges.{Exchanged, exchanged_first, in_each_order, flat_in_order, filter_in_order, all_in_order}, Drawn.{shells_are_fonts, each_filled, each_named}}
+use Rattle.t1_document.proofs.{OneOutcome.{one_text_for}, Again.{HaveText, have_same}, NewTextsDraw.{IsUnder, AreFonts, all_sound, sound_under, fonts_read, fonts_sound}}
+use Rattle.std.specs.FinMap as maps
 
 -- ---- tests and counts
 
@@ -164,7 +138,8 @@ filled_same is js moved f =
     stubs_in_order (below_count n is) (below_count n js) (filter_in_order (λ i. nat_lt i n) is js moved) in
     λ k. record { shell = f.shell; encoding = f.encoding; subrs = by_entries (maps.entries f.subrs) same k; glyphs = f.glyphs }
   where
-    by_entries : (es : List (ℕ × List ℕ)) → stubs_at (below_count (declared_count f.shell.subrs) is) ≡ stubs_at (below_count (declared_count f.shell.subrs) js) →
+    by_entries : (es : List (ℕ × List ℕ)) → stubs_at (below_count (declared_count f.shell.subrs) is)
+        ≡ stubs_at (below_count (declared_count f.shell.subrs) js) →
         with_stubs (below_count (declared_count f.shell.subrs) is) f.subrs es ≡ with_stubs (below_count (declared_count f.shell.subrs) js) f.subrs es
     by_entries [] same = refl
     by_entries (e ∷ es) same = ap (merged f.subrs) same
@@ -334,7 +309,8 @@ gets_in_order name (p ∷ ps) (q ∷ qs) text moved u (o, h, e) =
     by_places name p q ps qs moved u v (list_all (λ r. bytes_eq p.text r.text) ps) refl o text h e
 
 -- if there is a text it is that of an outcome
-gets_of : (name : List ℕ) (ps : List Place) (o : Option Outcome) (text : List ℕ) → ComeTo name ps o → option_and_then text_for_places o ≡ Some text → Gets name ps text
+gets_of : (name : List ℕ) (ps : List Place) (o : Option Outcome) (text : List ℕ) → ComeTo name ps o → option_and_then text_for_places o ≡ Some text →
+    Gets name ps text
 gets_of name ps None text h e = absurd (none-some text e)
 gets_of name ps (Some o) text h e = (o, h, e)
 

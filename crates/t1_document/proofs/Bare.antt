@@ -1,18 +1,8 @@
 -- What places come to doesn't hang on the bytes before them.
-use Rattle.std.proofs.Common.{◌≡◌, ℕ, Bool, true, false, refl, sym, ◌∙◌, ap, subst, List, [], ◌∷◌, map, Option, Some, None, Result, Ok, Err}
-use Rattle.std.specs.Prelude.{◌&&◌}
-use Rattle.std.specs.List.{list_all}
-use Rattle.std.specs.Str.{bytes_eq}
-use Rattle.t1_font.specs.declared.fault.ReadFault.{ReadFault}
-use Rattle.t1_font.specs.FontValue.{FontValue}
-use Rattle.t1_font.specs.ReadFont.{read_font_widely}
-use Rattle.t1_font.specs.FontNames.{evened_named}
-use Rattle.t1_document.specs.declared.joins.Kept.TheVariants.{Unread, Unlike, Barred}
-use Rattle.t1_document.specs.declared.joins.Outcome.{Outcome}
-use Rattle.t1_document.specs.declared.joins.Outcome.TheVariants.{Same, Joined, Stays}
-use Rattle.t1_document.specs.Documents.{Place}
-use Rattle.t1_document.specs.Rewriting.{can_stand}
-use Rattle.t1_document.specs.Joins.{fonts_of_places, with_font, ComeTo, OfPlaces, OfFonts, OfEvened}
+use Rattle.std.{proofs.Common.{◌≡◌, ℕ, Bool, true, false, refl, sym, ◌∙◌, ap, subst, List, [], ◌∷◌, map, Option, Some, None, Result, Ok, Err}, specs.{Prelude.{◌&&◌}, List.{list_all}, Str.{bytes_eq}}}
+use Rattle.t1_font.specs.{declared.fault.ReadFault.{ReadFault}, FontValue.{FontValue}, ReadFont.{read_font_widely}, FontNames.{evened_named}}
+use Rattle.t1_document.specs.{declared.joins.Kept.TheVariants.{Unread, Unlike, Barred}, declared.joins.Outcome.{Outcome}, declared.joins.Outcome.TheVariants.{Same, Joined, Stays}, Documents.{Place}}
+use Rattle.t1_document.specs.{Rewriting.{can_stand}, Joins.{fonts_of_places, with_font, ComeTo, OfPlaces, OfFonts, OfEvened}}
 use Rattle.t1_document.proofs.Pooled.{bare}
 
 fonts_bare : (ps : List Place) → fonts_of_places (map bare ps) ≡ fonts_of_places ps

@@ -1,14 +1,8 @@
 -- Where a line ends between texts of which one has changed.
-use Rattle.std.proofs.Common.{◌≡◌, ℕ, true, false, List, [], ◌∷◌, ◌++◌, Option, Some, None, refl, sym, ap, ◌∙◌, inl, inr}
+use Rattle.std.proofs.{Common.{◌≡◌, ℕ, true, false, List, [], ◌∷◌, ◌++◌, Option, Some, None, refl, sym, ap, ◌∙◌, inl, inr}, lemmas.List.{append-nil}, lemmas.Option.{none-some}}
 use Rattle.std.specs.Prelude.{codes}
-use Rattle.std.proofs.lemmas.List.{append-nil}
-use Rattle.std.proofs.lemmas.Option.{none-some}
 use Rattle.t1_grammar.specs.Grammar.{fixed, choice_some}
-use Rattle.t1_document.specs.declared.marks.Side.{Side}
-use Rattle.t1_document.specs.declared.marks.Side.TheVariants.{Begin, End}
-use Rattle.t1_document.specs.declared.marks.Mark.{Mark}
-use Rattle.t1_document.specs.Lines.{breaks}
-use Rattle.t1_document.specs.Marks.{mark_behind, mark_of}
+use Rattle.t1_document.specs.{declared.marks.Side.{Side}, declared.marks.Side.TheVariants.{Begin, End}, declared.marks.Mark.{Mark}, Lines.{breaks}, Marks.{mark_behind, mark_of}}
 use Rattle.t1_document.proofs.FontLemmas.{fixed_is}
 
 -- two texts begin with the same byte, or both are empty

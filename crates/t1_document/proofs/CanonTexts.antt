@@ -1,44 +1,17 @@
 -- The canonical text of a font is a font text.
-use Rattle.std.proofs.Common.{◌≡◌, ℕ, ◌-◌, ◌≤◌, ◌<◌, Bool, true, false, cond, List, [], ◌∷◌, ◌++◌, length, drop, Option, Some, None, Ok}
-use Rattle.std.proofs.Common.{refl, sym, ap, subst, ◌∙◌, arith, append_assoc}
-use Rattle.std.specs.Prelude.{codes, ◌==◌, ◌&&◌, not}
-use Rattle.std.proofs.Math.Bool.{and-true}
-use Rattle.std.specs.Option.{option_and_then, option_map}
-use Rattle.std.specs.Str.{bytes_eq}
-use Rattle.std.proofs.lemmas.Bool.{lt-ltb}
-use Rattle.std.proofs.lemmas.List.{append-nil, length-append, get_or_at}
-use Rattle.std.proofs.lemmas.Option.{none-some, same_Some}
-use Rattle.std.proofs.lemmas.Slice.Eq.{bytes_eq-Decides}
-use Rattle.t1_grammar.specs.Grammar.{Grammar, ◌>>◌, that, fixed, first, first_at}
-use Rattle.t1_grammar.specs.Places.{prepend}
-use Rattle.t1_grammar.proofs.Grammars.{bind_read, that_read}
-use Rattle.t1_bytes.specs.declared.form.Form.TheVariants.{Pfa}
-use Rattle.t1_bytes.specs.Cipher.{private_cipher}
-use Rattle.t1_bytes.specs.FlatText.{starts_segment}
-use Rattle.t1_bytes.specs.Eexec.{eexec_marker, hex_text}
-use Rattle.t1_bytes.specs.Texts.{hex_lines, zero_lines}
-use Rattle.t1_bytes.specs.Limits.{file_limit}
+use Rattle.std.proofs.Common.{◌≡◌, ℕ, ◌-◌, ◌≤◌, ◌<◌, Bool, true, false, cond, List, [], ◌∷◌, ◌++◌, length, drop, Option, Some, None, Ok, refl, sym, ap, subst, ◌∙◌, arith, append_assoc}
+use Rattle.std.proofs.{Math.Bool.{and-true}, lemmas.Bool.{lt-ltb}, lemmas.List.{append-nil, length-append, get_or_at}, lemmas.Option.{none-some, same_Some}, lemmas.Slice.Eq.{bytes_eq-Decides}}
+use Rattle.std.specs.{Prelude.{codes, ◌==◌, ◌&&◌, not}, Option.{option_and_then, option_map}, Str.{bytes_eq}}
+use Rattle.t1_grammar.{specs.{Grammar.{Grammar, ◌>>◌, that, fixed, first, first_at}, Places.{prepend}}, proofs.Grammars.{bind_read, that_read}}
+use Rattle.t1_bytes.specs.{declared.form.Form.TheVariants.{Pfa}, Cipher.{private_cipher}, FlatText.{starts_segment}, Eexec.{eexec_marker, hex_text}, Texts.{hex_lines, zero_lines}, Limits.{file_limit}}
 use Rattle.t1_bytes.proofs.HexLines.{zeros, hex_run}
-use Rattle.t1_font.specs.FontValue.{FontValue}
-use Rattle.t1_font.specs.IsFont.{IsFont}
-use Rattle.t1_font.specs.Canon.{encoding_pieces, canon_clear, canon_private, canon}
-use Rattle.t1_font.specs.Writing.{encoding_text}
-use Rattle.t1_font.specs.ReadFont.{read_font, read_font_widely}
-use Rattle.t1_font.specs.Tags.{name_in}
-use Rattle.t1_font.specs.Dialect.{strict, wide}
-use Rattle.t1_font.proofs.Spelled.{reads, reads_again}
-use Rattle.t1_font.proofs.Widely.{spells_widely}
-use Rattle.t1_font.proofs.canonical.LengthLemmas.{canon_short}
-use Rattle.t1_font.proofs.canonical.SplitWritten.{free_none}
-use Rattle.t1_font.proofs.canonical.Moves.{past_none}
+use Rattle.t1_font.specs.{FontValue.{FontValue}, IsFont.{IsFont}, Canon.{encoding_pieces, canon_clear, canon_private, canon}, Writing.{encoding_text}, ReadFont.{read_font, read_font_widely}}
+use Rattle.t1_font.specs.{Tags.{name_in}, Dialect.{strict, wide}}
+use Rattle.t1_font.proofs.{Spelled.{reads, reads_again}, Widely.{spells_widely}, canonical.LengthLemmas.{canon_short}, canonical.SplitWritten.{free_none}, canonical.Moves.{past_none}}
 use Rattle.t1_font.proofs.canonical.RoundTrip.{run_before, marker_ends, digits_behind, read_before}
-use Rattle.t1_document.specs.Fonts.{ends_with_c, font_shape, if_any, name_read, spelled_name, FontText, if_font, font_in, canon_text}
-use Rattle.t1_document.specs.Marks.{has_mark}
-use Rattle.t1_document.specs.Documents.{Place}
-use Rattle.t1_document.specs.Rewriting.{is_font, can_stand}
-use Rattle.t1_document.specs.Laws.{HasHead}
-use Rattle.t1_document.proofs.Rewritten.{same_bytes}
-use Rattle.t1_document.proofs.FontLemmas.{ShapeLeaves, parted_is, left_is, font_in_is}
+use Rattle.t1_document.specs.{Fonts.{ends_with_c, font_shape, if_any, name_read, spelled_name, FontText, if_font, font_in, canon_text}, Marks.{has_mark}, Documents.{Place}}
+use Rattle.t1_document.specs.{Rewriting.{is_font, can_stand}, Laws.{HasHead}}
+use Rattle.t1_document.proofs.{Rewritten.{same_bytes}, FontLemmas.{ShapeLeaves, parted_is, left_is, font_in_is}}
 
 -- the word behind the digits, and what follows
 abbrev word_and : List ℕ → List ℕ

@@ -1,12 +1,8 @@
 -- The places of a document, from stretch to stretch.
 use Rattle.std.proofs.Common.{◌≡◌, ℕ, ◌+◌, ◌-◌, ◌<◌, ◌≤◌, Bool, true, false, cond, List, [], ◌∷◌, ◌++◌, length, take, drop, Option, Some, None, refl, sym, ap, ◌∙◌, arith, append_assoc}
 use Rattle.std.proofs.lemmas.List.{append-nil, length-append, length-drop, take-append-drop, take_at}
-use Rattle.t1_document.specs.declared.marks.Side.{Side}
-use Rattle.t1_document.specs.declared.marks.Side.TheVariants.{Begin, End}
-use Rattle.t1_document.specs.declared.marks.Open.{Open}
-use Rattle.t1_document.specs.Lines.{line_of}
-use Rattle.t1_document.specs.Marks.{mark_of, open_count, holds_data, is_document}
-use Rattle.t1_document.specs.Stretches.{Stretch, Stretches, stretches, stretches_bytes}
+use Rattle.t1_document.specs.{declared.marks.Side.{Side}, declared.marks.Side.TheVariants.{Begin, End}, declared.marks.Open.{Open}, Lines.{line_of}}
+use Rattle.t1_document.specs.{Marks.{mark_of, open_count, holds_data, is_document}, Stretches.{Stretch, Stretches, stretches, stretches_bytes}}
 use Rattle.t1_document.specs.Documents.{Place, Document, none_open, open_behind, next_mark, place_at, prepended, at_stretch, document_from, document_of}
 use Rattle.t1_document.proofs.StretchLemmas.{no_more, no_stretches, front_whole, behind_front}
 

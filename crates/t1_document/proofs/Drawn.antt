@@ -1,49 +1,23 @@
 -- What stays drawn where fonts are made even, get a name and rejoin.
 use Rattle.std.proofs.Common.{◌≡◌, ℕ, ◌≤◌, arith, Bool, true, false, cond, refl, sym, ◌∙◌, ap, subst, List, [], ◌∷◌, ◌++◌, ◌-◌, length, take, drop, map, Option, Some, None, Ok}
-use Rattle.std.specs.Prelude.{is_some, nat_le}
-use Rattle.std.specs.List.{AllByRecursion}
-use Rattle.std.specs.Option.{option_map}
-use Rattle.std.specs.FinMap as maps
-use Rattle.std.proofs.lemmas.Bool.{and_parts}
-use Rattle.std.proofs.lemmas.Option.{none-some, same_Some}
-use Rattle.std.proofs.lemmas.List.{take-append-drop}
+use Rattle.std.proofs.{lemmas.Bool.{and_parts}, lemmas.Option.{none-some, same_Some}, lemmas.List.{take-append-drop}}
+use Rattle.std.specs.{Prelude.{is_some, nat_le}, List.{AllByRecursion}, Option.{option_map}}
 use Rattle.t1_grammar.specs.Grammar.{first}
 use Rattle.t1_bytes.specs.Laws.{AreBytes}
-use Rattle.t1_run.specs.Run.{Subrs, direct, direct3, exec}
-use Rattle.t1_run.specs.Drawings.{draw, draw3}
-use Rattle.t1_font.specs.FontValue.{FontValue, Shell, SubrsShell, Numbered, Encoding, Word, Codes, declared_count, count_limit, weight, weight_limit}
-use Rattle.t1_font.specs.FontModel.{subr_at}
-use Rattle.t1_font.specs.IsFont.{IsFont, SubrsFit}
-use Rattle.t1_font.specs.Encodings.{SameKind, join_encodings}
-use Rattle.t1_font.specs.Words.{is_regular}
-use Rattle.t1_font.specs.Rewriting.{parted}
-use Rattle.t1_font.specs.Tags.{name_marker, name_in}
-use Rattle.t1_font.specs.EvenTexts.{both_fit}
-use Rattle.t1_font.specs.FontBoxes.{Box, joined_box, font_with}
-use Rattle.t1_font.specs.Filling.{AreLight}
-use Rattle.t1_font.specs.Evening.{even, filled, largest_count, indices_of_all, each_even, evened_shells, filled_all}
+use Rattle.t1_run.specs.{Run.{Subrs, direct, direct3, exec}, Drawings.{draw, draw3}}
+use Rattle.t1_font.specs.{FontValue.{FontValue, Shell, SubrsShell, Numbered, Encoding, Word, Codes, declared_count, count_limit, weight, weight_limit}, FontModel.{subr_at}, IsFont.{IsFont, SubrsFit}}
+use Rattle.t1_font.specs.{Encodings.{SameKind, join_encodings}, Words.{is_regular}, Rewriting.{parted}, Tags.{name_marker, name_in}, EvenTexts.{both_fit}, FontBoxes.{Box, joined_box, font_with}}
+use Rattle.t1_font.specs.{Filling.{AreLight}, Evening.{even, filled, largest_count, indices_of_all, each_even, evened_shells, filled_all}}
 use Rattle.t1_font.specs.FontNames.{name_between, text_named, clear_named, font_named, can_be_named, named, evened_named}
-use Rattle.t1_font.proofs.ByteLemmas.{AreBytes-append, has_bytes}
-use Rattle.t1_font.proofs.read_fonts.ReadBytes.{bytes_left, bytes_right}
-use Rattle.t1_font.proofs.even_fonts.Evened.{even_is_font, filled_is_font}
-use Rattle.t1_font.proofs.even_fonts.Boxes.{by_cases, boxed_are_fonts}
-use Rattle.t1_font.proofs.even_fonts.BoxFonts.{fitting_is_font}
-use Rattle.t1_join.specs.Groupings.{Grouping, one, two, from_left, leaves}
-use Rattle.t1_join.proofs.OrderLemmas.{leaves_from_left, each_leaf}
-use Rattle.t1_algebra.specs.Keep.{has}
-use Rattle.t1_algebra.specs.Profile.{profile}
-use Rattle.t1_algebra.specs.Alike.{DrawsAlike}
-use Rattle.t1_algebra.specs.States.{code_state, Agree, joined_option, Compatible, joined_font}
-use Rattle.t1_algebra.specs.Groupings.{Merges}
-use Rattle.t1_algebra.specs.Merges.{ComesTo, DrawsAll}
+use Rattle.t1_font.proofs.{ByteLemmas.{AreBytes-append, has_bytes}, read_fonts.ReadBytes.{bytes_left, bytes_right}, even_fonts.Evened.{even_is_font, filled_is_font}}
+use Rattle.t1_font.proofs.{even_fonts.Boxes.{by_cases, boxed_are_fonts}, even_fonts.BoxFonts.{fitting_is_font}}
+use Rattle.t1_join.{specs.Groupings.{Grouping, one, two, from_left, leaves}, proofs.OrderLemmas.{leaves_from_left, each_leaf}}
+use Rattle.t1_algebra.specs.{Keep.{has}, Profile.{profile}, Alike.{DrawsAlike}, States.{code_state, Agree, joined_option, Compatible, joined_font}, Groupings.{Merges}, Merges.{ComesTo, DrawsAll}}
 use Rattle.t1_algebra.specs.Evened.{StaysDrawn, map_subrs, AllStayDrawn, EachBeside}
-use Rattle.t1_algebra.proofs.Drawings.{answers_alike}
-use Rattle.t1_algebra.proofs.Fonts.{merges_are_fonts}
-use Rattle.t1_algebra.proofs.Subsets.{code_joined}
-use Rattle.t1_algebra.proofs.rejoining.Evened.{evened_draw}
-use Rattle.t1_subset.specs.Rejoins.{Rejoin}
-use Rattle.t1_subset.proofs.Answered.{draws_all}
+use Rattle.t1_algebra.proofs.{Drawings.{answers_alike}, Fonts.{merges_are_fonts}, Subsets.{code_joined}, rejoining.Evened.{evened_draw}}
+use Rattle.t1_subset.{specs.Rejoins.{Rejoin}, proofs.Answered.{draws_all}}
 use Rattle.t1_document.specs.JoinLaws.{StaysIn}
+use Rattle.std.specs.FinMap as maps
 
 -- ---- glyphs
 

@@ -1,13 +1,10 @@
 -- Lists in which two neighbours are exchanged.
-use Rattle.std.proofs.Common.{◌≡◌, zero, suc, set, ltb, ◌<◌, ◌+◌, ◌-◌, ℕ, Bool, true, false, cond, refl, sym, ◌∙◌}
-use Rattle.std.proofs.Common.{ap, subst, arith, append_assoc, List, [], ◌∷◌, ◌++◌, length, get_or, filter, IsPermutation}
-use Rattle.std.specs.List.{AllByRecursion, flat_map, swap}
-use Rattle.std.proofs.lemmas.Bool.{ltb-true, ltb-false}
-use Rattle.std.proofs.lemmas.List.{length-append, get_or_at, set_at, set_comm, set-get_or}
-use Rattle.std.proofs.lemmas.List.Elements.{filter-append}
+use Rattle.std.proofs.Common.{◌≡◌, zero, suc, set, ltb, ◌<◌, ◌+◌, ◌-◌, ℕ, Bool, true, false, cond, refl, sym, ◌∙◌, ap, subst, arith, append_assoc, List, [], ◌∷◌, ◌++◌, length, get_or, filter}
+use Rattle.std.proofs.{Common.{IsPermutation}, lemmas.Bool.{ltb-true, ltb-false}, lemmas.List.{length-append, get_or_at, set_at, set_comm, set-get_or}, lemmas.List.Elements.{filter-append}}
 use Rattle.std.proofs.lemmas.Grind.{flat_map-append}
 use Rattle.std.proofs.lemmas.List.Sorted.{IsPermutation-keeps, IsPermutation-refl, IsPermutation-trans, IsPermutation-append_right, IsPermutation-append_left, IsPermutation-append_comm}
 use Rattle.std.proofs.lemmas.List.Edits.{swap_is}
+use Rattle.std.specs.List.{AllByRecursion, flat_map, swap}
 
 -- two lists that are the same but for two neighbours, which change places
 pub record Exchanged {X : Type 0} (xs ys : List X) : Type 0 where

@@ -1,21 +1,10 @@
 -- The loops over places whose fonts are joined by families.
-use Rattle.std.proofs.Common.{◌≡◌, ◌<◌, ◌≤◌, ◌+◌, ℕ, Bool, true, false, cond, List, [], ◌∷◌, ◌++◌, length, get_or, take, drop, map, Option, Some, None}
-use Rattle.std.proofs.Common.{refl, sym, ap, ◌∙◌, append_assoc, is_some, Bor}
-use Rattle.std.specs.Prelude.{◌&&◌, not}
-use Rattle.std.specs.Option.{option_map, option_or}
-use Rattle.std.specs.Str.{bytes_eq}
-use Rattle.std.proofs.lemmas.Bool.{and_parts, true≢false}
-use Rattle.std.proofs.lemmas.List.{at_drop_more, at_drop_all, map-append, take_more, drop_all, append-nil}
-use Rattle.std.proofs.lemmas.Slice.Eq.{bytes_eq-Decides}
-use Rattle.std.specs.List.{find}
-use Rattle.t1_document.specs.declared.documents.Place.{Place as CodePlace}
-use Rattle.t1_document.specs.declared.families.Led.{Led as CodeLed}
-use Rattle.t1_document.specs.declared.texts.Texts.{Texts}
-use Rattle.t1_document.specs.Documents.{Place}
-use Rattle.t1_document.specs.Rewriting.{NewTexts, is_seen, fate_bytes, fated_bytes}
-use Rattle.t1_document.specs.Texts.{text_in, has_text, Sees}
-use Rattle.t1_document.specs.Families.{Led, first_text, has_other, has_several, leader_by, leader_in, led_by, names_behind, led_from, with_leaders, led_fate}
-use Rattle.t1_document.specs.Views.{place_view, led_view}
+use Rattle.std.proofs.Common.{◌≡◌, ◌<◌, ◌≤◌, ◌+◌, ℕ, Bool, true, false, cond, List, [], ◌∷◌, ◌++◌, length, get_or, take, drop, map, Option, Some, None, refl, sym, ap, ◌∙◌, append_assoc, is_some}
+use Rattle.std.proofs.{Common.{Bor}, lemmas.Bool.{and_parts, true≢false}, lemmas.List.{at_drop_more, at_drop_all, map-append, take_more, drop_all, append-nil}, lemmas.Slice.Eq.{bytes_eq-Decides}}
+use Rattle.std.specs.{Prelude.{◌&&◌, not}, Option.{option_map, option_or}, Str.{bytes_eq}, List.{find}}
+use Rattle.t1_document.specs.{declared.documents.Place.{Place as CodePlace}, declared.families.Led.{Led as CodeLed}, declared.texts.Texts.{Texts}, Documents.{Place}}
+use Rattle.t1_document.specs.{Rewriting.{NewTexts, is_seen, fate_bytes, fated_bytes}, Texts.{text_in, has_text, Sees}}
+use Rattle.t1_document.specs.{Families.{Led, first_text, has_other, has_several, leader_by, leader_in, led_by, names_behind, led_from, with_leaders, led_fate}, Views.{place_view, led_view}}
 
 -- ---- the first places that pass a test
 

@@ -1,12 +1,7 @@
 -- Worked rows of families, computed.
-use Rattle.std.proofs.Common.{◌≡◌, ℕ, List, [], ◌∷◌, ◌++◌, map, Some, None, refl}
-use Rattle.std.specs.Prelude.{codes, if◌then◌else◌}
-use Rattle.std.specs.Str.{bytes_eq}
+use Rattle.std.{proofs.Common.{◌≡◌, ℕ, List, [], ◌∷◌, ◌++◌, map, Some, None, refl}, specs.{Prelude.{codes, if◌then◌else◌}, Str.{bytes_eq}}}
 use Rattle.t1_font.specs.Tags.{tag, behind_tags}
-use Rattle.t1_document.specs.declared.marks.Kind.TheVariants.{Font}
-use Rattle.t1_document.specs.Documents.{Place}
-use Rattle.t1_document.specs.Rewriting.{NewTexts, fated_bytes}
-use Rattle.t1_document.specs.Families.{family, led_from, with_leaders, family_members, led_fate}
+use Rattle.t1_document.specs.{declared.marks.Kind.TheVariants.{Font}, Documents.{Place}, Rewriting.{NewTexts, fated_bytes}, Families.{family, led_from, with_leaders, family_members, led_fate}}
 
 -- ---- families
 

@@ -1,21 +1,13 @@
 -- Font texts: where they stand, how they begin and end, and the head of their font.
 use Rattle.std.proofs.Common.{◌≡◌, ℕ, ◌-◌, ◌≤◌, false, List, [], ◌∷◌, ◌++◌, length, take, drop, Option, Some, None, Result, Ok, refl, sym, ap, subst, ◌∙◌, arith, append_assoc}
-use Rattle.std.specs.Prelude.{codes}
-use Rattle.std.specs.Option.{option_and_then, option_map}
-use Rattle.std.proofs.lemmas.List.{length-append, take-append-drop, take_at, drop_at}
-use Rattle.std.proofs.lemmas.Option.{none-some, same_Some, option_and_then_some}
-use Rattle.std.proofs.lemmas.Slice.Eq.{bytes_eq-Decides}
+use Rattle.std.proofs.{lemmas.List.{length-append, take-append-drop, take_at, drop_at}, lemmas.Option.{none-some, same_Some, option_and_then_some}, lemmas.Slice.Eq.{bytes_eq-Decides}}
+use Rattle.std.specs.{Prelude.{codes}, Option.{option_and_then, option_map}}
 use Rattle.t1_grammar.specs.Grammar.{fixed}
 use Rattle.t1_bytes.specs.FlatText.{starts_segment}
-use Rattle.t1_bytes.specs.FlatText as files
-use Rattle.t1_font.specs.declared.fault.ReadFault.{ReadFault}
-use Rattle.t1_font.specs.declared.fault.ReadFault.TheVariants.{Memory}
-use Rattle.t1_font.specs.Answers.{Refused}
-use Rattle.t1_font.specs.FontValue.{FontValue}
-use Rattle.t1_font.specs.ReadFont.{read_font_widely}
-use Rattle.t1_font.specs.Tags.{name_in}
+use Rattle.t1_font.specs.{declared.fault.ReadFault.{ReadFault}, declared.fault.ReadFault.TheVariants.{Memory}, Answers.{Refused}, FontValue.{FontValue}, ReadFont.{read_font_widely}, Tags.{name_in}}
 use Rattle.t1_font.specs.Spelling.{SpellsWidely}
 use Rattle.t1_document.specs.Fonts.{font_shape, parted_at, if_any, name_read, spelled_name, is_memory, name_within, if_font, font_in, FontText}
+use Rattle.t1_bytes.specs.FlatText as files
 
 -- ---- the shape
 

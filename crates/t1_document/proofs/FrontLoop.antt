@@ -1,12 +1,8 @@
 -- The loop that goes over the lines before the first mark.
 use Rattle.std.proofs.Common.{◌≡◌, ℕ, ◌+◌, ◌<◌, ◌≤◌, true, false, List, [], ◌∷◌, ◌++◌, length, take, drop, Option, Some, None, is_some, refl, sym, ap, subst, ◌∙◌, arith}
 use Rattle.std.proofs.lemmas.List.{take_at, take-append-drop, length-append, length-take-le, length-drop, drop-drop, drop_all}
-use Rattle.t1_document.specs.declared.marks.Mark.{Mark}
-use Rattle.t1_document.specs.Lines.{lines_of, line_len, line_of}
-use Rattle.t1_document.specs.Marks.{mark_of}
-use Rattle.t1_document.specs.Stretches.{Stretches, stretches, stretches_bytes}
-use Rattle.t1_document.proofs.LineLemmas.{line_within, line_has}
-use Rattle.t1_document.proofs.StretchLemmas.{past_line, at_mark, mark_has, front_whole, behind_front}
+use Rattle.t1_document.specs.{declared.marks.Mark.{Mark}, Lines.{lines_of, line_len, line_of}, Marks.{mark_of}, Stretches.{Stretches, stretches, stretches_bytes}}
+use Rattle.t1_document.proofs.{LineLemmas.{line_within, line_has}, StretchLemmas.{past_line, at_mark, mark_has, front_whole, behind_front}}
 
 is_there : {A : Type 0} (o : Option A) → is_some o ≡ true → (x : A) × (o ≡ Some x)
 is_there None h = absurd cc

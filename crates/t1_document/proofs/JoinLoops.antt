@@ -1,30 +1,13 @@
 -- The loops over places that are joined.
-use Rattle.std.proofs.Common.{◌≡◌, ◌<◌, ◌≤◌, ◌+◌, ℕ, Bool, true, false, cond, List, [], ◌∷◌, ◌++◌, length, get_or, take, drop, map, Option, Some, None, Result, Ok, Err}
-use Rattle.std.proofs.Common.{refl, sym, ap, ◌∙◌, subst, ◌⊎◌, inl, inr, is_some, Bor}
-use Rattle.std.specs.Prelude.{◌||◌, not}
-use Rattle.std.specs.Global.{Vec}
-use Rattle.std.specs.List.{list_any}
-use Rattle.std.specs.Option.{option_copied}
-use Rattle.std.specs.Str.{bytes_eq}
-use Rattle.std.proofs.lemmas.Bool.{cases_Bool, cond-true, cond-false, true≢false}
-use Rattle.std.proofs.lemmas.List.{take_more, map-append, drop_more, drop_all}
-use Rattle.std.proofs.lemmas.List.Folds.{list_any-append}
-use Rattle.std.proofs.Math.Bool.{or-false}
+use Rattle.std.proofs.Common.{◌≡◌, ◌<◌, ◌≤◌, ◌+◌, ℕ, Bool, true, false, cond, List, [], ◌∷◌, ◌++◌, length, get_or, take, drop, map, Option, Some, None, Result, Ok, Err, refl, sym, ap, ◌∙◌, subst}
+use Rattle.std.proofs.{Common.{◌⊎◌, inl, inr, is_some, Bor}, lemmas.Bool.{cases_Bool, cond-true, cond-false, true≢false}, lemmas.List.{take_more, map-append, drop_more, drop_all}}
+use Rattle.std.proofs.{lemmas.List.Folds.{list_any-append}, Math.Bool.{or-false}, lemmas.Option.{none-some}, lemmas.Slice.Eq.{bytes_eq-Decides}}
+use Rattle.std.specs.{Prelude.{◌||◌, not}, Global.{Vec}, List.{list_any}, Option.{option_copied}, Str.{bytes_eq}}
 use Rattle.t1_document.proofs.WriteLoop.{same_test}
-use Rattle.std.proofs.lemmas.Option.{none-some}
-use Rattle.std.proofs.lemmas.Slice.Eq.{bytes_eq-Decides}
-use Rattle.t1_font.specs.declared.fault.ReadFault.{ReadFault}
-use Rattle.t1_font.specs.FontValue.{FontValue}
-use Rattle.t1_document.specs.declared.documents.Place.{Place as CodePlace}
-use Rattle.t1_document.specs.declared.joins.Outcome.{Outcome}
-use Rattle.t1_document.specs.Documents.{Place}
-use Rattle.t1_document.specs.Rewriting.{NewTexts, lacks_name}
-use Rattle.t1_document.specs.Joins.{places_under, ComeTo, AreOutcomes}
-use Rattle.t1_document.specs.declared.joins.Joins.{Joins}
-use Rattle.t1_document.specs.declared.texts.Texts.{Texts}
-use Rattle.t1_document.specs.Texts.{text_in}
-use Rattle.t1_document.specs.Groups.{places_of, outcome_in}
+use Rattle.t1_document.specs.{declared.documents.Place.{Place as CodePlace}, declared.joins.Outcome.{Outcome}, Documents.{Place}, Rewriting.{NewTexts, lacks_name}}
+use Rattle.t1_document.specs.{Joins.{places_under, ComeTo, AreOutcomes}, declared.joins.Joins.{Joins}, declared.texts.Texts.{Texts}, Texts.{text_in}, Groups.{places_of, outcome_in}}
 use Rattle.t1_document.specs.Views.{place_view}
+use Rattle.t1_font.specs.{declared.fault.ReadFault.{ReadFault}, FontValue.{FontValue}}
 
 -- ---- the fonts of places
 

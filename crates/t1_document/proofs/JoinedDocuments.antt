@@ -1,18 +1,11 @@
 -- The document of a text behind another.
-use Rattle.std.proofs.Common.{◌≡◌, ℕ, Bool, true, false, cond, List, [], ◌∷◌, ◌++◌, Option, Some, None, refl, sym, ap, ◌∙◌, append_assoc}
-use Rattle.std.specs.Prelude.{◌==◌, ◌&&◌}
-use Rattle.std.specs.Option.{option_map}
-use Rattle.std.proofs.lemmas.List.{append-nil}
-use Rattle.t1_document.specs.declared.marks.Open.{Open}
-use Rattle.t1_document.specs.declared.marks.Mark.{Mark}
-use Rattle.t1_document.specs.Lines.{lines_of, breaks}
-use Rattle.t1_document.specs.Marks.{mark_of, holds_fonts, same_kind}
-use Rattle.t1_document.specs.Stretches.{Stretch, Stretches, at_line, gathered, stretches}
-use Rattle.t1_document.specs.Fonts.{font_in}
-use Rattle.t1_document.specs.Documents.{Place, Document, none_open, open_behind, begins_part, ends_part, next_mark, place_with, place_at, prepended}
-use Rattle.t1_document.specs.Documents.{at_stretch, document_from, document_of_stretches, document_of, open_at_end, ends_in_part, IsClosed, followed}
-use Rattle.t1_document.proofs.LineLemmas.{lines_apart}
-use Rattle.t1_document.proofs.DocumentSteps.{prepended-prepended}
+use Rattle.std.proofs.{Common.{◌≡◌, ℕ, Bool, true, false, cond, List, [], ◌∷◌, ◌++◌, Option, Some, None, refl, sym, ap, ◌∙◌, append_assoc}, lemmas.List.{append-nil}}
+use Rattle.std.specs.{Prelude.{◌==◌, ◌&&◌}, Option.{option_map}}
+use Rattle.t1_document.specs.{declared.marks.Open.{Open}, declared.marks.Mark.{Mark}, Lines.{lines_of, breaks}, Marks.{mark_of, holds_fonts, same_kind}}
+use Rattle.t1_document.specs.{Stretches.{Stretch, Stretches, at_line, gathered, stretches}, Fonts.{font_in}}
+use Rattle.t1_document.specs.Documents.{Place, Document, none_open, open_behind, begins_part, ends_part, next_mark, place_with, place_at, prepended, at_stretch, document_from, document_of_stretches}
+use Rattle.t1_document.specs.Documents.{document_of, open_at_end, ends_in_part, IsClosed, followed}
+use Rattle.t1_document.proofs.{LineLemmas.{lines_apart}, DocumentSteps.{prepended-prepended}}
 
 -- ---- the stretches of both
 

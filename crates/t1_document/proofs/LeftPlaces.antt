@@ -1,22 +1,12 @@
 -- The places that are left where the families of a document have one font each: they have the leaders that they had.
 use Rattle.std.proofs.Common.{◌≡◌, ℕ, Bool, true, false, cond, refl, sym, ◌∙◌, ap, subst, ◌⊎◌, List, [], ◌∷◌, ◌++◌, map, inl, inr, Option, Some, None}
-use Rattle.std.specs.Prelude.{◌&&◌, ◌||◌, ◌==◌, not}
-use Rattle.std.specs.List.{AllByRecursion, find}
-use Rattle.std.specs.Option.{option_and_then, option_map}
-use Rattle.std.specs.Str.{bytes_eq}
-use Rattle.std.proofs.lemmas.Bool.{cases_Bool, and_parts, true≢false}
-use Rattle.std.proofs.lemmas.Option.{none-some, same_Some}
-use Rattle.std.proofs.lemmas.Slice.Eq.{bytes_eq-Decides}
+use Rattle.std.proofs.{lemmas.Bool.{cases_Bool, and_parts, true≢false}, lemmas.Option.{none-some, same_Some}, lemmas.Slice.Eq.{bytes_eq-Decides}}
+use Rattle.std.specs.{Prelude.{◌&&◌, ◌||◌, ◌==◌, not}, List.{AllByRecursion, find}, Option.{option_and_then, option_map}, Str.{bytes_eq}}
 use Rattle.t1_algebra.proofs.Searching.{first_passes}
-use Rattle.t1_document.specs.Documents.{Place, Document, behind_bytes}
-use Rattle.t1_document.specs.Rewriting.{NewTexts, is_seen, Becomes, Gives, at_fate, fated}
-use Rattle.t1_document.specs.Joins.{places_under}
-use Rattle.t1_document.specs.Families.{family, has_several, can_lead, leader_by, leader_in, if_leads, led_by, Led, names_behind}
-use Rattle.t1_document.specs.Families.{led_from, with_leaders, with_member, members_of, family_members, aliased, alias_line, fate_under, fate_led, led_fate}
-use Rattle.t1_document.proofs.SettledNames.{skipped, both_under, text_under, text_over, text_bare, settled_have, have_settled}
-use Rattle.t1_document.proofs.Rewritten.{same_bytes}
-use Rattle.t1_document.proofs.Pooled.{bare, other_text}
-use Rattle.t1_document.proofs.Again.{HaveText}
+use Rattle.t1_document.specs.{Documents.{Place, Document, behind_bytes}, Rewriting.{NewTexts, is_seen, Becomes, Gives, at_fate, fated}, Joins.{places_under}}
+use Rattle.t1_document.specs.Families.{family, has_several, can_lead, leader_by, leader_in, if_leads, led_by, Led, names_behind, led_from, with_leaders, with_member, members_of, family_members}
+use Rattle.t1_document.specs.Families.{aliased, alias_line, fate_under, fate_led, led_fate}
+use Rattle.t1_document.proofs.{SettledNames.{skipped, both_under, text_under, text_over, text_bare, settled_have, have_settled}, Rewritten.{same_bytes}, Pooled.{bare, other_text}, Again.{HaveText}}
 use Rattle.t1_document.proofs.Aliased.{led_is}
 
 -- ---- what is left

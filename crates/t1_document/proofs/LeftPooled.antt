@@ -1,16 +1,7 @@
 -- Places that were pooled are so where the families have one font each.
-use Rattle.std.proofs.Common.{◌≡◌, ℕ, true, sym, ◌∙◌, ap, subst, ◌⊎◌, List, [], ◌∷◌, inl, inr, Some}
-use Rattle.std.specs.Prelude.{◌==◌}
-use Rattle.std.specs.List.{AllByRecursion}
-use Rattle.std.specs.Str.{bytes_eq}
-use Rattle.t1_document.specs.Documents.{Place}
-use Rattle.t1_document.specs.Rewriting.{NewTexts, lacks_name, ArePooled}
-use Rattle.t1_document.specs.Joins.{places_under}
-use Rattle.t1_document.specs.Families.{names_behind}
-use Rattle.t1_document.proofs.Rewritten.{same_bytes}
-use Rattle.t1_document.proofs.Pooled.{bare, not_named, not_lacked}
-use Rattle.t1_document.proofs.Again.{HaveText}
-use Rattle.t1_document.proofs.SettledNames.{text_over}
+use Rattle.std.{proofs.Common.{◌≡◌, ℕ, true, sym, ◌∙◌, ap, subst, ◌⊎◌, List, [], ◌∷◌, inl, inr, Some}, specs.{Prelude.{◌==◌}, List.{AllByRecursion}, Str.{bytes_eq}}}
+use Rattle.t1_document.specs.{Documents.{Place}, Rewriting.{NewTexts, lacks_name, ArePooled}, Joins.{places_under}, Families.{names_behind}}
+use Rattle.t1_document.proofs.{Rewritten.{same_bytes}, Pooled.{bare, not_named, not_lacked}, Again.{HaveText}, SettledNames.{text_over}}
 use Rattle.t1_document.proofs.LeftPlaces.{LeftOf, stays, becomes, gives, LeftFrom, next_led, left_next, left_none}
 
 -- each place of a name with a text has it

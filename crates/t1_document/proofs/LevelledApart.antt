@@ -1,19 +1,10 @@
 -- Two texts, levelled together and each by itself.
-use Rattle.std.proofs.Common.{◌≡◌, ℕ, Bool, true, false, cond, List, [], ◌∷◌, ◌++◌, map, Option, Some, None, refl, sym, ap, ◌∙◌, append_assoc}
-use Rattle.std.specs.Prelude.{◌&&◌, ◌||◌}
-use Rattle.std.specs.List.{flat_map}
-use Rattle.std.specs.Str.{bytes_eq}
-use Rattle.std.proofs.lemmas.List.{map-append}
-use Rattle.std.proofs.lemmas.List.Concat.{flat_map-append}
-use Rattle.std.proofs.lemmas.List.Folds.{list_any-append}
-use Rattle.t1_document.specs.Lines.{breaks}
-use Rattle.t1_document.specs.Documents.{Place, Document, place_bytes, document_bytes, behind_bytes, prepended, document_of, IsClosed, followed}
-use Rattle.t1_document.specs.Rewriting.{NewTexts, is_barred, is_refused, standing, levelled, with_new, renewed}
-use Rattle.t1_document.specs.Laws.{NoneRefused}
-use Rattle.t1_document.proofs.PlaceLemmas.{prepended_bytes}
-use Rattle.t1_document.proofs.Rewritten.{level_renews}
-use Rattle.t1_document.proofs.Pooled.{refused_behind}
-use Rattle.t1_document.proofs.JoinedDocuments.{joined_documents}
+use Rattle.std.proofs.{Common.{◌≡◌, ℕ, Bool, true, false, cond, List, [], ◌∷◌, ◌++◌, map, Option, Some, None, refl, sym, ap, ◌∙◌, append_assoc}, lemmas.List.{map-append}}
+use Rattle.std.proofs.{lemmas.List.Concat.{flat_map-append}, lemmas.List.Folds.{list_any-append}}
+use Rattle.std.specs.{Prelude.{◌&&◌, ◌||◌}, List.{flat_map}, Str.{bytes_eq}}
+use Rattle.t1_document.specs.{Lines.{breaks}, Documents.{Place, Document, place_bytes, document_bytes, behind_bytes, prepended, document_of, IsClosed, followed}}
+use Rattle.t1_document.specs.{Rewriting.{NewTexts, is_barred, is_refused, standing, levelled, with_new, renewed}, Laws.{NoneRefused}}
+use Rattle.t1_document.proofs.{PlaceLemmas.{prepended_bytes}, Rewritten.{level_renews}, Pooled.{refused_behind}, JoinedDocuments.{joined_documents}}
 
 -- the bytes of a document behind another
 followed_bytes : (d e : Document) → document_bytes (followed d e) ≡ document_bytes d ++ document_bytes e

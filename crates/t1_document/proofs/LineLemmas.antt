@@ -1,9 +1,7 @@
 -- Lines of texts, and of texts that are joined.
-use Rattle.std.proofs.Common.{◌≡◌, ℕ, ◌+◌, ◌≤◌, Bool, true, false, List, [], ◌∷◌, ◌++◌, length, take, drop, refl, sym, ap, subst, ◌∙◌, inl, inr, arith, one-add}
-use Rattle.std.specs.Prelude.{◌||◌, ◌==◌, not}
-use Rattle.std.specs.List.{concat, prefix_len}
-use Rattle.std.proofs.lemmas.Bool.{cases_Bool, eqb-true}
+use Rattle.std.proofs.{Common.{◌≡◌, ℕ, ◌+◌, ◌≤◌, Bool, true, false, List, [], ◌∷◌, ◌++◌, length, take, drop, refl, sym, ap, subst, ◌∙◌, inl, inr, arith, one-add}, lemmas.Bool.{cases_Bool, eqb-true}}
 use Rattle.std.proofs.lemmas.List.{append-nil}
+use Rattle.std.specs.{Prelude.{◌||◌, ◌==◌, not}, List.{concat, prefix_len}}
 use Rattle.t1_document.specs.Lines.{lf_comes, line_closes, into_first, lines_of, line_len, is_line_end, end_len, no_bytes, breaks}
 
 concat_into : (b : ℕ) (ls : List (List ℕ)) → concat (into_first b ls) ≡ b ∷ concat ls

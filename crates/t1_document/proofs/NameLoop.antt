@@ -1,16 +1,8 @@
 -- The loop that gathers the names of places.
-use Rattle.std.proofs.Common.{◌≡◌, ◌≤◌, ◌+◌, ℕ, Bool, true, false, cond, List, [], ◌∷◌, ◌++◌, length, drop, map, Option, Some, None}
-use Rattle.std.proofs.Common.{refl, sym, ap, ◌∙◌, append_assoc, is_some, Bor}
-use Rattle.std.specs.Prelude.{not}
-use Rattle.std.specs.Option.{option_map}
-use Rattle.std.proofs.lemmas.Bool.{cond-true, cond-false}
-use Rattle.std.proofs.lemmas.List.{drop_all, append-nil}
-use Rattle.t1_document.specs.declared.documents.Place.{Place as CodePlace}
-use Rattle.t1_document.specs.declared.texts.Texts.{Texts}
-use Rattle.t1_document.specs.Rewriting.{is_seen}
-use Rattle.t1_document.specs.Joins.{names_from}
-use Rattle.t1_document.specs.Texts.{text_in, Sees}
-use Rattle.t1_document.specs.Views.{place_view}
+use Rattle.std.proofs.Common.{◌≡◌, ◌≤◌, ◌+◌, ℕ, Bool, true, false, cond, List, [], ◌∷◌, ◌++◌, length, drop, map, Option, Some, None, refl, sym, ap, ◌∙◌, append_assoc, is_some, Bor}
+use Rattle.std.proofs.{lemmas.Bool.{cond-true, cond-false}, lemmas.List.{drop_all, append-nil}}
+use Rattle.std.specs.{Prelude.{not}, Option.{option_map}}
+use Rattle.t1_document.specs.{declared.documents.Place.{Place as CodePlace}, declared.texts.Texts.{Texts}, Rewriting.{is_seen}, Joins.{names_from}, Texts.{text_in, Sees}, Views.{place_view}}
 
 -- the names of so many places were gathered
 pub record Gathers (ps : List CodePlace) (i : ℕ) (out : List (List ℕ)) (seen : Texts) : Type 0 where

@@ -1,13 +1,7 @@
 -- The new texts of a document's places, as code keeps them.
-use Rattle.std.proofs.Common.{◌≡◌, ℕ, Bool, true, false, cond, List, [], ◌∷◌, None, refl, sym, ap, subst, ◌∙◌, inl, inr}
-use Rattle.std.specs.Prelude.{◌||◌, not}
-use Rattle.std.specs.List.{list_any}
-use Rattle.std.specs.Option.{option_and_then}
-use Rattle.std.specs.Str.{bytes_eq}
-use Rattle.std.proofs.lemmas.Bool.{cases_Bool, cond-true, cond-false, true≢false}
-use Rattle.t1_document.specs.declared.rewriting.Way.TheVariants.{Pool}
-use Rattle.t1_document.specs.Documents.{Place, Document, document_bytes, document_of}
-use Rattle.t1_document.specs.Rewriting.{NewTexts, lacks_name, document_rewritten, pooled}
+use Rattle.std.proofs.{Common.{◌≡◌, ℕ, Bool, true, false, cond, List, [], ◌∷◌, None, refl, sym, ap, subst, ◌∙◌, inl, inr}, lemmas.Bool.{cases_Bool, cond-true, cond-false, true≢false}}
+use Rattle.std.specs.{Prelude.{◌||◌, not}, List.{list_any}, Option.{option_and_then}, Str.{bytes_eq}}
+use Rattle.t1_document.specs.{declared.rewriting.Way.TheVariants.{Pool}, Documents.{Place, Document, document_bytes, document_of}, Rewriting.{NewTexts, lacks_name, document_rewritten, pooled}}
 use Rattle.t1_document.specs.Joins.{places_under, ComeTo, Outcomes, AreOutcomes, text_for_places, new_texts}
 use Rattle.t1_document.proofs.WriteLoop.{same_test}
 

@@ -1,38 +1,15 @@
 -- What the places of a name get spells a font in which theirs stay.
-use Rattle.std.proofs.Common.{◌≡◌, ℕ, Bool, true, false, cond, refl, sym, ◌∙◌, ap, subst, List, [], ◌∷◌, ◌++◌, Option, Some, None, Result, Ok, Err}
-use Rattle.std.specs.Prelude.{◌&&◌, not}
-use Rattle.std.specs.List.{AllByRecursion, flat_map, list_all}
-use Rattle.std.specs.Option.{option_and_then}
-use Rattle.std.specs.Str.{bytes_eq}
-use Rattle.std.proofs.lemmas.Bool.{and_parts, true≢false}
-use Rattle.std.proofs.lemmas.Option.{none-some, same_Some}
-use Rattle.std.proofs.lemmas.Slice.Eq.{bytes_eq-Decides}
-use Rattle.std.proofs.lemmas.List.{append-nil}
-use Rattle.t1_bytes.specs.Laws.{AreBytes}
-use Rattle.t1_bytes.specs.FlatText.{starts_segment}
-use Rattle.t1_font.specs.declared.fault.ReadFault.{ReadFault}
-use Rattle.t1_font.specs.FontValue.{FontValue}
-use Rattle.t1_font.specs.IsFont.{IsFont}
-use Rattle.t1_font.specs.Dialect.{wide}
-use Rattle.t1_font.specs.ReadFont.{read_font_widely}
-use Rattle.t1_font.specs.FontNames.{evened_named}
-use Rattle.t1_font.proofs.ByteLemmas.{has_bytes}
-use Rattle.t1_font.proofs.read_fonts.ReadBytes.{bytes_left, bytes_right}
-use Rattle.t1_font.proofs.read_fonts.ReadFontLaws.{read_is_font}
-use Rattle.t1_document.specs.declared.joins.Outcome.{Outcome}
-use Rattle.t1_document.specs.declared.joins.Outcome.TheVariants.{Same, Joined, Stays}
-use Rattle.t1_document.specs.Fonts.{FontText, font_in, canon_text}
-use Rattle.t1_document.specs.Marks.{has_mark}
-use Rattle.t1_document.specs.Documents.{Place, place_bytes, document_of}
-use Rattle.t1_document.specs.Rewriting.{is_font, can_stand}
-use Rattle.t1_document.specs.Joins.{places_of_all, places_under, fonts_of_places, with_font, text_for_places, ComeTo, OfPlaces, OfFonts, OfEvened, IsSame}
-use Rattle.t1_document.specs.Laws.{SpellsPlace}
+use Rattle.std.proofs.{Common.{◌≡◌, ℕ, Bool, true, false, cond, refl, sym, ◌∙◌, ap, subst, List, [], ◌∷◌, ◌++◌, Option, Some, None, Result, Ok, Err}, lemmas.Bool.{and_parts, true≢false}}
+use Rattle.std.proofs.{lemmas.Option.{none-some, same_Some}, lemmas.Slice.Eq.{bytes_eq-Decides}, lemmas.List.{append-nil}}
+use Rattle.std.specs.{Prelude.{◌&&◌, not}, List.{AllByRecursion, flat_map, list_all}, Option.{option_and_then}, Str.{bytes_eq}}
+use Rattle.t1_bytes.specs.{Laws.{AreBytes}, FlatText.{starts_segment}}
+use Rattle.t1_font.specs.{declared.fault.ReadFault.{ReadFault}, FontValue.{FontValue}, IsFont.{IsFont}, Dialect.{wide}, ReadFont.{read_font_widely}, FontNames.{evened_named}}
+use Rattle.t1_font.proofs.{ByteLemmas.{has_bytes}, read_fonts.ReadBytes.{bytes_left, bytes_right}, read_fonts.ReadFontLaws.{read_is_font}}
+use Rattle.t1_document.specs.{declared.joins.Outcome.{Outcome}, declared.joins.Outcome.TheVariants.{Same, Joined, Stays}, Fonts.{FontText, font_in, canon_text}, Marks.{has_mark}}
+use Rattle.t1_document.specs.{Documents.{Place, place_bytes, document_of}, Rewriting.{is_font, can_stand}}
+use Rattle.t1_document.specs.{Joins.{places_of_all, places_under, fonts_of_places, with_font, text_for_places, ComeTo, OfPlaces, OfFonts, OfEvened, IsSame}, Laws.{SpellsPlace}}
 use Rattle.t1_document.specs.JoinLaws.{StaysIn, FontStaysIn, NewTextsDraw}
-use Rattle.t1_document.proofs.PlaceLemmas.{document_text}
-use Rattle.t1_document.proofs.FontLemmas.{font_stands}
-use Rattle.t1_document.proofs.Spelled.{places_spell}
-use Rattle.t1_document.proofs.CanonTexts.{canon_read}
-use Rattle.t1_document.proofs.Drawn.{name_bytes, rejoined_stay, stays_in_itself}
+use Rattle.t1_document.proofs.{PlaceLemmas.{document_text}, FontLemmas.{font_stands}, Spelled.{places_spell}, CanonTexts.{canon_read}, Drawn.{name_bytes, rejoined_stay, stays_in_itself}}
 
 -- ---- places of documents
 

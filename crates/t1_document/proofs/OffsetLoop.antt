@@ -1,9 +1,7 @@
 -- The loop that counts the bytes before each font text.
 use Rattle.std.proofs.Common.{◌≡◌, ◌+◌, ℕ, arith, List, [], ◌∷◌, ◌++◌, length, drop, map, sym, ap, subst, ◌∙◌, append_assoc}
 use Rattle.t1_font.specs.FontModel.{clamp}
-use Rattle.t1_document.specs.declared.documents.Place.{Place as CodePlace}
-use Rattle.t1_document.specs.Documents.{place_bytes, offsets_from}
-use Rattle.t1_document.specs.Views.{place_view}
+use Rattle.t1_document.specs.{declared.documents.Place.{Place as CodePlace}, Documents.{place_bytes, offsets_from}, Views.{place_view}}
 
 -- so many places are counted, with so many bytes, and these are their offsets
 pub record Counts (places : List CodePlace) (i : ℕ) (offsets : List ℕ) (at : ℕ) : Type 0 where

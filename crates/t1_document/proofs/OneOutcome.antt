@@ -1,33 +1,15 @@
 -- The fonts of a name come to one text, or to none.
-use Rattle.std.proofs.Common.{◌≡◌, ℕ, arith, Bool, true, false, refl, sym, ◌∙◌, ap, List, [], ◌∷◌, map, inl, inr, Option, Some, None, Result, Ok, Err}
-use Rattle.std.specs.List.{list_all}
-use Rattle.std.specs.Option.{option_and_then}
-use Rattle.std.specs.Str.{bytes_eq}
-use Rattle.std.proofs.lemmas.Bool.{true≢false}
+use Rattle.std.proofs.{Common.{◌≡◌, ℕ, arith, Bool, true, false, refl, sym, ◌∙◌, ap, List, [], ◌∷◌, map, inl, inr, Option, Some, None, Result, Ok, Err}, lemmas.Bool.{true≢false}}
 use Rattle.std.proofs.lemmas.Option.{none-some}
+use Rattle.std.specs.{List.{list_all}, Option.{option_and_then}, Str.{bytes_eq}}
 use Rattle.t1_join.specs.Groupings.{one, from_left}
-use Rattle.t1_font.specs.declared.fault.ReadFault.{ReadFault}
-use Rattle.t1_font.specs.FontValue.{FontValue}
-use Rattle.t1_font.specs.Filling.{AreLight, AnyHeavy}
-use Rattle.t1_font.specs.Evening.{filled_all}
-use Rattle.t1_font.specs.FontNames.{evened_named}
-use Rattle.t1_algebra.specs.Profile.{profile}
-use Rattle.t1_algebra.specs.Merges.{ComesTo}
-use Rattle.t1_algebra.proofs.Orders.{one_result}
-use Rattle.t1_subset.specs.declared.conflict.Conflict.{Conflict}
-use Rattle.t1_subset.specs.declared.conflict.Conflict.TheVariants.{Memory}
-use Rattle.t1_subset.specs.declared.fault.RejoinFault.{RejoinFault}
-use Rattle.t1_subset.specs.declared.fault.RejoinFault.TheVariants.{Lacks, Merge}
-use Rattle.t1_subset.specs.Merger.{NotMerged}
-use Rattle.t1_subset.specs.Rejoins.{Rejoin, NotRejoined, NotMergedFilled}
+use Rattle.t1_font.specs.{declared.fault.ReadFault.{ReadFault}, FontValue.{FontValue}, Filling.{AreLight, AnyHeavy}, Evening.{filled_all}, FontNames.{evened_named}}
+use Rattle.t1_algebra.{specs.{Profile.{profile}, Merges.{ComesTo}}, proofs.Orders.{one_result}}
+use Rattle.t1_subset.specs.{declared.conflict.Conflict.{Conflict}, declared.conflict.Conflict.TheVariants.{Memory}, declared.fault.RejoinFault.{RejoinFault}}
+use Rattle.t1_subset.specs.{declared.fault.RejoinFault.TheVariants.{Lacks, Merge}, Merger.{NotMerged}, Rejoins.{Rejoin, NotRejoined, NotMergedFilled}}
 use Rattle.t1_subset.proofs.Answered.{never_stops}
-use Rattle.t1_document.specs.declared.joins.Kept.{Kept}
-use Rattle.t1_document.specs.declared.joins.Kept.TheVariants.{Unread, Unlike, Barred}
-use Rattle.t1_document.specs.declared.joins.Outcome.{Outcome}
-use Rattle.t1_document.specs.declared.joins.Outcome.TheVariants.{Same, Joined, Stays}
-use Rattle.t1_document.specs.Fonts.{canon_text}
-use Rattle.t1_document.specs.Documents.{Place, document_of}
-use Rattle.t1_document.specs.Rewriting.{NewTexts, can_stand, pooled, levelled}
+use Rattle.t1_document.specs.{declared.joins.Kept.{Kept}, declared.joins.Kept.TheVariants.{Unread, Unlike, Barred}, declared.joins.Outcome.{Outcome}}
+use Rattle.t1_document.specs.{declared.joins.Outcome.TheVariants.{Same, Joined, Stays}, Fonts.{canon_text}, Documents.{Place, document_of}, Rewriting.{NewTexts, can_stand, pooled, levelled}}
 use Rattle.t1_document.specs.Joins.{is_full, wants_memory, places_under, fonts_of_places, new_texts, text_for_places, ComeTo, OfPlaces, OfFonts, OfEvened, IsSame}
 use Rattle.t1_document.specs.JoinLaws.{OneOutcome, OnePooled, OneLevelled}
 

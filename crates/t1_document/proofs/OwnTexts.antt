@@ -1,20 +1,10 @@
 -- The font texts that places have: they can stand where they stand, and a document that is to have them stays.
 use Rattle.std.proofs.Common.{◌≡◌, ℕ, Bool, true, false, cond, List, [], ◌∷◌, ◌++◌, map, Option, Some, None, refl, sym, ap, ◌∙◌, inl, inr}
-use Rattle.std.specs.Prelude.{◌&&◌, not}
-use Rattle.std.specs.List.{AllByRecursion}
-use Rattle.std.specs.Str.{bytes_eq}
-use Rattle.t1_document.specs.declared.marks.Open.{Open}
-use Rattle.t1_document.specs.declared.marks.Mark.{Mark}
-use Rattle.t1_document.specs.Marks.{has_mark}
-use Rattle.t1_document.specs.Stretches.{Stretch, stretches, AreStretches}
-use Rattle.t1_document.specs.Fonts.{font_in}
+use Rattle.std.specs.{Prelude.{◌&&◌, not}, List.{AllByRecursion}, Str.{bytes_eq}}
+use Rattle.t1_document.specs.{declared.marks.Open.{Open}, declared.marks.Mark.{Mark}, Marks.{has_mark}, Stretches.{Stretch, stretches, AreStretches}, Fonts.{font_in}}
 use Rattle.t1_document.specs.Documents.{Place, Document, document_bytes, none_open, open_behind, next_mark, place_at, behind_bytes, at_stretch, document_from, document_of}
-use Rattle.t1_document.specs.Rewriting.{NewTexts, is_font, can_stand, is_refused, standing, levelled, with_new, renewed}
-use Rattle.t1_document.specs.Laws.{HasNew}
-use Rattle.t1_document.proofs.StretchLemmas.{stretches_those}
-use Rattle.t1_document.proofs.FontLemmas.{font_stands}
-use Rattle.t1_document.proofs.PlaceLemmas.{is_place, document_text}
-use Rattle.t1_document.proofs.Rewritten.{same_bytes, level_renews}
+use Rattle.t1_document.specs.{Rewriting.{NewTexts, is_font, can_stand, is_refused, standing, levelled, with_new, renewed}, Laws.{HasNew}}
+use Rattle.t1_document.proofs.{StretchLemmas.{stretches_those}, FontLemmas.{font_stands}, PlaceLemmas.{is_place, document_text}, Rewritten.{same_bytes, level_renews}}
 
 -- ---- they can stand
 

@@ -1,15 +1,10 @@
 -- What is known of a place, and the bytes of documents.
-use Rattle.std.proofs.Common.{◌≡◌, ℕ, Bool, true, false, cond, List, [], ◌∷◌, ◌++◌, Option, Some, None, refl, sym, ap, ◌∙◌, append_assoc}
-use Rattle.std.specs.Prelude.{◌==◌, ◌&&◌}
-use Rattle.std.specs.Option.{option_map}
-use Rattle.std.proofs.lemmas.Option.{none-some, same_Some}
-use Rattle.t1_document.specs.declared.marks.Open.{Open}
-use Rattle.t1_document.specs.declared.marks.Mark.{Mark}
-use Rattle.t1_document.specs.Stretches.{Stretch, stretches, stretches_bytes}
-use Rattle.t1_document.specs.Fonts.{FontText, font_in}
-use Rattle.t1_document.specs.Documents.{Place, Document, place_bytes, document_bytes, none_open, open_behind, encloses, next_mark, place_with, place_at, prepended, at_stretch, document_from, document_of}
-use Rattle.t1_document.proofs.StretchLemmas.{stretches_joined}
-use Rattle.t1_document.proofs.FontLemmas.{font_stands}
+use Rattle.std.proofs.{Common.{◌≡◌, ℕ, Bool, true, false, cond, List, [], ◌∷◌, ◌++◌, Option, Some, None, refl, sym, ap, ◌∙◌, append_assoc}, lemmas.Option.{none-some, same_Some}}
+use Rattle.std.specs.{Prelude.{◌==◌, ◌&&◌}, Option.{option_map}}
+use Rattle.t1_document.specs.{declared.marks.Open.{Open}, declared.marks.Mark.{Mark}, Stretches.{Stretch, stretches, stretches_bytes}, Fonts.{FontText, font_in}}
+use Rattle.t1_document.specs.Documents.{Place, Document, place_bytes, document_bytes, none_open, open_behind, encloses, next_mark, place_with, place_at, prepended, at_stretch, document_from}
+use Rattle.t1_document.specs.Documents.{document_of}
+use Rattle.t1_document.proofs.{StretchLemmas.{stretches_joined}, FontLemmas.{font_stands}}
 
 -- ---- a stretch that is a place
 

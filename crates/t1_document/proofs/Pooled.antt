@@ -1,19 +1,11 @@
 -- The laws of fonts that are pooled.
-use Rattle.std.proofs.Common.{◌≡◌, ℕ, Bool, true, false, cond, List, [], ◌∷◌, ◌++◌, map, Option, Some, None, refl, sym, ap, subst, ◌∙◌, inl, inr}
-use Rattle.std.specs.Prelude.{◌==◌, ◌&&◌, ◌||◌, not}
-use Rattle.std.specs.List.{list_any}
-use Rattle.std.specs.Str.{bytes_eq}
-use Rattle.std.proofs.Math.Bool.{and-false}
-use Rattle.std.proofs.lemmas.Bool.{cases_Bool, or_parts, true≢false, cond-false}
-use Rattle.std.proofs.lemmas.Option.{none-some, same_Some}
-use Rattle.std.proofs.lemmas.Slice.Eq.{bytes_eq-Decides}
-use Rattle.t1_document.specs.declared.rewriting.Way.TheVariants.{Pool}
-use Rattle.t1_document.specs.Documents.{Place, Document, document_bytes, behind_bytes, document_of}
-use Rattle.t1_document.specs.Rewriting.{NewTexts, can_stand, is_barred, is_refused, standing, Fate, Stays, Becomes, Goes, is_seen, fate_of, seen_behind, at_fate}
-use Rattle.t1_document.specs.Rewriting.{rewritten_from, document_rewritten, pooled, lacks_name, ArePooled}
-use Rattle.t1_document.specs.Joins.{places_under}
-use Rattle.t1_document.proofs.Retold.{not_true}
-use Rattle.t1_document.proofs.Rewritten.{AllStand, standing_stands, where_stands, same_bytes, rewritten_is_read}
+use Rattle.std.proofs.{Common.{◌≡◌, ℕ, Bool, true, false, cond, List, [], ◌∷◌, ◌++◌, map, Option, Some, None, refl, sym, ap, subst, ◌∙◌, inl, inr}, Math.Bool.{and-false}}
+use Rattle.std.proofs.{lemmas.Bool.{cases_Bool, or_parts, true≢false, cond-false}, lemmas.Option.{none-some, same_Some}, lemmas.Slice.Eq.{bytes_eq-Decides}}
+use Rattle.std.specs.{Prelude.{◌==◌, ◌&&◌, ◌||◌, not}, List.{list_any}, Str.{bytes_eq}}
+use Rattle.t1_document.specs.{declared.rewriting.Way.TheVariants.{Pool}, Documents.{Place, Document, document_bytes, behind_bytes, document_of}}
+use Rattle.t1_document.specs.Rewriting.{NewTexts, can_stand, is_barred, is_refused, standing, Fate, Stays, Becomes, Goes, is_seen, fate_of, seen_behind, at_fate, rewritten_from, document_rewritten}
+use Rattle.t1_document.specs.{Rewriting.{pooled, lacks_name, ArePooled}, Joins.{places_under}}
+use Rattle.t1_document.proofs.{Retold.{not_true}, Rewritten.{AllStand, standing_stands, where_stands, same_bytes, rewritten_is_read}}
 
 -- a place without the bytes before it
 abbrev pub bare : Place → Place

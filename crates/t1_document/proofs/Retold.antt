@@ -1,22 +1,11 @@
 -- A document whose places become something else, by its stretches.
 use Rattle.std.proofs.Common.{◌≡◌, ℕ, Bool, true, false, cond, List, [], ◌∷◌, ◌++◌, Option, Some, None, refl, sym, ap, subst, ◌∙◌, ◌⊎◌, inl, inr, append_assoc, arith}
-use Rattle.std.specs.Prelude.{◌==◌, ◌&&◌, ◌||◌, not}
-use Rattle.std.specs.Str.{bytes_eq}
-use Rattle.std.specs.Option.{option_map}
-use Rattle.std.proofs.lemmas.Bool.{and_parts, false≢true}
-use Rattle.std.proofs.lemmas.Slice.Eq.{bytes_eq-Decides}
-use Rattle.t1_document.specs.declared.marks.Open.{Open}
-use Rattle.t1_document.specs.declared.marks.Mark.{Mark}
-use Rattle.t1_document.specs.Lines.{no_bytes, breaks}
-use Rattle.t1_document.specs.Marks.{has_mark}
-use Rattle.t1_document.specs.Stretches.{Stretch, stretches_bytes, IsStretch, AreStretches}
-use Rattle.t1_document.specs.Fonts.{FontText, font_in}
-use Rattle.t1_document.specs.Documents.{Place, Document, open_behind, encloses, next_mark, place_with, place_at, behind_bytes, prepended, at_stretch, document_from}
+use Rattle.std.proofs.{lemmas.Bool.{and_parts, false≢true}, lemmas.Slice.Eq.{bytes_eq-Decides}}
+use Rattle.std.specs.{Prelude.{◌==◌, ◌&&◌, ◌||◌, not}, Str.{bytes_eq}, Option.{option_map}}
+use Rattle.t1_document.specs.{declared.marks.Open.{Open}, declared.marks.Mark.{Mark}, Lines.{no_bytes, breaks}, Marks.{has_mark}, Stretches.{Stretch, stretches_bytes, IsStretch, AreStretches}}
+use Rattle.t1_document.specs.{Fonts.{FontText, font_in}, Documents.{Place, Document, open_behind, encloses, next_mark, place_with, place_at, behind_bytes, prepended, at_stretch, document_from}}
 use Rattle.t1_document.specs.Rewriting.{is_font, can_stand, Fate, Stays, Becomes, Gives, at_fate}
-use Rattle.t1_document.proofs.StretchLemmas.{none_in_nothing}
-use Rattle.t1_document.proofs.FontLemmas.{Stands, font_stands, no_font}
-use Rattle.t1_document.proofs.DocumentSteps.{prepended-prepended}
-use Rattle.t1_document.proofs.PlaceLemmas.{is_place}
+use Rattle.t1_document.proofs.{StretchLemmas.{none_in_nothing}, FontLemmas.{Stands, font_stands, no_font}, DocumentSteps.{prepended-prepended}, PlaceLemmas.{is_place}}
 use Rattle.t1_document.proofs.Breaks.{SameStart, breaks-same, breaks-slash, breaks-behind, same-append, ends_again, mark_starts}
 
 -- ---- a text that can stand

@@ -1,21 +1,13 @@
 -- The laws of rewriting.
-use Rattle.std.proofs.Common.{◌≡◌, ℕ, Bool, true, false, cond, List, [], ◌∷◌, ◌++◌, map, Option, Some, None, refl, sym, ap, ◌∙◌, append_assoc, inl}
-use Rattle.std.specs.Prelude.{◌&&◌, ◌||◌, not}
-use Rattle.std.specs.Str.{bytes_eq}
-use Rattle.std.proofs.lemmas.Bool.{or_parts}
-use Rattle.std.proofs.lemmas.Option.{none-some}
+use Rattle.std.proofs.{Common.{◌≡◌, ℕ, Bool, true, false, cond, List, [], ◌∷◌, ◌++◌, map, Option, Some, None, refl, sym, ap, ◌∙◌, append_assoc, inl}, lemmas.Bool.{or_parts}, lemmas.Option.{none-some}}
 use Rattle.std.proofs.lemmas.Slice.Eq.{bytes_eq-Decides}
-use Rattle.t1_document.specs.declared.marks.Open.{Open}
-use Rattle.t1_document.specs.declared.marks.Mark.{Mark}
-use Rattle.t1_document.specs.declared.rewriting.Way.{Way}
-use Rattle.t1_document.specs.declared.rewriting.Way.TheVariants.{Level}
+use Rattle.std.specs.{Prelude.{◌&&◌, ◌||◌, not}, Str.{bytes_eq}}
+use Rattle.t1_document.specs.{declared.marks.Open.{Open}, declared.marks.Mark.{Mark}, declared.rewriting.Way.{Way}, declared.rewriting.Way.TheVariants.{Level}}
 use Rattle.t1_document.specs.Stretches.{Stretch, Stretches, stretches, stretches_bytes, stretches_text, mark_lines, AreThose}
 use Rattle.t1_document.specs.Documents.{Place, Document, document_bytes, place_bytes, none_open, open_behind, next_mark, place_at, prepended, document_from, document_of_stretches, document_of}
-use Rattle.t1_document.specs.Rewriting.{NewTexts, can_stand, is_barred, is_refused, standing, Fate, Stays, Becomes, Gives, Goes, is_pool, is_seen, fate_of, seen_behind, at_fate}
-use Rattle.t1_document.specs.Rewriting.{fated, fated_bytes, rewritten_from, document_rewritten, fate_bytes, written_from, levelled, with_new, renewed}
-use Rattle.t1_document.proofs.StretchLemmas.{stretches_those, stretches_again}
-use Rattle.t1_document.proofs.PlaceLemmas.{prepended_bytes, from_bytes}
-use Rattle.t1_document.proofs.Breaks.{breaks-same}
+use Rattle.t1_document.specs.Rewriting.{NewTexts, can_stand, is_barred, is_refused, standing, Fate, Stays, Becomes, Gives, Goes, is_pool, is_seen, fate_of, seen_behind, at_fate, fated, fated_bytes}
+use Rattle.t1_document.specs.Rewriting.{rewritten_from, document_rewritten, fate_bytes, written_from, levelled, with_new, renewed}
+use Rattle.t1_document.proofs.{StretchLemmas.{stretches_those, stretches_again}, PlaceLemmas.{prepended_bytes, from_bytes}, Breaks.{breaks-same}}
 use Rattle.t1_document.proofs.Retold.{Fits, fated_by, AllFit, all_behind, told_at, left_at, mark_same, line_same, retold, document_retold, start_same, are_retold, fated-prepended}
 
 -- ---- the new texts that stand
@@ -218,7 +210,8 @@ level_is new seen (p ∷ ps) last =
     ∙ ap (λ (d : Document). record { places = renewed new p ∷ d.places; last = d.last }) (level_is new (seen_behind f p seen) ps last)
 
 -- a levelled document has the new texts, and is else the same
-pub level_renews : (new : NewTexts) (d : Document) → document_rewritten Level new d ≡ record { places = map (renewed (standing new d.places)) d.places; last = d.last }
+pub level_renews : (new : NewTexts) (d : Document) →
+    document_rewritten Level new d ≡ record { places = map (renewed (standing new d.places)) d.places; last = d.last }
 level_renews new d = level_is (standing new d.places) [] d.places d.last
 
 -- a place that has a new text bars what it barred

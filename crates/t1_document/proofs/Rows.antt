@@ -1,18 +1,8 @@
 -- Worked rows of the definitions, computed.
-use Rattle.std.proofs.Common.{◌≡◌, ℕ, true, false, List, [], ◌∷◌, ◌++◌, Some, None, refl}
-use Rattle.std.specs.Prelude.{codes, if◌then◌else◌}
-use Rattle.t1_document.specs.declared.marks.Side.TheVariants.{Begin, End}
-use Rattle.t1_document.specs.declared.marks.Kind.TheVariants.{Font, ProcSet, Resource, Document, Data, Binary}
-use Rattle.std.specs.Str.{bytes_eq}
-use Rattle.t1_document.specs.declared.marks.Side.{Side}
-use Rattle.t1_document.specs.declared.marks.Kind.{Kind}
-use Rattle.t1_document.specs.declared.marks.Mark.{Mark}
-use Rattle.t1_document.specs.declared.rewriting.Way.TheVariants.{Level, Pool}
-use Rattle.t1_document.specs.Documents.{Place, none_open, open_at_end, encloses}
-use Rattle.t1_document.specs.Rewriting.{NewTexts, rewritten_from, written_from}
-use Rattle.t1_document.specs.Lines.{lines_of, line_of, line_len, breaks}
-use Rattle.t1_document.specs.Marks.{mark_of, kind_of}
-use Rattle.t1_document.specs.Stretches.{Stretch, stretches}
+use Rattle.std.{proofs.Common.{◌≡◌, ℕ, true, false, List, [], ◌∷◌, ◌++◌, Some, None, refl}, specs.{Prelude.{codes, if◌then◌else◌}, Str.{bytes_eq}}}
+use Rattle.t1_document.specs.{declared.marks.Side.TheVariants.{Begin, End}, declared.marks.Kind.TheVariants.{Font, ProcSet, Resource, Document, Data, Binary}, declared.marks.Side.{Side}}
+use Rattle.t1_document.specs.{declared.marks.Kind.{Kind}, declared.marks.Mark.{Mark}, declared.rewriting.Way.TheVariants.{Level, Pool}, Documents.{Place, none_open, open_at_end, encloses}}
+use Rattle.t1_document.specs.{Rewriting.{NewTexts, rewritten_from, written_from}, Lines.{lines_of, line_of, line_len, breaks}, Marks.{mark_of, kind_of}, Stretches.{Stretch, stretches}}
 
 -- ---- lines
 

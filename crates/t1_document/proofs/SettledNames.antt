@@ -1,18 +1,9 @@
 -- Names of places whose font texts are one.
 use Rattle.std.proofs.Common.{◌≡◌, ℕ, Bool, true, false, cond, refl, sym, ◌∙◌, ap, subst, ◌⊎◌, List, [], ◌∷◌, map, inl, inr, Option, Some, None}
-use Rattle.std.specs.Prelude.{◌&&◌, ◌||◌, not}
-use Rattle.std.specs.List.{AllByRecursion, find}
-use Rattle.std.specs.Option.{option_map}
-use Rattle.std.specs.Str.{bytes_eq}
-use Rattle.std.proofs.lemmas.Bool.{cases_Bool, or_parts, cond-false, true≢false}
-use Rattle.std.proofs.lemmas.Slice.Eq.{bytes_eq-Decides}
-use Rattle.t1_document.specs.Documents.{Place}
-use Rattle.t1_document.specs.Rewriting.{NewTexts}
-use Rattle.t1_document.specs.Joins.{places_under}
-use Rattle.t1_document.specs.Families.{first_text, is_text, differs, has_other, has_several}
-use Rattle.t1_document.proofs.WriteLoop.{same_test}
-use Rattle.t1_document.proofs.Pooled.{bare}
-use Rattle.t1_document.proofs.Again.{HaveText}
+use Rattle.std.proofs.{lemmas.Bool.{cases_Bool, or_parts, cond-false, true≢false}, lemmas.Slice.Eq.{bytes_eq-Decides}}
+use Rattle.std.specs.{Prelude.{◌&&◌, ◌||◌, not}, List.{AllByRecursion, find}, Option.{option_map}, Str.{bytes_eq}}
+use Rattle.t1_document.specs.{Documents.{Place}, Rewriting.{NewTexts}, Joins.{places_under}, Families.{first_text, is_text, differs, has_other, has_several}}
+use Rattle.t1_document.proofs.{WriteLoop.{same_test}, Pooled.{bare}, Again.{HaveText}}
 
 -- ---- places of a name
 

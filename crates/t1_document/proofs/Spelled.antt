@@ -1,21 +1,12 @@
 -- The fonts that places spell.
-use Rattle.std.proofs.Common.{◌≡◌, ℕ, true, List, [], ◌∷◌, ◌++◌, length, Option, Some, None, Result, Ok, Err, refl, sym, ap, subst, ◌∙◌}
-use Rattle.std.specs.List.{AllByRecursion}
-use Rattle.std.proofs.lemmas.Bool.{ltb-true}
+use Rattle.std.proofs.{Common.{◌≡◌, ℕ, true, List, [], ◌∷◌, ◌++◌, length, Option, Some, None, Result, Ok, Err, refl, sym, ap, subst, ◌∙◌}, lemmas.Bool.{ltb-true}}
 use Rattle.std.proofs.lemmas.Option.{none-some, option_and_then_some, cond_some}
+use Rattle.std.specs.List.{AllByRecursion}
 use Rattle.t1_bytes.specs.White.{has_bytes}
-use Rattle.t1_font.specs.declared.fault.ReadFault.{ReadFault}
-use Rattle.t1_font.specs.FontValue.{FontValue}
-use Rattle.t1_font.specs.ReadFont.{read_font_widely}
-use Rattle.t1_font.specs.Tags.{name_in}
-use Rattle.t1_document.specs.declared.marks.Open.{Open}
-use Rattle.t1_document.specs.declared.marks.Mark.{Mark}
-use Rattle.t1_document.specs.Stretches.{Stretch, stretches}
-use Rattle.t1_document.specs.Fonts.{if_any, name_read, spelled_name}
-use Rattle.t1_document.specs.Documents.{Place, Document, none_open, open_behind, next_mark, place_at, behind_bytes, at_stretch, document_from, document_of}
-use Rattle.t1_document.specs.Laws.{SpellsPlace}
-use Rattle.t1_document.proofs.FontLemmas.{font_stands}
-use Rattle.t1_document.proofs.PlaceLemmas.{is_place}
+use Rattle.t1_font.specs.{declared.fault.ReadFault.{ReadFault}, FontValue.{FontValue}, ReadFont.{read_font_widely}, Tags.{name_in}}
+use Rattle.t1_document.specs.{declared.marks.Open.{Open}, declared.marks.Mark.{Mark}, Stretches.{Stretch, stretches}, Fonts.{if_any, name_read, spelled_name}}
+use Rattle.t1_document.specs.{Documents.{Place, Document, none_open, open_behind, next_mark, place_at, behind_bytes, at_stretch, document_from, document_of}, Laws.{SpellsPlace}}
+use Rattle.t1_document.proofs.{FontLemmas.{font_stands}, PlaceLemmas.{is_place}}
 
 -- a name that was read is that of a font
 spells_name : (p : Place) → spelled_name p.text ≡ Some p.name → SpellsPlace p

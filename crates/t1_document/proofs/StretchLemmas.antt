@@ -1,13 +1,9 @@
 -- The stretches of a text: joined, they are the text; and stretches that are those of a text are read again.
 use Rattle.std.proofs.Common.{◌≡◌, ℕ, Bool, true, false, List, [], ◌∷◌, ◌++◌, ◌<◌, ◌≤◌, length, drop, Option, Some, None, is_some, refl, sym, ap, subst, ◌∙◌, arith, append_assoc, inl, inr, ltb}
+use Rattle.std.proofs.{lemmas.Bool.{or_parts, cases_Bool, cases_lt, lt-ltb, le-ltb, true≢false}, lemmas.List.{append-nil, length-append, length-take-le, drop_at, nil_from_length}}
 use Rattle.std.specs.List.{concat, list_any}
-use Rattle.std.proofs.lemmas.Bool.{or_parts, cases_Bool, cases_lt, lt-ltb, le-ltb, true≢false}
-use Rattle.std.proofs.lemmas.List.{append-nil, length-append, length-take-le, drop_at, nil_from_length}
-use Rattle.t1_document.specs.declared.marks.Mark.{Mark}
-use Rattle.t1_document.specs.Lines.{lines_of, line_len, line_of, breaks}
-use Rattle.t1_document.specs.Marks.{mark_of, has_mark}
-use Rattle.t1_document.specs.Stretches.{Stretch, Stretches, at_line, gathered, stretches, stretches_bytes, stretches_text, AreStretches, AreThose}
-use Rattle.t1_document.specs.Documents.{next_mark}
+use Rattle.t1_document.specs.{declared.marks.Mark.{Mark}, Lines.{lines_of, line_len, line_of, breaks}, Marks.{mark_of, has_mark}}
+use Rattle.t1_document.specs.{Stretches.{Stretch, Stretches, at_line, gathered, stretches, stretches_bytes, stretches_text, AreStretches, AreThose}, Documents.{next_mark}}
 use Rattle.t1_document.proofs.LineLemmas.{lines_joined, lines_apart, AreLines, are_lines, line_within, line_has, first_line, breaks-front, breaks-append, breaks-nil}
 
 -- ---- joined

@@ -1,22 +1,10 @@
 -- The loops that find the names that are refused, and that write a document with new texts.
-use Rattle.std.proofs.Common.{◌≡◌, ◌<◌, ◌≤◌, ◌+◌, ℕ, Bool, true, false, cond, List, [], ◌∷◌, ◌++◌, length, get_or, take, drop, map, Option, Some, None}
-use Rattle.std.proofs.Common.{refl, sym, ap, ◌∙◌, append_assoc, is_some, Bor, inl, inr}
-use Rattle.std.specs.Prelude.{◌&&◌, ◌||◌}
-use Rattle.std.specs.List.{list_any}
-use Rattle.std.specs.Option.{option_map}
-use Rattle.std.specs.Str.{bytes_eq}
-use Rattle.std.proofs.Math.Bool.{or-false, and-true, and-false}
-use Rattle.std.proofs.lemmas.Bool.{cases_Bool, true≢false}
-use Rattle.std.proofs.lemmas.List.{at_drop_more, at_drop_all, map-append, take_more}
-use Rattle.std.proofs.lemmas.List.Folds.{list_any-append}
-use Rattle.std.proofs.lemmas.Slice.Eq.{bytes_eq-Decides}
-use Rattle.t1_document.specs.declared.documents.Place.{Place as CodePlace}
-use Rattle.t1_document.specs.declared.texts.Texts.{Texts}
-use Rattle.t1_document.specs.declared.rewriting.Way.{Way}
-use Rattle.t1_document.specs.Documents.{Place}
-use Rattle.t1_document.specs.Rewriting.{NewTexts, is_refused, standing, is_seen, Fate, fate_by, fate_of, fate_bytes, seen_behind, written_from}
-use Rattle.t1_document.specs.Texts.{text_in, has_text, Sees}
-use Rattle.t1_document.specs.Views.{place_view}
+use Rattle.std.proofs.Common.{◌≡◌, ◌<◌, ◌≤◌, ◌+◌, ℕ, Bool, true, false, cond, List, [], ◌∷◌, ◌++◌, length, get_or, take, drop, map, Option, Some, None, refl, sym, ap, ◌∙◌, append_assoc, is_some}
+use Rattle.std.proofs.{Common.{Bor, inl, inr}, Math.Bool.{or-false, and-true, and-false}, lemmas.Bool.{cases_Bool, true≢false}, lemmas.List.{at_drop_more, at_drop_all, map-append, take_more}}
+use Rattle.std.proofs.{lemmas.List.Folds.{list_any-append}, lemmas.Slice.Eq.{bytes_eq-Decides}}
+use Rattle.std.specs.{Prelude.{◌&&◌, ◌||◌}, List.{list_any}, Option.{option_map}, Str.{bytes_eq}}
+use Rattle.t1_document.specs.{declared.documents.Place.{Place as CodePlace}, declared.texts.Texts.{Texts}, declared.rewriting.Way.{Way}, Documents.{Place}}
+use Rattle.t1_document.specs.{Rewriting.{NewTexts, is_refused, standing, is_seen, Fate, fate_by, fate_of, fate_bytes, seen_behind, written_from}, Texts.{text_in, has_text, Sees}, Views.{place_view}}
 
 -- ---- names of places that pass a test
 

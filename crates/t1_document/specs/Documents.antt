@@ -1,15 +1,7 @@
 -- A document as its places, which hold fonts, and the bytes before, between and behind them.
-use Rattle.std.specs.Prelude.{◌≡◌, ℕ, ◌+◌, ◌==◌, ◌&&◌, Bool, true, false, List, [], ◌∷◌, ◌++◌, length, Option, Some, None, if◌then◌else◌}
-use Rattle.std.specs.List.{flat_map}
-use Rattle.std.specs.Option.{option_map}
-use Rattle.t1_document.specs.declared.marks.Side.{Side}
-use Rattle.t1_document.specs.declared.marks.Side.TheVariants.{Begin, End}
-use Rattle.t1_document.specs.declared.marks.Kind.{Kind}
-use Rattle.t1_document.specs.declared.marks.Mark.{Mark}
-use Rattle.t1_document.specs.declared.marks.Open.{Open}
-use Rattle.t1_document.specs.Marks.{holds_fonts, holds_data, is_document, same_kind, open_count}
-use Rattle.t1_document.specs.Stretches.{Stretch, Stretches, stretches}
-use Rattle.t1_document.specs.Fonts.{FontText, font_in}
+use Rattle.std.specs.{Prelude.{◌≡◌, ℕ, ◌+◌, ◌==◌, ◌&&◌, Bool, true, false, List, [], ◌∷◌, ◌++◌, length, Option, Some, None, if◌then◌else◌}, List.{flat_map}, Option.{option_map}}
+use Rattle.t1_document.specs.{declared.marks.Side.{Side}, declared.marks.Side.TheVariants.{Begin, End}, declared.marks.Kind.{Kind}, declared.marks.Mark.{Mark}, declared.marks.Open.{Open}}
+use Rattle.t1_document.specs.{Marks.{holds_fonts, holds_data, is_document, same_kind, open_count}, Stretches.{Stretch, Stretches, stretches}, Fonts.{FontText, font_in}}
 
 -- A place: the bytes between the place before it and its font text, its kind, how many documents are open around it, the name of its font,
 -- its font text, and the rest of the place.

@@ -1,13 +1,10 @@
 -- Families of names: those that are equal without their tags. The fonts of a family are joined under the name of its leader, and its other names become
 -- names of that font.
-use Rattle.std.specs.Prelude.{ℕ, ◌==◌, ◌&&◌, ◌||◌, not, Bool, false, List, [], ◌∷◌, ◌++◌, map, codes, Option, Some, None, if◌then◌else◌}
-use Rattle.std.specs.List.{list_any, find}
-use Rattle.std.specs.Option.{option_and_then, option_map}
+use Rattle.std.specs.{Prelude.{ℕ, ◌==◌, ◌&&◌, ◌||◌, not, Bool, false, List, [], ◌∷◌, ◌++◌, map, codes, Option, Some, None, if◌then◌else◌}, List.{list_any, find}, Option.{option_and_then, option_map}}
 use Rattle.std.specs.Str.{bytes_eq}
 use Rattle.t1_bytes.specs.White.{has_bytes}
 use Rattle.t1_font.specs.Tags.{untagged}
-use Rattle.t1_document.specs.Documents.{Place, Document}
-use Rattle.t1_document.specs.Rewriting.{NewTexts, is_seen, Fate, Stays, Becomes, Gives, fated}
+use Rattle.t1_document.specs.{Documents.{Place, Document}, Rewriting.{NewTexts, is_seen, Fate, Stays, Becomes, Gives, fated}}
 
 -- a name without the tags that it begins with, or the name itself where nothing would be left
 abbrev pub family : List ℕ → List ℕ

@@ -1,15 +1,9 @@
 -- The laws of families of names, each the contract of a function in `laws`.
-use Rattle.std.specs.Prelude.{◌≡◌, ℕ, List, map, Some, Ok}
-use Rattle.std.specs.List.{AllByRecursion}
+use Rattle.std.specs.{Prelude.{◌≡◌, ℕ, List, map, Some, Ok}, List.{AllByRecursion}}
 use Rattle.t1_bytes.specs.Laws.{AreBytes}
-use Rattle.t1_font.specs.FontValue.{FontValue}
-use Rattle.t1_font.specs.ReadFont.{read_font_widely}
-use Rattle.t1_document.specs.Stretches.{stretches, mark_lines}
-use Rattle.t1_document.specs.Documents.{document_bytes, document_of}
-use Rattle.t1_document.specs.Rewriting.{fated_bytes}
-use Rattle.t1_document.specs.Joins.{Outcomes, AreOutcomes, places_under, new_texts, PooledBy}
-use Rattle.t1_document.specs.Families.{with_leaders, family_members, led_fate, aliased}
-use Rattle.t1_document.specs.JoinLaws.{FontStaysIn}
+use Rattle.t1_font.specs.{FontValue.{FontValue}, ReadFont.{read_font_widely}}
+use Rattle.t1_document.specs.{Stretches.{stretches, mark_lines}, Documents.{document_bytes, document_of}, Rewriting.{fated_bytes}, Joins.{Outcomes, AreOutcomes, places_under, new_texts, PooledBy}}
+use Rattle.t1_document.specs.{Families.{with_leaders, family_members, led_fate, aliased}, JoinLaws.{FontStaysIn}}
 
 -- the outcomes are those of the families of a text, each under the name of its leader
 abbrev pub AreOfFamilies : List ℕ → Outcomes → Type 0

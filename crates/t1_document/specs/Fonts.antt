@@ -1,16 +1,8 @@
 -- Font texts: fonts whose cipher is hexadecimal, as documents have them.
-use Rattle.std.specs.Prelude.{ℕ, ◌-◌, ◌==◌, Bool, true, false, List, ◌++◌, length, take, get_or, codes, Option, Some, None, Result, Ok, Err, if◌then◌else◌}
-use Rattle.std.specs.Option.{option_and_then, option_map}
+use Rattle.std.specs.{Prelude.{ℕ, ◌-◌, ◌==◌, Bool, true, false, List, ◌++◌, length, take, get_or, codes, Option, Some, None, Result, Ok, Err, if◌then◌else◌}, Option.{option_and_then, option_map}}
 use Rattle.t1_grammar.specs.Grammar.{Grammar, ◌>>◌, that, fixed, first}
-use Rattle.t1_bytes.specs.White.{has_bytes}
-use Rattle.t1_bytes.specs.Cipher.{private_cipher}
-use Rattle.t1_bytes.specs.Texts.{hex_lines, zero_lines}
-use Rattle.t1_bytes.specs.Eexec.{eexec_marker, hex_text}
-use Rattle.t1_font.specs.declared.fault.ReadFault.{ReadFault}
-use Rattle.t1_font.specs.declared.fault.ReadFault.TheVariants.{Memory}
-use Rattle.t1_font.specs.FontValue.{FontValue}
-use Rattle.t1_font.specs.Canon.{canon_clear, canon_private}
-use Rattle.t1_font.specs.ReadFont.{read_font_widely}
+use Rattle.t1_bytes.specs.{White.{has_bytes}, Cipher.{private_cipher}, Texts.{hex_lines, zero_lines}, Eexec.{eexec_marker, hex_text}}
+use Rattle.t1_font.specs.{declared.fault.ReadFault.{ReadFault}, declared.fault.ReadFault.TheVariants.{Memory}, FontValue.{FontValue}, Canon.{canon_clear, canon_private}, ReadFont.{read_font_widely}}
 use Rattle.t1_font.specs.Tags.{name_in}
 
 -- ---- where it ends

@@ -1,14 +1,6 @@
 -- The places of each name, and what they come to, as code keeps them.
-use Rattle.std.specs.Prelude.{ℕ, List, [], map, Option, Some, None}
-use Rattle.std.specs.Global.{Vec}
-use Rattle.std.specs.Ordering.{nat_cmp}
-use Rattle.std.specs.Cmp.Lexicographic.{slice_cmp}
-use Rattle.std.specs.BTreeMap.{get_by}
-use Rattle.t1_document.specs.declared.documents.Place.{Place as CodePlace}
-use Rattle.t1_document.specs.declared.groups.Groups.{Groups}
-use Rattle.t1_document.specs.declared.joins.Outcome.{Outcome}
-use Rattle.t1_document.specs.declared.joins.Joins.{Joins}
-use Rattle.t1_document.specs.Documents.{Place}
+use Rattle.std.specs.{Prelude.{ℕ, List, [], map, Option, Some, None}, Global.{Vec}, Ordering.{nat_cmp}, Cmp.Lexicographic.{slice_cmp}, BTreeMap.{get_by}}
+use Rattle.t1_document.specs.{declared.documents.Place.{Place as CodePlace}, declared.groups.Groups.{Groups}, declared.joins.Outcome.{Outcome}, declared.joins.Joins.{Joins}, Documents.{Place}}
 use Rattle.t1_document.specs.Views.{place_view}
 
 -- the places of a vector, if there is one

@@ -1,18 +1,9 @@
 -- The laws of documents whose fonts are joined, each the contract of a function in `laws`.
-use Rattle.std.specs.Prelude.{◌≡◌, ℕ, true, List, [], ◌∷◌, ◌++◌, Some, Ok, IsPermutation}
-use Rattle.std.specs.List.{AllByRecursion}
+use Rattle.std.specs.{Prelude.{◌≡◌, ℕ, true, List, [], ◌∷◌, ◌++◌, Some, Ok, IsPermutation}, List.{AllByRecursion}}
 use Rattle.t1_bytes.specs.Laws.{AreBytes}
-use Rattle.t1_font.specs.FontValue.{FontValue}
-use Rattle.t1_font.specs.FontModel.{subr_at}
-use Rattle.t1_font.specs.ReadFont.{read_font_widely}
-use Rattle.t1_font.specs.Encodings.{SameKind}
-use Rattle.t1_algebra.specs.Keep.{has}
-use Rattle.t1_algebra.specs.States.{code_state}
-use Rattle.t1_algebra.specs.Evened.{StaysDrawn, map_subrs}
-use Rattle.t1_document.specs.Lines.{breaks}
-use Rattle.t1_document.specs.Documents.{Place, IsClosed}
-use Rattle.t1_document.specs.Joins.{Outcomes, AreOutcomes, places_of_all, places_under, new_texts, PooledBy, LevelsTo}
-use Rattle.t1_document.specs.Laws.{NoneRefused}
+use Rattle.t1_font.specs.{FontValue.{FontValue}, FontModel.{subr_at}, ReadFont.{read_font_widely}, Encodings.{SameKind}}
+use Rattle.t1_algebra.specs.{Keep.{has}, States.{code_state}, Evened.{StaysDrawn, map_subrs}}
+use Rattle.t1_document.specs.{Lines.{breaks}, Documents.{Place, IsClosed}, Joins.{Outcomes, AreOutcomes, places_of_all, places_under, new_texts, PooledBy, LevelsTo}, Laws.{NoneRefused}}
 
 -- ---- glyphs
 

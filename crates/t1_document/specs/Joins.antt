@@ -1,26 +1,11 @@
 -- What becomes of the fonts of a document: those of one name are joined.
-use Rattle.std.specs.Prelude.{◌≡◌, ℕ, map, Bool, true, false, List, [], ◌∷◌, filter, codes, Option, Some, None, Result, Ok, Err, if◌then◌else◌}
-use Rattle.std.specs.List.{list_all, flat_map}
-use Rattle.std.specs.Option.{option_and_then}
+use Rattle.std.specs.{Prelude.{◌≡◌, ℕ, map, Bool, true, false, List, [], ◌∷◌, filter, codes, Option, Some, None, Result, Ok, Err, if◌then◌else◌}, List.{list_all, flat_map}, Option.{option_and_then}}
 use Rattle.std.specs.Str.{bytes_eq}
-use Rattle.t1_font.specs.declared.fault.ReadFault.{ReadFault}
-use Rattle.t1_font.specs.FontValue.{FontValue}
-use Rattle.t1_font.specs.FaultTexts.{fault_text}
-use Rattle.t1_subset.specs.FaultTexts.{rejoin_text}
-use Rattle.t1_font.specs.ReadFont.{read_font_widely}
-use Rattle.t1_font.specs.FontNames.{evened_named}
-use Rattle.t1_subset.specs.declared.fault.RejoinFault.{RejoinFault}
-use Rattle.t1_subset.specs.declared.fault.RejoinFault.TheVariants.{Lacks, Merge}
-use Rattle.t1_subset.specs.declared.conflict.Conflict.{Conflict}
-use Rattle.t1_subset.specs.declared.conflict.Conflict.TheVariants.{Memory}
-use Rattle.t1_subset.specs.Rejoins.{Rejoin, NotRejoined}
-use Rattle.t1_document.specs.declared.joins.Kept.{Kept}
-use Rattle.t1_document.specs.declared.joins.Kept.TheVariants.{Unread, Unlike, Barred}
-use Rattle.t1_document.specs.declared.joins.Outcome.{Outcome}
-use Rattle.t1_document.specs.declared.joins.Outcome.TheVariants.{Same, Joined, Stays}
-use Rattle.t1_document.specs.Fonts.{canon_text}
-use Rattle.t1_document.specs.Documents.{Place, document_of}
-use Rattle.t1_document.specs.Rewriting.{NewTexts, can_stand, is_seen, pooled, levelled}
+use Rattle.t1_font.specs.{declared.fault.ReadFault.{ReadFault}, FontValue.{FontValue}, FaultTexts.{fault_text}, ReadFont.{read_font_widely}, FontNames.{evened_named}}
+use Rattle.t1_subset.specs.{FaultTexts.{rejoin_text}, declared.fault.RejoinFault.{RejoinFault}, declared.fault.RejoinFault.TheVariants.{Lacks, Merge}, declared.conflict.Conflict.{Conflict}}
+use Rattle.t1_subset.specs.{declared.conflict.Conflict.TheVariants.{Memory}, Rejoins.{Rejoin, NotRejoined}}
+use Rattle.t1_document.specs.{declared.joins.Kept.{Kept}, declared.joins.Kept.TheVariants.{Unread, Unlike, Barred}, declared.joins.Outcome.{Outcome}}
+use Rattle.t1_document.specs.{declared.joins.Outcome.TheVariants.{Same, Joined, Stays}, Fonts.{canon_text}, Documents.{Place, document_of}, Rewriting.{NewTexts, can_stand, is_seen, pooled, levelled}}
 
 -- what is printed of a reason to keep texts
 abbrev pub kept_text : Kept → List ℕ

@@ -1,19 +1,9 @@
 -- The laws of documents, each the contract of a function in `laws`.
-use Rattle.std.specs.Prelude.{◌≡◌, ◌⊎◌, ◌<◌, ℕ, List, [], ◌∷◌, ◌++◌, codes, not, length, map, true, false, Some, None, Ok}
-use Rattle.std.specs.List.{AllByRecursion}
-use Rattle.t1_font.specs.FontValue.{FontValue}
+use Rattle.std.specs.{Prelude.{◌≡◌, ◌⊎◌, ◌<◌, ℕ, List, [], ◌∷◌, ◌++◌, codes, not, length, map, true, false, Some, None, Ok}, List.{AllByRecursion}}
+use Rattle.t1_font.specs.{FontValue.{FontValue}, IsFont.{IsFont}, Canon.{canon}, ReadFont.{read_font_widely}, Tags.{name_in}}
 use Rattle.t1_bytes.specs.declared.form.Form.TheVariants.{Pfa}
-use Rattle.t1_font.specs.IsFont.{IsFont}
-use Rattle.t1_font.specs.Canon.{canon}
-use Rattle.t1_font.specs.ReadFont.{read_font_widely}
-use Rattle.t1_font.specs.Tags.{name_in}
-use Rattle.t1_document.specs.declared.rewriting.Way.{Way}
-use Rattle.t1_document.specs.declared.rewriting.Way.TheVariants.{Level, Pool}
-use Rattle.t1_document.specs.Lines.{breaks}
-use Rattle.t1_document.specs.Stretches.{Stretches, stretches, stretches_text, mark_lines, AreThose}
-use Rattle.t1_document.specs.Marks.{has_mark}
-use Rattle.t1_document.specs.Fonts.{font_in, canon_text}
-use Rattle.t1_document.specs.Documents.{Place, Document, document_bytes, document_of, IsClosed, followed}
+use Rattle.t1_document.specs.{declared.rewriting.Way.{Way}, declared.rewriting.Way.TheVariants.{Level, Pool}, Lines.{breaks}, Stretches.{Stretches, stretches, stretches_text, mark_lines, AreThose}}
+use Rattle.t1_document.specs.{Marks.{has_mark}, Fonts.{font_in, canon_text}, Documents.{Place, Document, document_bytes, document_of, IsClosed, followed}}
 use Rattle.t1_document.specs.Rewriting.{NewTexts, can_stand, is_refused, standing, document_rewritten, written_from, levelled, pooled, renewed, ArePooled}
 
 -- ---- stretches

@@ -1,14 +1,8 @@
 -- Marks: the lines by which a document says where its parts begin and end (Adobe's Document Structuring Conventions).
-use Rattle.std.specs.Prelude.{ℕ, ◌+◌, ◌-◌, Bool, true, false, List, codes, Option, Some, None, is_some, if◌then◌else◌}
-use Rattle.std.specs.Option.{option_map}
-use Rattle.std.specs.List.{list_any}
+use Rattle.std.specs.{Prelude.{ℕ, ◌+◌, ◌-◌, Bool, true, false, List, codes, Option, Some, None, is_some, if◌then◌else◌}, Option.{option_map}, List.{list_any}}
 use Rattle.t1_grammar.specs.Grammar.{fixed, choice}
-use Rattle.t1_document.specs.declared.marks.Side.{Side}
-use Rattle.t1_document.specs.declared.marks.Side.TheVariants.{Begin, End}
-use Rattle.t1_document.specs.declared.marks.Kind.{Kind}
-use Rattle.t1_document.specs.declared.marks.Kind.TheVariants.{Font, ProcSet, Resource, Document, Data, Binary}
-use Rattle.t1_document.specs.declared.marks.Mark.{Mark}
-use Rattle.t1_document.specs.Lines.{lines_of}
+use Rattle.t1_document.specs.{declared.marks.Side.{Side}, declared.marks.Side.TheVariants.{Begin, End}, declared.marks.Kind.{Kind}}
+use Rattle.t1_document.specs.{declared.marks.Kind.TheVariants.{Font, ProcSet, Resource, Document, Data, Binary}, declared.marks.Mark.{Mark}, Lines.{lines_of}}
 
 -- a text begins with this word
 abbrev pub begins_with : List ℕ → List ℕ → Bool

@@ -1,11 +1,6 @@
 -- A document whose fonts get new texts: each place of a font keeps one, or one place keeps it for all that follow.
-use Rattle.std.specs.Prelude.{◌≡◌, ℕ, ◌==◌, ◌&&◌, not, Bool, true, false, List, [], ◌∷◌, ◌++◌, Option, Some, None, if◌then◌else◌}
-use Rattle.std.specs.List.{list_any}
-use Rattle.std.specs.Str.{bytes_eq}
-use Rattle.t1_document.specs.declared.rewriting.Way.{Way}
-use Rattle.t1_document.specs.declared.rewriting.Way.TheVariants.{Level, Pool}
-use Rattle.t1_document.specs.Marks.{has_mark}
-use Rattle.t1_document.specs.Fonts.{FontText, font_in}
+use Rattle.std.specs.{Prelude.{◌≡◌, ℕ, ◌==◌, ◌&&◌, not, Bool, true, false, List, [], ◌∷◌, ◌++◌, Option, Some, None, if◌then◌else◌}, List.{list_any}, Str.{bytes_eq}}
+use Rattle.t1_document.specs.{declared.rewriting.Way.{Way}, declared.rewriting.Way.TheVariants.{Level, Pool}, Marks.{has_mark}, Fonts.{FontText, font_in}}
 use Rattle.t1_document.specs.Documents.{Place, Document, document_bytes, prepended, document_of}
 
 -- a new text for some names

@@ -1,9 +1,6 @@
 -- A document as stretches: what stands before its first mark, and each mark with what stands behind it.
-use Rattle.std.specs.Prelude.{◌≡◌, ℕ, true, false, List, [], ◌∷◌, ◌++◌, map, Option, Some, None}
-use Rattle.std.specs.List.{flat_map}
-use Rattle.t1_document.specs.declared.marks.Mark.{Mark}
-use Rattle.t1_document.specs.Lines.{lines_of, breaks}
-use Rattle.t1_document.specs.Marks.{mark_of, has_mark}
+use Rattle.std.specs.{Prelude.{◌≡◌, ℕ, true, false, List, [], ◌∷◌, ◌++◌, map, Option, Some, None}, List.{flat_map}}
+use Rattle.t1_document.specs.{declared.marks.Mark.{Mark}, Lines.{lines_of, breaks}, Marks.{mark_of, has_mark}}
 
 -- a mark, its line, and the text behind that line up to the next mark
 pub record Stretch : Type 0 where

@@ -1,11 +1,6 @@
 -- New texts by the names of fonts, as code keeps them.
-use Rattle.std.specs.Prelude.{◌≡◌, ℕ, Bool, List, Option, is_some}
-use Rattle.std.specs.Option.{option_map}
-use Rattle.std.specs.Ordering.{nat_cmp}
-use Rattle.std.specs.Cmp.Lexicographic.{slice_cmp}
-use Rattle.std.specs.BTreeMap.{get_by}
-use Rattle.t1_document.specs.Rewriting.{is_seen}
-use Rattle.t1_document.specs.declared.texts.Texts.{Texts}
+use Rattle.std.specs.{Prelude.{◌≡◌, ℕ, Bool, List, Option, is_some}, Option.{option_map}, Ordering.{nat_cmp}, Cmp.Lexicographic.{slice_cmp}, BTreeMap.{get_by}}
+use Rattle.t1_document.specs.{Rewriting.{is_seen}, declared.texts.Texts.{Texts}}
 
 -- the text of a name
 abbrev pub text_in : Texts → List ℕ → Option (List ℕ)

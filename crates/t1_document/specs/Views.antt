@@ -1,19 +1,9 @@
 -- What code keeps, as values.
-use Rattle.std.specs.Prelude.{[], map}
-use Rattle.std.specs.Option.{option_map}
-use Rattle.t1_document.specs.declared.stretches.Stretch.{Stretch as CodeStretch}
-use Rattle.t1_document.specs.declared.fonts.FontText.{FontText as CodeFontText}
-use Rattle.t1_document.specs.declared.documents.Place.{Place as CodePlace}
-use Rattle.t1_document.specs.declared.documents.Document.{Document as CodeDocument}
-use Rattle.t1_document.specs.declared.families.Led.{Led as CodeLed}
-use Rattle.t1_document.specs.declared.rewriting.Fate.{Fate as CodeFate}
-use Rattle.t1_document.specs.declared.rewriting.Fate.TheVariants.{Stays, Becomes, Goes}
-use Rattle.t1_document.specs.Stretches.{Stretch}
-use Rattle.t1_document.specs.Fonts.{FontText}
-use Rattle.t1_document.specs.Documents.{Place, Document}
-use Rattle.t1_document.specs.Rewriting.{Fate}
+use Rattle.std.specs.{Prelude.{[], map}, Option.{option_map}}
+use Rattle.t1_document.specs.{declared.stretches.Stretch.{Stretch as CodeStretch}, declared.fonts.FontText.{FontText as CodeFontText}, declared.documents.Place.{Place as CodePlace}}
+use Rattle.t1_document.specs.{declared.documents.Document.{Document as CodeDocument}, declared.families.Led.{Led as CodeLed}, declared.rewriting.Fate.{Fate as CodeFate}}
+use Rattle.t1_document.specs.{declared.rewriting.Fate.TheVariants.{Stays, Becomes, Goes}, Stretches.{Stretch}, Fonts.{FontText}, Documents.{Place, Document}, Rewriting.{Fate}, Families.{Led}}
 use Rattle.t1_document.specs.Rewriting as fates
-use Rattle.t1_document.specs.Families.{Led}
 
 -- a stretch of borrowed bytes
 abbrev pub stretch_view : CodeStretch → Stretch

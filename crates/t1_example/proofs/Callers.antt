@@ -1,39 +1,18 @@
 -- What the calls of a caller answer where the font of its file can be cut.
 use Rattle.std.proofs.Common.{◌≡◌, ℕ, Bool, true, false, not, cond, ◌||◌, inl, inr, List, [], ◌∷◌, refl, sym, ◌∙◌, ap, subst, Option, Some, None, Result, Ok, Err, MatchResult, IfOk, Vec, Global}
-use Rattle.std.specs.Cmp.Lexicographic.{nat_list_cmp_total}
-use Rattle.std.specs.FinSet as sets
-use Rattle.std.specs.List.{list_any, find}
-use Rattle.std.specs.Ordering.{eq_by_cmp}
-use Rattle.t1_bytes.specs.declared.form.Form.{Form}
-use Rattle.t1_bytes.specs.declared.form.Form.TheVariants.{Pfa, Pfb}
-use Rattle.t1_font.specs.declared.fault.ReadFault.{ReadFault}
-use Rattle.t1_font.specs.declared.fault.ReadFault.TheVariants as reading
-use Rattle.t1_font.specs.Answers.{Refused}
-use Rattle.t1_font.specs.Canon.{canon, Fits}
-use Rattle.t1_font.specs.FontValue.{FontValue, name_cmp}
-use Rattle.t1_font.specs.IsFont.{IsFont}
-use Rattle.t1_font.specs.ReadFont.{read_font}
-use Rattle.t1_font.specs.Spelling.{Spells}
-use Rattle.t1_font.proofs.Spelled.{reads_again, one_font}
-use Rattle.t1_font.proofs.canonical.RoundTrip.{round_trip}
-use Rattle.t1_subset.specs.declared.fault.SubsetFault.{SubsetFault}
-use Rattle.t1_subset.specs.declared.fault.SubsetFault.TheVariants as subsetting
-use Rattle.t1_algebra.specs.Interpreter.{Names}
-use Rattle.t1_algebra.specs.Keep.{has, keep, subset, IsOf}
-use Rattle.t1_algebra.specs.Laws.{AnswersAlike}
-use Rattle.t1_algebra.specs.Profile.{profile}
-use Rattle.t1_subset.specs.Refusals.{Absent}
-use Rattle.t1_algebra.proofs.Fonts.{subset_is_font}
-use Rattle.t1_algebra.proofs.Sets.{name_same, itself, in_list, from_in_list, in_union}
-use Rattle.t1_example.specs.declared.refusal.Refusal.{Refusal}
-use Rattle.t1_example.specs.Joining.{CanBeCut, union_subset}
-use Rattle.t1_example.specs.Refusals.{IsMemory}
-use Rattle.t1_example.proofs.Outcomes.{unread}
-use Rattle.t1_subset.specs.declared.conflict.Conflict.{Conflict}
-use Rattle.t1_subset.specs.Merger.{MergesSubsets}
 use Rattle.std.proofs.lemmas.Bool.{or_left, or_right, not_from_true}
-use Rattle.t1_algebra.proofs.Drawings.{subset_alike, answers_alike}
+use Rattle.std.specs.{Cmp.Lexicographic.{nat_list_cmp_total}, List.{list_any, find}, Ordering.{eq_by_cmp}}
+use Rattle.t1_bytes.specs.{declared.form.Form.{Form}, declared.form.Form.TheVariants.{Pfa, Pfb}}
+use Rattle.t1_font.specs.{declared.fault.ReadFault.{ReadFault}, Answers.{Refused}, Canon.{canon, Fits}, FontValue.{FontValue, name_cmp}, IsFont.{IsFont}, ReadFont.{read_font}, Spelling.{Spells}}
 use Rattle.t1_font.specs.Dialect.{strict}
+use Rattle.t1_font.proofs.{Spelled.{reads_again, one_font}, canonical.RoundTrip.{round_trip}}
+use Rattle.t1_subset.specs.{declared.fault.SubsetFault.{SubsetFault}, Refusals.{Absent}, declared.conflict.Conflict.{Conflict}, Merger.{MergesSubsets}}
+use Rattle.t1_algebra.specs.{Interpreter.{Names}, Keep.{has, keep, subset, IsOf}, Laws.{AnswersAlike}, Profile.{profile}}
+use Rattle.t1_algebra.proofs.{Fonts.{subset_is_font}, Sets.{name_same, itself, in_list, from_in_list, in_union}, Drawings.{subset_alike, answers_alike}}
+use Rattle.t1_example.{specs.{declared.refusal.Refusal.{Refusal}, Joining.{CanBeCut, union_subset}, Refusals.{IsMemory}}, proofs.Outcomes.{unread}}
+use Rattle.std.specs.FinSet as sets
+use Rattle.t1_font.specs.declared.fault.ReadFault.TheVariants as reading
+use Rattle.t1_subset.specs.declared.fault.SubsetFault.TheVariants as subsetting
 
 -- a subset begins as its font does
 pub cut_fits : (form : Form) (f : FontValue) (a : Names) → Fits form f → Fits form (subset profile f a)

@@ -1,23 +1,13 @@
 -- What a caller's work comes to, from what its calls answer.
-use Rattle.std.proofs.Common.{◌≡◌, ◌⊎◌, ℕ, inl, inr, List, refl, sym, subst, Option, Some, None, Result, Ok, Err, IfOk, IfErr, Vec, Global}
-use Rattle.std.specs.Option.{option_or}
+use Rattle.std.{proofs.Common.{◌≡◌, ◌⊎◌, ℕ, inl, inr, List, refl, sym, subst, Option, Some, None, Result, Ok, Err, IfOk, IfErr, Vec, Global}, specs.Option.{option_or}}
 use Rattle.t1_bytes.specs.declared.form.Form.{Form}
-use Rattle.t1_font.specs.declared.fault.ReadFault.{ReadFault}
-use Rattle.t1_font.specs.declared.fault.ReadFault.TheVariants as reading
-use Rattle.t1_font.specs.Answers.{Refused}
-use Rattle.t1_font.specs.FontValue.{FontValue}
-use Rattle.t1_font.specs.ReadFont.{read_font}
-use Rattle.t1_algebra.specs.Conflicts.{conflict}
-use Rattle.t1_algebra.specs.Profile.{profile}
-use Rattle.t1_algebra.specs.States.{Join, joined_font}
-use Rattle.t1_subset.specs.declared.fault.SubsetFault.TheVariants as subsetting
-use Rattle.t1_subset.specs.declared.conflict.Conflict.{Conflict}
-use Rattle.t1_subset.specs.Merger.{IsMerger}
-use Rattle.t1_subset.specs.Refusals.{Tells}
-use Rattle.t1_example.specs.declared.refusal.Refusal.{Refusal}
-use Rattle.t1_example.specs.declared.refusal.Refusal.TheVariants.{Read, Subset, Merge, Memory}
-use Rattle.t1_example.specs.Refusals.{IsMemory, LacksFirst, first_lacking}
+use Rattle.t1_font.specs.{declared.fault.ReadFault.{ReadFault}, Answers.{Refused}, FontValue.{FontValue}, ReadFont.{read_font}}
+use Rattle.t1_algebra.specs.{Conflicts.{conflict}, Profile.{profile}, States.{Join, joined_font}}
+use Rattle.t1_subset.specs.{declared.conflict.Conflict.{Conflict}, Merger.{IsMerger}, Refusals.{Tells}}
+use Rattle.t1_example.specs.{declared.refusal.Refusal.{Refusal}, declared.refusal.Refusal.TheVariants.{Read, Subset, Merge, Memory}, Refusals.{IsMemory, LacksFirst, first_lacking}}
 use Rattle.t1_example.specs.Outcomes.{FileComesTo, CutsMergeTo, FilesMergeTo, MergeTo, file_of}
+use Rattle.t1_font.specs.declared.fault.ReadFault.TheVariants as reading
+use Rattle.t1_subset.specs.declared.fault.SubsetFault.TheVariants as subsetting
 
 -- a file is refused for want of memory, or for what is read of it
 pub unread : (e : ReadFault) (r : Result FontValue ReadFault) → Refused e r → (e ≡ reading.Memory) ⊎ (r ≡ Err e)

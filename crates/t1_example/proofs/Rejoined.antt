@@ -1,15 +1,9 @@
 -- What two fonts rejoin to draws as they do.
 use Rattle.std.proofs.Common.{◌≡◌, ℕ, sym, ◌∙◌, subst, List, [], ◌∷◌, Ok}
-use Rattle.t1_bytes.specs.declared.form.Form.{Form}
-use Rattle.t1_bytes.specs.Laws.{AreBytes}
-use Rattle.t1_font.specs.FontValue.{FontValue}
-use Rattle.t1_font.specs.Canon.{canon}
-use Rattle.t1_cmd.specs.Files.{Values, value_before, values_from, OfFiles}
-use Rattle.t1_cmd.specs.Fonts.{mended_input}
-use Rattle.t1_cmd.specs.Rejoins.{RejoinsTo}
-use Rattle.t1_cmd.specs.Cuts.{AllStayDrawnIn}
-use Rattle.t1_cmd.proofs.CutLemmas.{rejoined_draw}
-use Rattle.t1_cmd.proofs.MendLemmas.{mended_font}
+use Rattle.t1_bytes.specs.{declared.form.Form.{Form}, Laws.{AreBytes}}
+use Rattle.t1_font.specs.{FontValue.{FontValue}, Canon.{canon}}
+use Rattle.t1_cmd.specs.{Files.{Values, value_before, values_from, OfFiles}, Fonts.{mended_input}, Rejoins.{RejoinsTo}, Cuts.{AllStayDrawnIn}}
+use Rattle.t1_cmd.proofs.{CutLemmas.{rejoined_draw}, MendLemmas.{mended_font}}
 
 -- what two files say
 both_said : (first second : List ℕ) (f g : FontValue) → mended_input first ≡ Ok f → mended_input second ≡ Ok g →

@@ -1,14 +1,9 @@
 -- What a font has to be for its subsets to be joined, and what they come to.
 use Rattle.std.specs.Prelude.{◌≡◌, ℕ, List, Ok}
-use Rattle.std.specs.FinSet as sets
 use Rattle.t1_bytes.specs.declared.form.Form.{Form}
-use Rattle.t1_font.specs.FontValue.{FontValue}
-use Rattle.t1_font.specs.ReadFont.{read_font}
-use Rattle.t1_font.specs.Spelling.{Spells}
-use Rattle.t1_font.specs.Canon.{Fits}
-use Rattle.t1_algebra.specs.Interpreter.{Names}
-use Rattle.t1_algebra.specs.Keep.{subset, IsOf}
-use Rattle.t1_algebra.specs.Profile.{profile}
+use Rattle.t1_font.specs.{FontValue.{FontValue}, ReadFont.{read_font}, Spelling.{Spells}, Canon.{Fits}}
+use Rattle.t1_algebra.specs.{Interpreter.{Names}, Keep.{subset, IsOf}, Profile.{profile}}
+use Rattle.std.specs.FinSet as sets
 
 -- The file spells the font, which has the names of both sets, and whose files in this form can be read again.
 pub record CanBeCut (file : List ℕ) (a b : Names) (form : Form) (f : FontValue) : Type 0 where

@@ -1,6 +1,5 @@
 -- New texts of fonts.
-use Rattle.std.specs.Prelude.{ℕ, List, Some, None, if◌then◌else◌}
-use Rattle.std.specs.Str.{bytes_eq}
+use Rattle.std.specs.{Prelude.{ℕ, List, Some, None, if◌then◌else◌}, Str.{bytes_eq}}
 use Rattle.t1_document.specs.Rewriting.{NewTexts}
 
 -- a text for one name alone

@@ -1,22 +1,11 @@
 -- What a caller's work comes to, whatever the file and the names are.
-use Rattle.std.specs.Prelude.{◌≡◌, ◌⊎◌, ℕ, List, Result, Ok, Err, Option, Some, None, MatchResult}
-use Rattle.std.specs.FinSet as sets
-use Rattle.std.specs.Global.{Vec}
-use Rattle.std.specs.Option.{option_or}
+use Rattle.std.specs.{Prelude.{◌≡◌, ◌⊎◌, ℕ, List, Result, Ok, Err, Option, Some, None, MatchResult}, Global.{Vec}, Option.{option_or}}
 use Rattle.t1_bytes.specs.declared.form.Form.{Form}
-use Rattle.t1_font.specs.declared.fault.ReadFault.{ReadFault}
-use Rattle.t1_font.specs.Canon.{canon}
-use Rattle.t1_font.specs.FontValue.{FontValue}
-use Rattle.t1_font.specs.ReadFont.{read_font}
-use Rattle.t1_algebra.specs.Conflicts.{Conflict, conflict}
-use Rattle.t1_algebra.specs.Keep.{subset}
-use Rattle.t1_algebra.specs.Profile.{profile}
-use Rattle.t1_algebra.specs.States.{Join, joined_font}
-use Rattle.t1_subset.specs.declared.fault.SubsetFault.TheVariants.{NoSuchGlyph}
-use Rattle.t1_subset.specs.Refusals.{Tells}
-use Rattle.t1_example.specs.declared.refusal.Refusal.{Refusal}
-use Rattle.t1_example.specs.declared.refusal.Refusal.TheVariants.{Read, Subset, Merge}
-use Rattle.t1_example.specs.Refusals.{IsMemory, first_lacking}
+use Rattle.t1_font.specs.{declared.fault.ReadFault.{ReadFault}, Canon.{canon}, FontValue.{FontValue}, ReadFont.{read_font}}
+use Rattle.t1_algebra.specs.{Conflicts.{Conflict, conflict}, Keep.{subset}, Profile.{profile}, States.{Join, joined_font}}
+use Rattle.t1_subset.specs.{declared.fault.SubsetFault.TheVariants.{NoSuchGlyph}, Refusals.{Tells}}
+use Rattle.t1_example.specs.{declared.refusal.Refusal.{Refusal}, declared.refusal.Refusal.TheVariants.{Read, Subset, Merge}, Refusals.{IsMemory, first_lacking}}
+use Rattle.std.specs.FinSet as sets
 
 -- there is no file, for this reason or since a growth was refused
 abbrev pub NoFile : (Refusal → Type 0) → Result (Vec ℕ) Refusal → Type 0

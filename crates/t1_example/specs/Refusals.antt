@@ -1,14 +1,12 @@
 -- Why a font is not cut.
-use Rattle.std.specs.Prelude.{◌≡◌, ℕ, List, Option, not}
-use Rattle.std.specs.List.{find}
-use Rattle.t1_font.specs.declared.fault.ReadFault.TheVariants as reading
+use Rattle.std.specs.{Prelude.{◌≡◌, ℕ, List, Option, not}, List.{find}}
 use Rattle.t1_font.specs.FontValue.{FontValue}
 use Rattle.t1_algebra.specs.Keep.{has}
+use Rattle.t1_subset.specs.Refusals.{Absent}
+use Rattle.t1_example.specs.{declared.refusal.Refusal.{Refusal}, declared.refusal.Refusal.TheVariants.{Read, Subset, Merge, Memory}}
+use Rattle.t1_font.specs.declared.fault.ReadFault.TheVariants as reading
 use Rattle.t1_subset.specs.declared.fault.SubsetFault.TheVariants as subsetting
 use Rattle.t1_subset.specs.declared.conflict.Conflict.TheVariants as merging
-use Rattle.t1_subset.specs.Refusals.{Absent}
-use Rattle.t1_example.specs.declared.refusal.Refusal.{Refusal}
-use Rattle.t1_example.specs.declared.refusal.Refusal.TheVariants.{Read, Subset, Merge, Memory}
 
 -- a growth was refused
 abbrev pub IsMemory : Refusal → Type 0

@@ -1,13 +1,9 @@
 -- What was answered, by the relations.
 use Rattle.std.proofs.Common.{◌≡◌, ◌∙◌, sym, subst, ℕ, List, [], ◌∷◌, Result, Ok, Err, get_or, Fits, w8, suc}
 use Rattle.t1_bytes.specs.Laws.{AreBytes}
-use Rattle.t1_font.specs.declared.dialect.Dialect.{Dialect}
-use Rattle.t1_font.specs.declared.fault.ReadFault.{ReadFault}
-use Rattle.t1_font.specs.declared.fault.ReadFault.TheVariants.{TooLong, BadSegment, NoEexec, ShortCipher, NoEncoding, BadEncoding, NoCharStrings}
-use Rattle.t1_font.specs.declared.fault.ReadFault.TheVariants.{BadLenIV, BadSubrs, BadGlyphs, Hybrid, NoClosefile, NoNotdef, Limit, Memory}
-use Rattle.t1_font.specs.ReadFont.{font_file}
-use Rattle.t1_font.specs.Reasons.{RefusesIn}
-use Rattle.t1_font.specs.Answers.{Refused, Shown, Answers}
+use Rattle.t1_font.specs.{declared.dialect.Dialect.{Dialect}, declared.fault.ReadFault.{ReadFault}}
+use Rattle.t1_font.specs.declared.fault.ReadFault.TheVariants.{TooLong, BadSegment, NoEexec, ShortCipher, NoEncoding, BadEncoding, NoCharStrings, BadLenIV, BadSubrs, BadGlyphs, Hybrid, NoClosefile}
+use Rattle.t1_font.specs.{declared.fault.ReadFault.TheVariants.{NoNotdef, Limit, Memory}, ReadFont.{font_file}, Reasons.{RefusesIn}, Answers.{Refused, Shown, Answers}}
 use Rattle.t1_font.proofs.Spelled.{refuses}
 
 -- the bytes of a slice are bytes

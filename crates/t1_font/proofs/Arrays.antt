@@ -1,15 +1,8 @@
 -- A loop that reads the names of a literal array: what is held so far, and what is left.
-use Rattle.std.proofs.Common.{◌≡◌, ℕ, zero, suc, ◌+◌, ◌-◌, ◌<◌, ◌≤◌, List, [], ◌∷◌, ◌++◌, length, Some, None, Ok, Err, sym, ap, subst, ◌∙◌, arith}
-use Rattle.std.specs.FinMap.{insert}
-use Rattle.std.specs.Ordering.{nat_cmp}
-use Rattle.std.proofs.lemmas.List.{length-append}
-use Rattle.t1_grammar.specs.Tables.{with_front, counted_at}
-use Rattle.t1_grammar.specs.CountedLaws.{counted_turn, counted_stops, counted_closes, counted_unclosed}
-use Rattle.t1_font.specs.declared.dialect.Spacing.{Spacing}
-use Rattle.t1_font.specs.Words.{next_name}
-use Rattle.t1_font.specs.Encoding.{code_count, array_end, from_code}
-use Rattle.t1_font.specs.Entries.{map_of}
-use Rattle.t1_font.specs.FontValue.{Numbered}
+use Rattle.std.proofs.{Common.{◌≡◌, ℕ, zero, suc, ◌+◌, ◌-◌, ◌<◌, ◌≤◌, List, [], ◌∷◌, ◌++◌, length, Some, None, Ok, Err, sym, ap, subst, ◌∙◌, arith}, lemmas.List.{length-append}}
+use Rattle.std.specs.{FinMap.{insert}, Ordering.{nat_cmp}}
+use Rattle.t1_grammar.specs.{Tables.{with_front, counted_at}, CountedLaws.{counted_turn, counted_stops, counted_closes, counted_unclosed}}
+use Rattle.t1_font.specs.{declared.dialect.Spacing.{Spacing}, Words.{next_name}, Encoding.{code_count, array_end, from_code}, Entries.{map_of}, FontValue.{Numbered}}
 use Rattle.t1_font.proofs.HeldLemmas.{one_code_more}
 
 -- the names of the codes below this one are held, before those that are left

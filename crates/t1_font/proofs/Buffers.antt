@@ -1,22 +1,14 @@
 -- Ranges of a buffer of which a part was decrypted where it stands.
 use Rattle.std.proofs.Common.{◌≡◌, refl, sym, ap, subst, ◌∙◌, ℕ, ◌+◌, ◌-◌, ◌≤◌, arith, List, [], ◌∷◌, ◌++◌, map, length, take, take_all, drop}
 use Rattle.std.proofs.lemmas.List.{append_assoc, map_push, length-append, length-drop, length-take-le, take-append-le, drop-append-le, drop-drop, drop_at, take-append-drop}
-use Rattle.std.proofs.lemmas.Slice.{drop-append-drop}
-use Rattle.std.proofs.lemmas.List.Elements.{All-nil, All-cons, All-head, All-tail, All-append}
-use Rattle.std.specs.declared.cmp.Ordering.{Ordering}
-use Rattle.std.specs.Cmp.{IsTotalOrder}
-use Rattle.std.specs.FinMap as fin
-use Rattle.std.specs.FinMap.{IsAntisymmetric}
-use Rattle.t1_bytes.specs.Cipher.{decrypted}
-use Rattle.t1_bytes.proofs.Ciphers.{length-decrypted}
+use Rattle.std.proofs.{lemmas.Slice.{drop-append-drop}, lemmas.List.Elements.{All-nil, All-cons, All-head, All-tail, All-append}}
+use Rattle.std.specs.{declared.cmp.Ordering.{Ordering}, Cmp.{IsTotalOrder}, FinMap.{IsAntisymmetric}}
+use Rattle.t1_bytes.{specs.Cipher.{decrypted}, proofs.Ciphers.{length-decrypted}}
 use Rattle.t1_join.specs.Entries.{entries_by}
-use Rattle.t1_font.specs.declared.ranges.Range.{Range}
-use Rattle.t1_font.specs.declared.places.Place.{Place}
-use Rattle.t1_font.specs.Places.{ending, bytes_at_place}
-use Rattle.t1_font.specs.Charstrings.{plain_of}
-use Rattle.t1_font.specs.Entries.{map_of}
-use Rattle.t1_font.proofs.MapLaws.{map_of-append}
+use Rattle.t1_font.specs.{declared.ranges.Range.{Range}, declared.places.Place.{Place}, Places.{ending, bytes_at_place}, Charstrings.{plain_of}, Entries.{map_of}}
 use Rattle.t1_font.specs.Ranges.{bytes_at, IsInside, AllInside, NamesInside, named_at}
+use Rattle.t1_font.proofs.MapLaws.{map_of-append}
+use Rattle.std.specs.FinMap as fin
 
 -- a longer buffer has the same bytes in the same ranges
 bytes_longer : (buffer more : List ℕ) (r : Range) → IsInside (length buffer) r → bytes_at (buffer ++ more) r ≡ bytes_at buffer r

@@ -1,27 +1,15 @@
 -- What is written of a font is bytes.
 use Rattle.std.proofs.Common.{◌≡◌, ℕ, zero, suc, ◌/◌, ◌%◌, ◌<◌, Bool, true, false, cond, ltb, ◌&&◌, List, [], ◌∷◌, ◌++◌, map, length, Option, Some, None, refl, sym, ap, subst, ◌∙◌, arith}
-use Rattle.std.specs.Prelude.{codes, ◌==◌}
-use Rattle.std.specs.Ordering.{nat_cmp}
-use Rattle.std.specs.Fmt.{decimal as digits, digits as all_digits, digits_onto, digit_glyph}
-use Rattle.std.specs.List.{AllByRecursion}
-use Rattle.std.specs.Option.{option_map}
 use Rattle.std.proofs.lemmas.Bool.{ltb-true, and_parts, agree_below_at}
-use Rattle.std.specs.Cmp.{nat_cmp_total}
-use Rattle.std.specs.Cmp.Lexicographic.{nat_list_cmp_total}
-use Rattle.std.specs.FinMap.{get, find, entries, get-entries, nat_cmp-IsAntisymmetric}
-use Rattle.t1_bytes.specs.declared.form.Form.{Form}
-use Rattle.t1_bytes.specs.declared.form.Form.TheVariants.{Pfa, Pfb}
-use Rattle.t1_bytes.specs.Cipher.{private_cipher}
-use Rattle.t1_bytes.specs.Texts.{segment_text, hex_byte, hex_rest, hex_lines, trailer}
-use Rattle.t1_bytes.specs.Laws.{AreBytes}
+use Rattle.std.specs.{Prelude.{codes, ◌==◌}, Ordering.{nat_cmp}, Fmt.{decimal as digits, digits as all_digits, digits_onto, digit_glyph}, List.{AllByRecursion}, Option.{option_map}}
+use Rattle.std.specs.{Cmp.{nat_cmp_total}, Cmp.Lexicographic.{nat_list_cmp_total}, FinMap.{get, find, entries, get-entries, nat_cmp-IsAntisymmetric}}
+use Rattle.t1_bytes.specs.{declared.form.Form.{Form}, declared.form.Form.TheVariants.{Pfa, Pfb}, Cipher.{private_cipher}, Texts.{segment_text, hex_byte, hex_rest, hex_lines, trailer}, Laws.{AreBytes}}
 use Rattle.t1_bytes.proofs.Ciphers.{sealed_bytes}
-use Rattle.t1_font.specs.FontValue.{FontValue, Shell, SubrsShell, Encoding, Word, Codes, Numbered}
-use Rattle.t1_font.specs.Entry.{Body}
+use Rattle.t1_font.specs.{FontValue.{FontValue, Shell, SubrsShell, Encoding, Word, Codes, Numbered}, Entry.{Body}}
 use Rattle.t1_font.specs.Canon.{sealed_body, sealed_entry, subr_entry, glyph_entry, subrs_pieces, encoding_pieces, canon_clear, canon_private, canon}
 use Rattle.t1_font.specs.Writing.{body_text, entry_text, entries_text, index_text, subrs_text, subrs_part, name_text, glyphs_text, glyphs_part, puts_text, encoding_text}
 use Rattle.t1_font.specs.IsFont.{IsFont, IsEncoding, SubrsFit, SubrWords, EncodingBytes, SubrsBytes, HasBytes}
-use Rattle.t1_font.proofs.MapLemmas.{Some_None, entries_all}
-use Rattle.t1_font.proofs.canonical.FontAgain.{name_same}
+use Rattle.t1_font.proofs.{MapLemmas.{Some_None, entries_all}, canonical.FontAgain.{name_same}}
 
 pub AreBytes-append : (a b : List ℕ) → AreBytes a → AreBytes b → AreBytes (a ++ b)
 AreBytes-append [] b h k = k

@@ -1,17 +1,9 @@
 -- What the entries of an Encoding put, copies among them.
-use Rattle.std.proofs.Common.{◌≡◌, ℕ, zero, suc, ◌+◌, ◌-◌, ◌<◌, List, [], ◌∷◌, ◌++◌, length, refl, sym, ap, ◌∙◌, append_assoc, arith}
-use Rattle.std.specs.Prelude.{map, unwrap_or}
-use Rattle.std.specs.Ordering.{nat_cmp}
-use Rattle.std.specs.Cmp.{nat_cmp_total}
-use Rattle.std.specs.FinSet.{nat_cmp-IsAntisymmetric}
-use Rattle.std.specs.FinMap.{insert}
-use Rattle.std.proofs.lemmas.List.{append-nil}
-use Rattle.t1_font.specs.FontValue.{Numbered, notdef}
-use Rattle.t1_font.specs.Encoding.{CodeEntry, Put, Copy, name_after, copied, put_by, puts_after, puts_of}
-use Rattle.t1_font.specs.Entries.{map_of}
+use Rattle.std.proofs.{Common.{◌≡◌, ℕ, zero, suc, ◌+◌, ◌-◌, ◌<◌, List, [], ◌∷◌, ◌++◌, length, refl, sym, ap, ◌∙◌, append_assoc, arith}, lemmas.List.{append-nil}}
+use Rattle.std.specs.{Prelude.{map, unwrap_or}, Ordering.{nat_cmp}, Cmp.{nat_cmp_total}, FinSet.{nat_cmp-IsAntisymmetric}, FinMap.{insert}}
+use Rattle.t1_font.specs.{FontValue.{Numbered, notdef}, Encoding.{CodeEntry, Put, Copy, name_after, copied, put_by, puts_after, puts_of}, Entries.{map_of}}
 use Rattle.t1_font.specs.Gathering.{name_in, copied_names, named_from, kept_by}
-use Rattle.t1_font.proofs.MapLaws.{get-map_of}
-use Rattle.t1_font.proofs.HeldLemmas.{one_code_more}
+use Rattle.t1_font.proofs.{MapLaws.{get-map_of}, HeldLemmas.{one_code_more}}
 
 -- ---- names in turn
 

@@ -1,21 +1,11 @@
 -- Maps that are built entry by entry: what is put so far, and what is left.
-use Rattle.std.proofs.Common.{◌≡◌, ℕ, Ordering, Bool, true, false, cond, List, [], ◌∷◌, ◌++◌, Option, Some, None, is_some, inl, inr, refl, sym, ap, ◌∙◌}
-use Rattle.std.specs.List.{list_any}
-use Rattle.std.specs.Ordering.{is_eq, eq_by_cmp}
-use Rattle.std.specs.Cmp.{IsTotalOrder, Equal-is}
-use Rattle.std.specs.Cmp.Lexicographic.{nat_list_cmp_total}
-use Rattle.std.specs.FinSet as sets
-use Rattle.std.specs.FinSet.{IsAntisymmetric}
+use Rattle.std.proofs.{Common.{◌≡◌, ℕ, Ordering, Bool, true, false, cond, List, [], ◌∷◌, ◌++◌, Option, Some, None, is_some, inl, inr, refl, sym, ap, ◌∙◌}, lemmas.List.{append_assoc, append-nil}}
+use Rattle.std.specs.{List.{list_any}, Ordering.{is_eq, eq_by_cmp}, Cmp.{IsTotalOrder, Equal-is}, Cmp.Lexicographic.{nat_list_cmp_total}, FinSet.{IsAntisymmetric}}
 use Rattle.std.specs.FinMap.{FinMap, get, empty, contains_key, same_map, retain_keys}
-use Rattle.std.proofs.lemmas.List.{append_assoc, append-nil}
 use Rattle.t1_grammar.specs.Grammar.{choice}
-use Rattle.t1_font.specs.Entries.{map_of, last_value}
-use Rattle.t1_font.specs.FontValue.{FontValue}
-use Rattle.t1_font.specs.Cut.{stub, restrict_encoding, restrict}
-use Rattle.t1_font.specs.Maps.{put_all_into, entry_of, map_values}
-use Rattle.t1_font.proofs.MapLaws.{map_of-append, map_of-nil, get-map_of}
-use Rattle.t1_font.proofs.MapLemmas.{is_or_not, get-retain}
-use Rattle.t1_font.proofs.canonical.FontAgain.{name_same}
+use Rattle.t1_font.specs.{Entries.{map_of, last_value}, FontValue.{FontValue}, Cut.{stub, restrict_encoding, restrict}, Maps.{put_all_into, entry_of, map_values}}
+use Rattle.t1_font.proofs.{MapLaws.{map_of-append, map_of-nil, get-map_of}, MapLemmas.{is_or_not, get-retain}, canonical.FontAgain.{name_same}}
+use Rattle.std.specs.FinSet as sets
 
 -- the entries of these keys in a map
 abbrev pub entries_of : {K : Type 0} {R : K → K → Ordering} → FinMap R (List ℕ) → List K → List (K × List ℕ)

@@ -1,14 +1,8 @@
 -- One pass over two tables of glyphs meets the smallest name at which they differ.
-use Rattle.std.proofs.Common.{◌≡◌, refl, sym, ◌∙◌, ℕ, Bool, true, false, true≢false, List, Option, None, Some}
-use Rattle.std.specs.Prelude.{MatchOption}
-use Rattle.std.specs.Str.{bytes_eq}
-use Rattle.std.specs.Cmp.Lexicographic.{nat_list_cmp_total}
-use Rattle.std.specs.FinMap.{get, find, entries, entries_sorted, get-entries}
-use Rattle.std.proofs.lemmas.Slice.Eq.{bytes_eq-Decides}
+use Rattle.std.proofs.{Common.{◌≡◌, refl, sym, ◌∙◌, ℕ, Bool, true, false, true≢false, List, Option, None, Some}, lemmas.Slice.Eq.{bytes_eq-Decides}}
+use Rattle.std.specs.{Prelude.{MatchOption}, Str.{bytes_eq}, Cmp.Lexicographic.{nat_list_cmp_total}, FinMap.{get, find, entries, entries_sorted, get-entries}}
 use Rattle.t1_join.proofs.Conflicts.{Says, both_agree, says_first}
-use Rattle.t1_font.specs.FontValue.{Named, name_cmp}
-use Rattle.t1_font.specs.Joins.{differing_name}
-use Rattle.t1_font.specs.Differing.{DifferAt, IsFirstDiffering, MeetsSmallest}
+use Rattle.t1_font.specs.{FontValue.{Named, name_cmp}, Joins.{differing_name}, Differing.{DifferAt, IsFirstDiffering, MeetsSmallest}}
 
 module _ (m n : Named) where
   abbrev agree : List ℕ → Bool

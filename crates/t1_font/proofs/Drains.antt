@@ -1,6 +1,5 @@
 -- Lists that a loop makes one by one of another's elements.
-use Rattle.std.proofs.Common.{◌≡◌, sym, ap, ◌∙◌, ℕ, ◌+◌, ◌<◌, ◌≤◌, List, [], ◌∷◌, ◌++◌, map, length, take, take_all, get_or}
-use Rattle.std.proofs.lemmas.List.{append_assoc, append-nil, map-append, take_more}
+use Rattle.std.proofs.{Common.{◌≡◌, sym, ap, ◌∙◌, ℕ, ◌+◌, ◌<◌, ◌≤◌, List, [], ◌∷◌, ◌++◌, map, length, take, take_all, get_or}, lemmas.List.{append_assoc, append-nil, map-append, take_more}}
 
 -- the same key with the same value
 pub keyed : {K X : Type 0} {k : K} {x y : X} → x ≡ y → ◌≡◌ {A = K × X} (k, x) (k, y)

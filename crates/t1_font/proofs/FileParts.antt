@@ -1,15 +1,8 @@
 -- A flat text is cut where it is split.
-use Rattle.std.proofs.Common.{◌≡◌, ℕ, ◌-◌, ◌≤◌, List, ◌++◌, length, take, Ok, refl, ap, ◌∙◌, arith}
-use Rattle.std.proofs.lemmas.List.{length-append, take_at}
-use Rattle.std.proofs.lemmas.Bool.{leb-true}
-use Rattle.t1_bytes.specs.declared.fault.BytesFault.{BytesFault}
-use Rattle.t1_bytes.specs.declared.fault.BytesFault.TheVariants.{BadSegment, NoEexec, ShortCipher, Memory}
-use Rattle.t1_bytes.specs.Eexec.{cipher_text}
-use Rattle.t1_bytes.specs.Split.{split, IsSplit, SplitFails}
-use Rattle.t1_bytes.specs.Faults.{OrMemory}
-use Rattle.t1_font.specs.Faults.{read_fault}
-use Rattle.t1_font.specs.Answers.{Refused}
-use Rattle.t1_font.specs.Pieces.{FlatPieces, flat_pieces}
+use Rattle.std.proofs.{Common.{◌≡◌, ℕ, ◌-◌, ◌≤◌, List, ◌++◌, length, take, Ok, refl, ap, ◌∙◌, arith}, lemmas.List.{length-append, take_at}, lemmas.Bool.{leb-true}}
+use Rattle.t1_bytes.specs.{declared.fault.BytesFault.{BytesFault}, declared.fault.BytesFault.TheVariants.{BadSegment, NoEexec, ShortCipher, Memory}, Eexec.{cipher_text}}
+use Rattle.t1_bytes.specs.{Split.{split, IsSplit, SplitFails}, Faults.{OrMemory}}
+use Rattle.t1_font.specs.{Faults.{read_fault}, Answers.{Refused}, Pieces.{FlatPieces, flat_pieces}}
 
 -- the parts of a split are the pieces of the flat text
 pub split_pieces : (flat : List ℕ) (at : ℕ) (cipher : List ℕ) → IsSplit flat at cipher →

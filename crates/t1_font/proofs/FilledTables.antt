@@ -1,24 +1,12 @@
 -- Tables that are filled from others.
-use Rattle.std.proofs.Common.{◌≡◌, ℕ, Bool, true, false, cond, ◌&&◌, List, [], ◌∷◌, map, length, Option, Some, None, is_some}
-use Rattle.std.proofs.Common.{T, refl, sym, ap, subst, ◌∙◌, option_map, unwrap_or, true≢false, Result, Ok, Err, arith}
-use Rattle.std.specs.Prelude.{filter, nat_lt}
-use Rattle.std.specs.Cmp.{nat_cmp_total, Equal-is}
+use Rattle.std.proofs.Common.{◌≡◌, ℕ, Bool, true, false, cond, ◌&&◌, List, [], ◌∷◌, map, length, Option, Some, None, is_some, T, refl, sym, ap, subst, ◌∙◌, option_map, unwrap_or, true≢false, Result}
+use Rattle.std.proofs.Common.{Ok, Err, arith}
+use Rattle.std.specs.{Prelude.{filter, nat_lt}, Cmp.{nat_cmp_total, Equal-is}, List.Sorted.{IsSearchInRange, IsBinarySearchResult}, Result.{is_ok}, Ordering.{eq_by_cmp, nat_cmp, is_lt}}
+use Rattle.std.specs.{FinMap.{is_sorted}, FinMap.Entries.{below_all}}
+use Rattle.t1_join.{specs.TableMeaning.{Rises}, proofs.Searches.{searched}}
+use Rattle.t1_font.specs.{Evening.{stubs_at, below_count}, Maps.{merged}, Cut.{stub}, FontValue.{Numbered}, Lent.{stub_at, filled_at}}
+use Rattle.t1_font.proofs.{CutEntries.{entries-retain}, MapLemmas.{get-merged, joined}}
 use Rattle.std.specs.FinMap as fin
-use Rattle.t1_join.specs.TableMeaning.{Rises}
-use Rattle.t1_join.proofs.Searches.{searched}
-use Rattle.std.specs.List.Sorted.{IsSearchInRange, IsBinarySearchResult}
-use Rattle.std.specs.Result.{is_ok}
-use Rattle.t1_font.specs.Evening.{stubs_at, below_count}
-use Rattle.t1_font.proofs.CutEntries.{entries-retain}
-use Rattle.t1_font.specs.Maps.{merged}
-use Rattle.t1_font.proofs.MapLemmas.{get-merged, joined}
-use Rattle.std.specs.Ordering.{eq_by_cmp}
-use Rattle.std.specs.Ordering.{nat_cmp, is_lt}
-use Rattle.std.specs.FinMap.{is_sorted}
-use Rattle.std.specs.FinMap.Entries.{below_all}
-use Rattle.t1_font.specs.Cut.{stub}
-use Rattle.t1_font.specs.FontValue.{Numbered}
-use Rattle.t1_font.specs.Lent.{stub_at, filled_at}
 
 module _ (own : Numbered) where
   same_below : (k : ℕ) (es : List ℕ) → below_all nat_cmp k (map (filled_at own) es) ≡ below_all nat_cmp k (map stub_at es)

@@ -1,12 +1,7 @@
 -- What the readers of a font answer.
-use Rattle.std.proofs.Common.{◌≡◌, ℕ, ◌<◌, Bool, true, false, cond, ltb, List, Option, Some, None, refl, sym, ap, ◌∙◌}
-use Rattle.std.specs.FinMap.{get, get-entries}
-use Rattle.std.proofs.lemmas.Bool.{lt-ltb}
-use Rattle.t1_font.specs.FontValue.{FontValue, Shell, SubrsShell, Numbered, declared_count}
-use Rattle.t1_font.specs.FontModel.{subr_at}
-use Rattle.t1_font.specs.IsFont.{IsFont, SubrsFit}
-use Rattle.std.specs.Ordering.{nat_cmp}
-use Rattle.std.specs.FinMap.{find}
+use Rattle.std.proofs.{Common.{◌≡◌, ℕ, ◌<◌, Bool, true, false, cond, ltb, List, Option, Some, None, refl, sym, ap, ◌∙◌}, lemmas.Bool.{lt-ltb}}
+use Rattle.std.specs.{FinMap.{get, get-entries, find}, Ordering.{nat_cmp}}
+use Rattle.t1_font.specs.{FontValue.{FontValue, Shell, SubrsShell, Numbered, declared_count}, FontModel.{subr_at}, IsFont.{IsFont, SubrsFit}}
 
 -- an index with an entry is declared
 below_of : (s : Shell) (o : Option SubrsShell) (m : Numbered) → SubrsFit s o m → (i : ℕ) (c : List ℕ) → get m i ≡ Some c → i < declared_count o

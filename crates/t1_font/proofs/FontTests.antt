@@ -1,16 +1,10 @@
 -- The test whether a font was loaded before, as it is read and sought.
-use Rattle.std.proofs.Common.{◌≡◌, ℕ, zero, suc, ◌+◌, ◌-◌, ◌<◌, ◌≤◌, arith, List, [], ◌∷◌, ◌++◌, take}
-use Rattle.std.proofs.Common.{map, length, drop, get_or, Option, Some, None, Bor, inl, inr, refl, sym, ap, ◌∙◌, append_assoc, subst, true, false}
-use Rattle.std.specs.Prelude.{not}
-use Rattle.std.specs.Option.{option_and_then, option_map}
-use Rattle.std.proofs.lemmas.List.{drop_more, drop_all, drop_at, drop-drop, length-take-le, length-drop, length-append}
-use Rattle.std.proofs.lemmas.Bool.{cases_Bool, cases_lt}
+use Rattle.std.proofs.Common.{◌≡◌, ℕ, zero, suc, ◌+◌, ◌-◌, ◌<◌, ◌≤◌, arith, List, [], ◌∷◌, ◌++◌, take, map, length, drop, get_or, Option, Some, None, Bor, inl, inr, refl, sym, ap, ◌∙◌, append_assoc}
+use Rattle.std.proofs.{Common.{subst, true, false}, lemmas.List.{drop_more, drop_all, drop_at, drop-drop, length-take-le, length-drop, length-append}, lemmas.Bool.{cases_Bool, cases_lt}}
 use Rattle.std.proofs.lemmas.Option.{none-some, same_Some}
-use Rattle.t1_grammar.specs.Grammar.{Grammar, NoneIn, first, count, unread}
-use Rattle.t1_grammar.specs.Places.{NoneBelow, first_found, first_nowhere, one_more, unread_lacks}
-use Rattle.t1_font.specs.Words.{is_regular}
-use Rattle.t1_font.specs.FontTest.{token, test_tokens, font_test, apart_test, found_test, place_and_around}
-use Rattle.t1_font.proofs.Untested.{begins_test}
+use Rattle.std.specs.{Prelude.{not}, Option.{option_and_then, option_map}}
+use Rattle.t1_grammar.specs.{Grammar.{Grammar, NoneIn, first, count, unread}, Places.{NoneBelow, first_found, first_nowhere, one_more, unread_lacks}}
+use Rattle.t1_font.{specs.{Words.{is_regular}, FontTest.{token, test_tokens, font_test, apart_test, found_test, place_and_around}}, proofs.Untested.{begins_test}}
 
 -- ---- tokens
 
@@ -20,7 +14,8 @@ pub token_read : (w : List ℕ) (ws : List (List ℕ)) (bytes rest : List ℕ) �
 unfolding test_tokens
 token_read w ws bytes rest e = by_read ((token w).read bytes) e
   where
-    by_read : (o : Option (Unit {0} × List ℕ)) → Some rest ≡ option_map (λ x. x.1) o → option_and_then (λ x. (test_tokens ws).read x.1) o ≡ (test_tokens ws).read rest
+    by_read : (o : Option (Unit {0} × List ℕ)) → Some rest ≡ option_map (λ x. x.1) o →
+        option_and_then (λ x. (test_tokens ws).read x.1) o ≡ (test_tokens ws).read rest
     by_read None e = absurd (none-some rest (sym e))
     by_read (Some x) e = ap (λ (u : List ℕ). (test_tokens ws).read u) (same_Some x.1 rest (sym e))
 

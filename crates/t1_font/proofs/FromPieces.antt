@@ -1,18 +1,9 @@
 -- The font of the pieces that were read, and why there is none.
-use Rattle.std.proofs.Common.{◌≡◌, ℕ, ◌≤◌, ◌<◌, Bool, true, false, Option, Some, None, Ok, Err, refl, sym, ap, subst, ◌∙◌, arith}
-use Rattle.std.specs.Ordering.{nat_cmp}
-use Rattle.std.specs.FinMap.{len}
-use Rattle.t1_font.specs.declared.subrs.SubrsParts.{SubrsParts}
-use Rattle.t1_font.specs.declared.private.PrivateParts.{PrivateParts}
-use Rattle.t1_font.specs.declared.fault.ReadFault.TheVariants.{NoNotdef, Limit}
-use Rattle.t1_font.specs.FontValue.{FontValue, name_cmp, IsWithin, weight, declared_count, count_limit, weight_limit}
-use Rattle.t1_font.specs.FontModel.{clamp}
-use Rattle.t1_font.specs.Entries.{last_entries}
-use Rattle.t1_font.specs.Gathering.{Entries}
-use Rattle.t1_font.specs.Pieces.{ClearPieces, SubrsPieces, PrivatePieces}
-use Rattle.t1_font.specs.ReadFont.{subrs_shell, shell_of, font_of, subr_entries, glyph_entries, is_within, font_from}
+use Rattle.std.{proofs.Common.{◌≡◌, ℕ, ◌≤◌, ◌<◌, Bool, true, false, Option, Some, None, Ok, Err, refl, sym, ap, subst, ◌∙◌, arith}, specs.{Ordering.{nat_cmp}, FinMap.{len}, Option.{option_map}}}
+use Rattle.t1_font.specs.{declared.subrs.SubrsParts.{SubrsParts}, declared.private.PrivateParts.{PrivateParts}, declared.fault.ReadFault.TheVariants.{NoNotdef, Limit}}
+use Rattle.t1_font.specs.{FontValue.{FontValue, name_cmp, IsWithin, weight, declared_count, count_limit, weight_limit}, FontModel.{clamp}, Entries.{last_entries}, Gathering.{Entries}}
+use Rattle.t1_font.specs.{Pieces.{ClearPieces, SubrsPieces, PrivatePieces}, ReadFont.{subrs_shell, shell_of, font_of, subr_entries, glyph_entries, is_within, font_from}}
 use Rattle.t1_font.specs.Answers.{ShowsSubrs, ShowsPrivate, declared_in}
-use Rattle.std.specs.Option.{option_map}
 use Rattle.t1_font.proofs.ValueLaws.{within_of, within_again}
 
 -- a font without `.notdef`

@@ -1,21 +1,9 @@
 -- One more entry of a table that is held.
-use Rattle.std.proofs.Common.{◌≡◌, Ordering, ℕ, ◌||◌, Bool, true, false, List, [], ◌∷◌, ◌++◌, Some, refl, sym, ap, ◌∙◌}
-use Rattle.std.specs.Prelude.{unwrap_or, filter}
-use Rattle.std.specs.Str.{bytes_eq}
-use Rattle.std.specs.Ordering.{nat_cmp}
-use Rattle.std.specs.Cmp.{IsTotalOrder, nat_cmp_total}
-use Rattle.std.specs.Cmp.Lexicographic.{nat_list_cmp_total}
-use Rattle.std.specs.FinSet.{IsAntisymmetric, slice_cmp-IsAntisymmetric, nat_cmp-IsAntisymmetric}
-use Rattle.std.specs.FinMap.{FinMap, insert, empty, from_sorted}
-use Rattle.std.proofs.lemmas.List.{map_push}
-use Rattle.t1_font.specs.FontValue.{Numbered, Named, name_cmp, notdef}
-use Rattle.t1_font.specs.Charstrings.{plain_of}
-use Rattle.t1_font.specs.Entries.{map_of, names_of, has_name}
-use Rattle.t1_font.specs.Entry.{Entry, plain_entries}
-use Rattle.t1_font.specs.Subrs.{Subr}
-use Rattle.t1_font.specs.Glyphs.{Glyph}
-use Rattle.t1_font.specs.Held.{first_words, HoldsSubrs, HoldsGlyphs, names_notdef}
-use Rattle.t1_font.specs.Gathering.{named}
+use Rattle.std.proofs.{Common.{◌≡◌, Ordering, ℕ, ◌||◌, Bool, true, false, List, [], ◌∷◌, ◌++◌, Some, refl, sym, ap, ◌∙◌}, lemmas.List.{map_push}}
+use Rattle.std.specs.{Prelude.{unwrap_or, filter}, Str.{bytes_eq}, Ordering.{nat_cmp}, Cmp.{IsTotalOrder, nat_cmp_total}, Cmp.Lexicographic.{nat_list_cmp_total}}
+use Rattle.std.specs.{FinSet.{IsAntisymmetric, slice_cmp-IsAntisymmetric, nat_cmp-IsAntisymmetric}, FinMap.{FinMap, insert, empty, from_sorted}}
+use Rattle.t1_font.specs.{FontValue.{Numbered, Named, name_cmp, notdef}, Charstrings.{plain_of}, Entries.{map_of, names_of, has_name}, Entry.{Entry, plain_entries}, Subrs.{Subr}, Glyphs.{Glyph}}
+use Rattle.t1_font.specs.{Held.{first_words, HoldsSubrs, HoldsGlyphs, names_notdef}, Gathering.{named}}
 use Rattle.t1_font.proofs.MapLaws.{map_of-append, map_of-nil, entries-map_of}
 
 -- no Subrs are held at first

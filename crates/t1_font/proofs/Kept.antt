@@ -1,24 +1,12 @@
 -- A font cut down is a font, and so are the entries of two.
 use Rattle.std.proofs.Common.{◌≡◌, ℕ, ◌≤◌, Ordering, Bool, true, false, cond, List, [], ◌∷◌, map, length, Option, Some, None, is_some, Ok, refl, sym, ap, subst, ◌∙◌, arith, true≢false, unwrap_or}
-use Rattle.std.specs.Option.{option_map}
-use Rattle.std.specs.Str.{bytes_eq}
-use Rattle.std.specs.Ordering.{nat_cmp}
-use Rattle.std.specs.Cmp.{IsTotalOrder, nat_cmp_total}
-use Rattle.std.specs.FinMap.{FinMap, find, get, get-entries, entries, len, len-entries, retain_keys, IsAntisymmetric, nat_cmp-IsAntisymmetric}
-use Rattle.std.proofs.lemmas.Slice.Eq.{bytes_eq-Decides}
-use Rattle.std.proofs.lemmas.Bool.{leb-true}
-use Rattle.t1_font.specs.FontValue.{FontValue, Shell, SubrsShell, Encoding, Word, Codes, Numbered, notdef, total, subr_weight, glyph_weight, weight, count_limit, weight_limit}
-use Rattle.t1_font.specs.Markers.{len_iv}
-use Rattle.t1_font.specs.Pieces.{iv_of}
-use Rattle.t1_font.specs.Spelling.{IsLenIV, said, unsaid}
-use Rattle.t1_font.specs.Cut.{stub, restrict, restrict_encoding}
-use Rattle.t1_font.specs.Maps.{map_values, merged}
-use Rattle.t1_font.specs.Joins.{joined_subr, join_parts}
-use Rattle.t1_font.specs.Encodings.{join_encodings, SameKind}
-use Rattle.t1_font.specs.IsFont.{IsFont, IsWord, IsCharstring, SubrsFit, SubrWords, AreGlyphs, IsCode, IsEncoding}
-use Rattle.t1_font.proofs.MapLemmas.{get-map_values, entries-map_values, get-retain, get-merged, total-le, length_total, joined, Some_same, Some_None}
-use Rattle.std.specs.Cmp.Lexicographic.{nat_list_cmp_total}
-use Rattle.t1_font.proofs.Spelled.{iv_is}
+use Rattle.std.proofs.{lemmas.Slice.Eq.{bytes_eq-Decides}, lemmas.Bool.{leb-true}}
+use Rattle.std.specs.{Option.{option_map}, Str.{bytes_eq}, Ordering.{nat_cmp}, Cmp.{IsTotalOrder, nat_cmp_total}}
+use Rattle.std.specs.{FinMap.{FinMap, find, get, get-entries, entries, len, len-entries, retain_keys, IsAntisymmetric, nat_cmp-IsAntisymmetric}, Cmp.Lexicographic.{nat_list_cmp_total}}
+use Rattle.t1_font.specs.{FontValue.{FontValue, Shell, SubrsShell, Encoding, Word, Codes, Numbered, notdef, total, subr_weight, glyph_weight, weight, count_limit, weight_limit}, Markers.{len_iv}}
+use Rattle.t1_font.specs.{Pieces.{iv_of}, Spelling.{IsLenIV, said, unsaid}, Cut.{stub, restrict, restrict_encoding}, Maps.{map_values, merged}, Joins.{joined_subr, join_parts}}
+use Rattle.t1_font.specs.{Encodings.{join_encodings, SameKind}, IsFont.{IsFont, IsWord, IsCharstring, SubrsFit, SubrWords, AreGlyphs, IsCode, IsEncoding}}
+use Rattle.t1_font.proofs.{MapLemmas.{get-map_values, entries-map_values, get-retain, get-merged, total-le, length_total, joined, Some_same, Some_None}, Spelled.{iv_is}}
 use Rattle.t1_font.proofs.canonical.FontAgain.{name_same}
 
 -- lenIV is at most 255

@@ -1,29 +1,15 @@
 -- The last entries of a list, each key once, and the map of the list.
 use native.Mathlib.Numerals.{unary_clauses}
-use Rattle.std.proofs.Common.{◌≡◌, ℕ, ◌+◌, ◌<◌, ◌≤◌, ◌++◌, length, take, drop, set, add-one, refl, sym, ap, subst, ◌∙◌, arith, ◌⊎◌}
-use Rattle.std.proofs.Common.{inl, inr, Bool, true, false, cond, not, ◌&&◌, List, [], ◌∷◌, Option, Some, None, get_or, zero, suc}
-use Rattle.std.specs.Prelude.{filter}
-use Rattle.std.proofs.lemmas.List.{append_assoc, append-nil, nil_from_length, length-set, length-drop, drop-drop, drop-set-lt, take_more_set}
-use Rattle.std.specs.Option.{option_map}
-use Rattle.std.specs.List.{All, AllByRecursion}
-use Rattle.std.specs.List.Sorted.{IsSortedByKey, IsStableByKey, IsStrictlySortedBy, ties}
-use Rattle.std.specs.declared.cmp.Ordering.{Ordering}
-use Rattle.std.specs.declared.cmp.Ordering.TheVariants.{Less, Equal, Greater}
-use Rattle.std.specs.Ordering.{is_lt, is_eq, on, ordering_reverse}
-use Rattle.std.specs.Cmp.{IsTotalOrder, alike_right, Equal-is}
-use Rattle.std.specs.FinSet.{IsAntisymmetric}
-use Rattle.std.specs.FinMap as fin
+use Rattle.std.proofs.Common.{◌≡◌, ℕ, ◌+◌, ◌<◌, ◌≤◌, ◌++◌, length, take, drop, set, add-one, refl, sym, ap, subst, ◌∙◌, arith, ◌⊎◌, inl, inr, Bool, true, false, cond, not, ◌&&◌, List, [], ◌∷◌}
+use Rattle.std.proofs.{Common.{Option, Some, None, get_or, zero, suc}, lemmas.List.{append_assoc, append-nil, nil_from_length, length-set, length-drop, drop-drop, drop-set-lt, take_more_set}}
+use Rattle.std.proofs.{lemmas.List.Elements.{All-nil, All-cons, All-head, All-tail}, lemmas.Cmp.{on_total}, lemmas.List.Sorted.{All-permutation}}
+use Rattle.std.specs.{Prelude.{filter}, Option.{option_map}, List.{All, AllByRecursion}, List.Sorted.{IsSortedByKey, IsStableByKey, IsStrictlySortedBy, ties}, declared.cmp.Ordering.{Ordering}}
+use Rattle.std.specs.{declared.cmp.Ordering.TheVariants.{Less, Equal, Greater}, Ordering.{is_lt, is_eq, on, ordering_reverse}, Cmp.{IsTotalOrder, alike_right, Equal-is}, FinSet.{IsAntisymmetric}}
 use Rattle.std.specs.Map.{keys_of}
-use Rattle.std.proofs.lemmas.List.Elements.{All-nil, All-cons, All-head, All-tail}
-use Rattle.std.proofs.lemmas.Cmp.{on_total}
-use Rattle.std.proofs.lemmas.List.Sorted.{All-permutation}
 use Rattle.t1_grammar.specs.Grammar.{choice}
-use Rattle.t1_join.specs.Entries.{entries_by}
-use Rattle.t1_join.specs.TableMeaning.{Rises}
-use Rattle.t1_join.proofs.TreeEntries.{sorted_entries}
-use Rattle.t1_font.specs.Entries.{comes_again, run_end, run_ends, AreLast, AreSettled, last_value, map_of}
-use Rattle.t1_font.proofs.MapLaws.{get-map_of, choice-none}
-use Rattle.t1_font.proofs.canonical.FontAgain.{map_again}
+use Rattle.t1_join.{specs.{Entries.{entries_by}, TableMeaning.{Rises}}, proofs.TreeEntries.{sorted_entries}}
+use Rattle.t1_font.{specs.Entries.{comes_again, run_end, run_ends, AreLast, AreSettled, last_value, map_of}, proofs.{MapLaws.{get-map_of, choice-none}, canonical.FontAgain.{map_again}}}
+use Rattle.std.specs.FinMap as fin
 
 -- ---- the last of a list
 

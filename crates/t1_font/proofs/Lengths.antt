@@ -1,12 +1,7 @@
 -- Lengths that the writer counts.
-use Rattle.std.proofs.Common.{◌≡◌, ℕ, suc, ◌+◌, List, [], ◌∷◌, ◌++◌, length, map, refl, sym, ap, ◌∙◌, append_assoc}
-use Rattle.std.specs.Prelude.{codes}
-use Rattle.std.specs.FinMap.{entries, len, len-entries}
-use Rattle.std.specs.Fmt.{decimal}
+use Rattle.std.{proofs.Common.{◌≡◌, ℕ, suc, ◌+◌, List, [], ◌∷◌, ◌++◌, length, map, refl, sym, ap, ◌∙◌, append_assoc}, specs.{Prelude.{codes}, FinMap.{entries, len, len-entries}, Fmt.{decimal}}}
 use Rattle.t1_bytes.proofs.Ciphers.{length-sealed}
-use Rattle.t1_font.specs.FontValue.{Named, Shell, SubrsShell, name_cmp}
-use Rattle.t1_font.specs.Canon.{sealed_body, subr_entry, glyph_entry}
-use Rattle.t1_font.specs.Writing.{subr_text, glyph_text, glyphs_text, glyphs_part}
+use Rattle.t1_font.specs.{FontValue.{Named, Shell, SubrsShell, name_cmp}, Canon.{sealed_body, subr_entry, glyph_entry}, Writing.{subr_text, glyph_text, glyphs_text, glyphs_part}}
 
 -- a charstring in a file has its lead bytes before it
 pub length_of_sealed : (len_iv : ℕ) (plain : List ℕ) → length (sealed_body len_iv plain) ≡ len_iv + length plain

@@ -1,34 +1,14 @@
 -- Tables of lent entries: what stands at a place, what is out of a loop, and what a tree held.
-use Rattle.std.proofs.Common.{◌≡◌, ℕ, zero, suc, ◌+◌, ◌-◌, ◌<◌, ◌≤◌, arith, get_or, Ordering, List, [], ◌∷◌, ◌++◌, map, length, drop}
-use Rattle.std.proofs.Common.{Option, Some, None, Result, Ok, Err, inl, inr, refl, sym, ap, subst, ◌∙◌}
-use Rattle.std.specs.Borrow.{Bor}
-use Rattle.std.specs.BTreeMap.{insert_entry}
-use Rattle.std.specs.List.Sorted.{IsStrictlySortedBy}
-use Rattle.std.specs.List.{slice_get, AllByRecursion}
-use Rattle.std.specs.List.Sorted.{IsSearchInRange, IsBinarySearchResult}
-use Rattle.std.specs.Map.{keys_of, values_of}
-use Rattle.std.specs.Slice.{IsItemAt}
-use Rattle.std.specs.Option.{option_map, option_and_then}
-use Rattle.std.specs.Result.{result_ok}
-use Rattle.std.specs.declared.cmp.Ordering.TheVariants.{Less, Equal, Greater}
-use Rattle.std.specs.Ordering.{match_ordering, ordering_index}
-use Rattle.std.specs.Cmp.{IsTotalOrder}
-use Rattle.std.specs.Cmp.Lexicographic.{nat_list_cmp_total}
-use Rattle.std.specs.FinSet.{IsAntisymmetric}
-use Rattle.std.specs.FinMap.{FinMap, get, len, entries, get-from_entries, get-empty, insert, empty, from_sorted, same_map, entries-from_sorted, len-entries}
-use Rattle.std.proofs.Math.Seq.{drop-cons}
-use Rattle.std.proofs.lemmas.List.{append-nil, drop_all, length-map}
+use Rattle.std.proofs.Common.{◌≡◌, ℕ, zero, suc, ◌+◌, ◌-◌, ◌<◌, ◌≤◌, arith, get_or, Ordering, List, [], ◌∷◌, ◌++◌, map, length, drop, Option, Some, None, Result, Ok, Err, inl, inr, refl, sym, ap}
+use Rattle.std.proofs.{Common.{subst, ◌∙◌}, Math.Seq.{drop-cons}, lemmas.List.{append-nil, drop_all, length-map}}
 use Rattle.std.proofs.lemmas.Option.{slice_get_within, slice_get_cases, slice_get_past, slice_get-get_or, slice_get-map, get_or_from_slice_get, none-some, same_Some}
-use Rattle.t1_join.specs.TableMeaning.{Rises}
-use Rattle.t1_join.proofs.Searches.{searched}
-use Rattle.t1_join.proofs.Sorted.{map_of}
-use Rattle.t1_join.proofs.TreeEntries.{map_insert, sorted_entries, map_sorted}
-use Rattle.t1_font.specs.declared.lent.Glyph.{Glyph}
-use Rattle.t1_font.specs.FontValue.{name_cmp}
-use Rattle.t1_font.specs.Lent.{lent_glyph, keyed_glyph, AreOwn, glyph_names}
-use Rattle.t1_font.specs.Maps.{put_all_into, entry_of}
-use Rattle.t1_font.proofs.MapLemmas.{entries_all}
-use Rattle.t1_font.proofs.canonical.FontAgain.{name_same}
+use Rattle.std.specs.{Borrow.{Bor}, BTreeMap.{insert_entry}, List.Sorted.{IsStrictlySortedBy, IsSearchInRange, IsBinarySearchResult}, List.{slice_get, AllByRecursion}, Map.{keys_of, values_of}}
+use Rattle.std.specs.{Slice.{IsItemAt}, Option.{option_map, option_and_then}, Result.{result_ok}, declared.cmp.Ordering.TheVariants.{Less, Equal, Greater}, Ordering.{match_ordering, ordering_index}}
+use Rattle.std.specs.{Cmp.{IsTotalOrder}, Cmp.Lexicographic.{nat_list_cmp_total}, FinSet.{IsAntisymmetric}}
+use Rattle.std.specs.FinMap.{FinMap, get, len, entries, get-from_entries, get-empty, insert, empty, from_sorted, same_map, entries-from_sorted, len-entries}
+use Rattle.t1_join.{specs.TableMeaning.{Rises}, proofs.{Searches.{searched}, Sorted.{map_of}, TreeEntries.{map_insert, sorted_entries, map_sorted}}}
+use Rattle.t1_font.specs.{declared.lent.Glyph.{Glyph}, FontValue.{name_cmp}, Lent.{lent_glyph, keyed_glyph, AreOwn, glyph_names}, Maps.{put_all_into, entry_of}}
+use Rattle.t1_font.proofs.{MapLemmas.{entries_all}, canonical.FontAgain.{name_same}}
 
 -- ---- entries by place
 

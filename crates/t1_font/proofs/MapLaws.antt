@@ -1,16 +1,10 @@
 -- The maps of a font's entries: each key has its last value.
-use Rattle.std.proofs.Common.{◌≡◌, ℕ, ◌++◌, Bool, true, false, cond, ◌&&◌, T, List, [], ◌∷◌, length, Option, Some, None, refl, sym, ap, ◌∙◌, inl, inr}
-use Rattle.std.specs.Prelude.{filter}
-use Rattle.std.specs.Ordering.{is_lt, is_eq}
-use Rattle.std.specs.declared.cmp.Ordering.{Ordering}
-use Rattle.std.specs.declared.cmp.Ordering.TheVariants.{Less, Equal, Greater}
-use Rattle.std.specs.Cmp.{IsTotalOrder, Equal-is}
-use Rattle.std.specs.FinSet.{IsAntisymmetric}
-use Rattle.std.specs.FinMap as maps
-use Rattle.std.specs.FinMap.Entries.{below_all, is_sorted-put, find-put}
-use Rattle.std.proofs.lemmas.Bool.{cases_Bool}
+use Rattle.std.proofs.{Common.{◌≡◌, ℕ, ◌++◌, Bool, true, false, cond, ◌&&◌, T, List, [], ◌∷◌, length, Option, Some, None, refl, sym, ap, ◌∙◌, inl, inr}, lemmas.Bool.{cases_Bool}}
+use Rattle.std.specs.{Prelude.{filter}, Ordering.{is_lt, is_eq}, declared.cmp.Ordering.{Ordering}, declared.cmp.Ordering.TheVariants.{Less, Equal, Greater}, Cmp.{IsTotalOrder, Equal-is}}
+use Rattle.std.specs.{FinSet.{IsAntisymmetric}, FinMap.Entries.{below_all, is_sorted-put, find-put}}
 use Rattle.t1_grammar.specs.Grammar.{choice}
 use Rattle.t1_font.specs.Entries.{put_all, last_entries, map_of, has_name, last_names, names_of, last_value, unless_notdef}
+use Rattle.std.specs.FinMap as maps
 
 and_T : (a b : Bool) → T a → T b → T (a && b)
 and_T true b p q = q

@@ -1,16 +1,11 @@
 -- What `map_values` and `merged` have at a key, the entries of a map, and sums over entries.
-use Rattle.std.proofs.Common.{◌≡◌, ℕ, ◌≤◌, Bool, true, false, cond, ◌&&◌, ◌⊎◌, Option, T, List, [], ◌∷◌, ◌++◌, map, refl, sym, ◌∙◌, ap, subst, true≢false}
-use Rattle.std.proofs.Common.{length, inl, inr, Some, None, is_some, option_map, Ordering, Less, Equal, Greater, is_eq, is_lt, arith, unwrap_or}
-use Rattle.std.specs.Ordering.{eq_by_cmp, ordering_reverse}
-use Rattle.std.specs.Cmp.{IsTotalOrder, first_so, second_so, tied_itself, Equal-is}
-use Rattle.std.specs.FinMap.{FinMap, get, entries, entries_sorted, retain_keys, find, is_sorted, get-from_entries, entries-from_sorted, get-entries, get-retain_keys}
-use Rattle.std.specs.FinSet.{IsAntisymmetric}
-use Rattle.std.specs.FinMap.Entries.{below_all}
-use Rattle.std.specs.List.{AllByRecursion}
-use Rattle.t1_font.specs.Maps.{map_values, merged}
+use Rattle.std.proofs.Common.{◌≡◌, ℕ, ◌≤◌, Bool, true, false, cond, ◌&&◌, ◌⊎◌, Option, T, List, [], ◌∷◌, ◌++◌, map, refl, sym, ◌∙◌, ap, subst, true≢false, length, inl, inr, Some, None, is_some}
+use Rattle.std.proofs.Common.{option_map, Ordering, Less, Equal, Greater, is_eq, is_lt, arith, unwrap_or}
+use Rattle.std.specs.{Ordering.{eq_by_cmp, ordering_reverse}, Cmp.{IsTotalOrder, first_so, second_so, tied_itself, Equal-is}}
+use Rattle.std.specs.{FinMap.{FinMap, get, entries, entries_sorted, retain_keys, find, is_sorted, get-from_entries, entries-from_sorted, get-entries, get-retain_keys}, FinSet.{IsAntisymmetric}}
+use Rattle.std.specs.{FinMap.Entries.{below_all}, List.{AllByRecursion}}
+use Rattle.t1_font.specs.{Maps.{map_values, merged}, FontValue.{total}, Entries.{last_value}}
 use Rattle.t1_grammar.specs.Grammar.{choice}
-use Rattle.t1_font.specs.FontValue.{total}
-use Rattle.t1_font.specs.Entries.{last_value}
 
 and_so : (a b : Bool) → a ≡ true → b ≡ true → (a && b) ≡ true
 and_so true b p q = q

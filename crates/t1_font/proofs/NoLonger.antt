@@ -1,13 +1,8 @@
 -- A flat text is no longer than its file, and a cipher is no longer than its flat text.
-use Rattle.std.proofs.Common.{◌≡◌, ℕ, ◌≤◌, suc, inl, inr, Bool, true, false, cond, List, [], ◌∷◌, ◌++◌, length, Ok, ap, arith}
-use Rattle.std.specs.Prelude.{filter}
-use Rattle.std.specs.List.{flat_map}
-use Rattle.std.proofs.lemmas.List.{length-append}
+use Rattle.std.proofs.{Common.{◌≡◌, ℕ, ◌≤◌, suc, inl, inr, Bool, true, false, cond, List, [], ◌∷◌, ◌++◌, length, Ok, ap, arith}, lemmas.List.{length-append}}
+use Rattle.std.specs.{Prelude.{filter}, List.{flat_map}}
 use Rattle.t1_grammar.specs.Tables.{Entries}
-use Rattle.t1_bytes.specs.Segments.{segment}
-use Rattle.t1_bytes.specs.FlatText.{starts_segment, flat_when, flat_text, IsFlat, flat_of}
-use Rattle.t1_bytes.specs.Eexec.{paired, cipher_text}
-use Rattle.t1_bytes.specs.Split.{split, IsSplit}
+use Rattle.t1_bytes.specs.{Segments.{segment}, FlatText.{starts_segment, flat_when, flat_text, IsFlat, flat_of}, Eexec.{paired, cipher_text}, Split.{split, IsSplit}}
 
 piece_short : (piece text rest : List ℕ) → segment.Spells piece text rest → length piece ≤ length text
 piece_short piece text rest s =

@@ -1,10 +1,6 @@
 -- Fonts that have the shell of one font.
-use Rattle.std.proofs.Common.{◌≡◌, ℕ, Bool, List, [], ◌∷◌, refl, sym, ◌∙◌}
-use Rattle.std.specs.List.{AllByRecursion}
-use Rattle.t1_font.specs.Cut.{restrict, restrict_encoding}
-use Rattle.t1_font.specs.FontValue.{FontValue, Encoding, Word, Codes}
-use Rattle.t1_font.specs.Parts.{HasShellOf}
-use Rattle.t1_font.specs.Encodings.{SameKind}
+use Rattle.std.{proofs.Common.{◌≡◌, ℕ, Bool, List, [], ◌∷◌, refl, sym, ◌∙◌}, specs.List.{AllByRecursion}}
+use Rattle.t1_font.specs.{Cut.{restrict, restrict_encoding}, FontValue.{FontValue, Encoding, Word, Codes}, Parts.{HasShellOf}, Encodings.{SameKind}}
 
 cut_kind : (p : List ℕ → Bool) (e : Encoding) → SameKind (restrict_encoding p e) e
 cut_kind p (Word w) = refl

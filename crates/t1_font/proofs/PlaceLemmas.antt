@@ -1,11 +1,7 @@
 -- Places in a text, told from its end.
-use Rattle.std.proofs.Common.{◌≡◌, refl, sym, ap, ◌∙◌, ℕ, ◌+◌, ◌-◌, ◌≤◌, arith, List, [], ◌++◌, Some, length, take, drop}
-use Rattle.std.proofs.lemmas.List.{append_assoc, length-append, drop_at, take_at}
+use Rattle.std.proofs.{Common.{◌≡◌, refl, sym, ap, ◌∙◌, ℕ, ◌+◌, ◌-◌, ◌≤◌, arith, List, [], ◌++◌, Some, length, take, drop}, lemmas.List.{append_assoc, length-append, drop_at, take_at}}
 use Rattle.t1_grammar.specs.Grammar.{Grammar, count}
-use Rattle.t1_font.specs.declared.dialect.Spacing.{Spacing}
-use Rattle.t1_font.specs.declared.places.Place.{Place}
-use Rattle.t1_font.specs.Words.{name, next_name}
-use Rattle.t1_font.specs.Places.{ending, bytes_at_place, StandsIn}
+use Rattle.t1_font.specs.{declared.dialect.Spacing.{Spacing}, declared.places.Place.{Place}, Words.{name, next_name}, Places.{ending, bytes_at_place, StandsIn}}
 
 -- in a text with more before it
 pub behind : (front text whole part : List ℕ) (n : ℕ) → whole ≡ front ++ text → StandsIn text part n → StandsIn whole part n

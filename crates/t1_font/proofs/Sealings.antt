@@ -1,10 +1,8 @@
 -- A private text whose first bytes are encrypted, and the charstring that is encrypted behind it.
 use Rattle.std.proofs.Common.{◌≡◌, ℕ, ◌≤◌, ◌+◌, List, ◌++◌, length, take, drop, sym, ap, ◌∙◌, append_assoc, arith}
 use Rattle.std.proofs.lemmas.List.{take_at, drop_at, take-append-le, length-append, length-take, length-drop}
-use Rattle.t1_bytes.specs.Cipher.{encrypted, decrypted}
-use Rattle.t1_bytes.specs.Keys.{key_behind}
-use Rattle.t1_bytes.proofs.Ciphers.{decrypted-encrypted, encrypted-decrypted, length-encrypted}
-use Rattle.t1_bytes.proofs.Keys.{decrypted-append, key_behind-append}
+use Rattle.t1_bytes.specs.{Cipher.{encrypted, decrypted}, Keys.{key_behind}}
+use Rattle.t1_bytes.proofs.{Ciphers.{decrypted-encrypted, encrypted-decrypted, length-encrypted}, Keys.{decrypted-append, key_behind-append}}
 
 -- The bytes are those of a text up to a place, whose cipher up to there has this key behind it, and a charstring's cipher.
 module _ (bytes : List ℕ) (done key : ℕ) (within : done ≤ length bytes) (is : key ≡ key_behind 55665 (take done bytes)) where

@@ -1,11 +1,6 @@
 -- Names of codes that are kept: `.notdef` is passed over.
-use Rattle.std.proofs.Common.{◌≡◌, sym, ap, ◌∙◌, ℕ, Bool, true, false, cond, List, [], ◌∷◌, ◌++◌, map}
-use Rattle.std.specs.Prelude.{filter}
-use Rattle.std.specs.Global.{Vec}
-use Rattle.std.proofs.lemmas.List.{map-append}
-use Rattle.t1_font.specs.Entries.{has_name}
-use Rattle.t1_font.specs.Sources.{kept_name}
-use Rattle.t1_font.proofs.Drains.{moved}
+use Rattle.std.{proofs.{Common.{◌≡◌, sym, ap, ◌∙◌, ℕ, Bool, true, false, cond, List, [], ◌∷◌, ◌++◌, map}, lemmas.List.{map-append}}, specs.{Prelude.{filter}, Global.{Vec}}}
+use Rattle.t1_font.{specs.{Entries.{has_name}, Sources.{kept_name}}, proofs.Drains.{moved}}
 
 -- none are kept, and all are to come
 pub no_codes_kept : (kept : List (ℕ × Vec ℕ)) (all : List (ℕ × List ℕ)) → kept ≡ [] → map kept_name kept ++ all ≡ all

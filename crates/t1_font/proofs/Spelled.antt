@@ -1,28 +1,15 @@
 -- What the reading of a file spells is what `Spelling.antt` says, part by part.
-use Rattle.std.proofs.Common.{◌≡◌, ℕ, ◌≤◌, true, cond, Bool, ltb, List, [], ◌++◌, length, take, Option, Some, None, Ok, Err, refl, sym, ap, subst, ◌∙◌}
-use Rattle.std.proofs.Common.{inl, inr}
+use Rattle.std.proofs.Common.{◌≡◌, ℕ, ◌≤◌, true, cond, Bool, ltb, List, [], ◌++◌, length, take, Option, Some, None, Ok, Err, refl, sym, ap, subst, ◌∙◌, inl, inr}
 use Rattle.std.proofs.lemmas.Bool.{cases_Bool, ltb-true, ltb-false, lt-ltb, le-ltb, leb-true, le-leb}
+use Rattle.t1_grammar.specs.{Grammar.{first, AtFront, Lacks, front_again}, Tables.{TableAt}, Formats.{MayOccur, occurs_again, one_value}}
+use Rattle.t1_bytes.specs.{Cipher.{decrypted, private_text}, Limits.{file_limit}, FlatText.{IsFlat}}
+use Rattle.t1_font.specs.{declared.dialect.Spacing.{Spacing}, declared.dialect.Dialect.{Dialect}, declared.fault.ReadFault.{ReadFault}, Glyphs.{Glyph, glyph, glyphs_end}}
+use Rattle.t1_font.specs.{Encoding.{Opening, Whole, OpensPuts, OpensNames, encoding_start}, Markers.{subrs_marker, closefile, len_iv_marker}}
+use Rattle.t1_font.specs.Pieces.{FlatPieces, EncodingText, OneWord, Puts, ClearPieces, SubrsPieces, PrivatePieces, flat_pieces, encoding_from, clear_pieces, iv_at, iv_of, through, tail_after}
+use Rattle.t1_font.specs.{Pieces.{glyphs_from, before_place, tables_from, private_pieces}, FontValue.{FontValue, notdef, IsWithin}, ReadFont.{font_of, flat_text, font_from, font_texts, font_file}}
+use Rattle.t1_font.specs.Spelling.{SpellsEncoding, IsClear, IsLenIV, said, unsaid, nowhere, later, Start, SpellsTables, HasGlyphs, IsPrivate, Texts, HasPieces, SpellsIn}
+use Rattle.t1_font.proofs.{FileParts.{split_lead}, ValueLaws.{notdef_is, within_of, within_again, private_enciphers, private_again, lead_length}}
 use Rattle.std.specs.FinMap as maps
-use Rattle.t1_grammar.specs.Grammar.{first, AtFront, Lacks, front_again}
-use Rattle.t1_grammar.specs.Tables.{TableAt}
-use Rattle.t1_grammar.specs.Formats.{MayOccur, occurs_again, one_value}
-use Rattle.t1_bytes.specs.Cipher.{decrypted, private_text}
-use Rattle.t1_bytes.specs.Limits.{file_limit}
-use Rattle.t1_font.specs.declared.dialect.Spacing.{Spacing}
-use Rattle.t1_font.specs.declared.dialect.Dialect.{Dialect}
-use Rattle.t1_bytes.specs.FlatText.{IsFlat}
-use Rattle.t1_font.specs.declared.fault.ReadFault.{ReadFault}
-use Rattle.t1_font.specs.Glyphs.{Glyph, glyph, glyphs_end}
-use Rattle.t1_font.specs.Encoding.{Opening, Whole, OpensPuts, OpensNames, encoding_start}
-use Rattle.t1_font.specs.Markers.{subrs_marker, closefile, len_iv_marker}
-use Rattle.t1_font.specs.Pieces.{FlatPieces, EncodingText, OneWord, Puts, ClearPieces, SubrsPieces, PrivatePieces}
-use Rattle.t1_font.specs.Pieces.{flat_pieces, encoding_from, clear_pieces, iv_at, iv_of, through, tail_after, glyphs_from, before_place, tables_from, private_pieces}
-use Rattle.t1_font.specs.FontValue.{FontValue, notdef, IsWithin}
-use Rattle.t1_font.specs.ReadFont.{font_of, flat_text, font_from, font_texts, font_file}
-use Rattle.t1_font.specs.Spelling.{SpellsEncoding, IsClear, IsLenIV, said, unsaid, nowhere, later, Start, SpellsTables, HasGlyphs}
-use Rattle.t1_font.specs.Spelling.{IsPrivate, Texts, HasPieces, SpellsIn}
-use Rattle.t1_font.proofs.FileParts.{split_lead}
-use Rattle.t1_font.proofs.ValueLaws.{notdef_is, within_of, within_again, private_enciphers, private_again, lead_length}
 
 -- ---- the clear text
 

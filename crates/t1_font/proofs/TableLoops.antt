@@ -1,8 +1,6 @@
 -- Loops that read a table: what is held so far, and what is left.
 use Rattle.std.proofs.Common.{◌≡◌, ℕ, List, [], ◌∷◌, ◌++◌, Some, None, Ok, Err}
-use Rattle.t1_grammar.specs.Grammar.{Grammar}
-use Rattle.t1_grammar.specs.Tables.{with_front, table_at}
-use Rattle.t1_grammar.specs.TableLaws.{Eats, turns, closes, breaks}
+use Rattle.t1_grammar.specs.{Grammar.{Grammar}, Tables.{with_front, table_at}, TableLaws.{Eats, turns, closes, breaks}}
 
 -- entries that are held, before those that are left
 pub record SoFar {A B : Type 0} (entry : Grammar A) (close : Grammar B) (bytes rest : List ℕ) (Holds : List A → Type 0) : Type 0 where

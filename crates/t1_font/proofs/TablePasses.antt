@@ -1,18 +1,10 @@
 -- One pass by two places over two tables whose keys rise.
 use Rattle.std.proofs.Common.{◌≡◌, ◌<◌, ℕ, ◌+◌, ◌-◌, arith, Ordering, Bool, true, false, cond, List, [], ◌∷◌, ◌++◌, map, length, drop, Option, Some, None, refl, sym, ap, subst, ◌∙◌}
-use Rattle.std.specs.declared.cmp.Ordering.TheVariants.{Less, Equal, Greater}
-use Rattle.std.specs.List.{slice_get}
-use Rattle.std.specs.Cmp.{IsTotalOrder}
-use Rattle.std.specs.FinMap.{FinMap, IsAntisymmetric, entries, entries_sorted, entries-from_sorted, from_sorted}
-use Rattle.std.specs.FinMap.Entries.{by_order}
-use Rattle.std.proofs.lemmas.List.{append_assoc, map-append}
-use Rattle.std.proofs.lemmas.Option.{slice_get_within}
-use Rattle.t1_join.specs.Passes.{merge, first_met}
-use Rattle.t1_join.specs.TableMeaning.{Rises}
-use Rattle.t1_join.proofs.Merges.{rises_merge, merged_from_sorted}
-use Rattle.t1_join.proofs.Sorted.{map_of}
-use Rattle.t1_font.specs.Maps.{merged}
-use Rattle.t1_font.proofs.LentTables.{from_place, past_all}
+use Rattle.std.proofs.{lemmas.List.{append_assoc, map-append}, lemmas.Option.{slice_get_within}}
+use Rattle.std.specs.{declared.cmp.Ordering.TheVariants.{Less, Equal, Greater}, List.{slice_get}, Cmp.{IsTotalOrder}}
+use Rattle.std.specs.{FinMap.{FinMap, IsAntisymmetric, entries, entries_sorted, entries-from_sorted, from_sorted}, FinMap.Entries.{by_order}}
+use Rattle.t1_join.{specs.{Passes.{merge, first_met}, TableMeaning.{Rises}}, proofs.{Merges.{rises_merge, merged_from_sorted}, Sorted.{map_of}}}
+use Rattle.t1_font.{specs.Maps.{merged}, proofs.LentTables.{from_place, past_all}}
 
 -- how much is left of two lists
 abbrev pub left : {A : Type 0} → List A → List A → ℕ → ℕ → ℕ

@@ -1,24 +1,13 @@
 -- A head without its test has none, and is the head of a font.
-use Rattle.std.proofs.Common.{◌≡◌, suc, ◌≤◌, arith, List, [], ◌∷◌, ◌++◌, length, take, drop, Option, Some, None, is_some, Bool, true, false, cond, inl, inr}
-use Rattle.std.proofs.Common.{refl, sym, ap, subst, ◌∙◌, append_assoc, true≢false}
+use Rattle.std.proofs.Common.{◌≡◌, suc, ◌≤◌, arith, List, [], ◌∷◌, ◌++◌, length, take, drop, Option, Some, None, is_some, Bool, true, false, cond, inl, inr, refl, sym, ap, subst, ◌∙◌, append_assoc}
+use Rattle.std.proofs.{Common.{true≢false}, lemmas.List.{append-nil, length-append, length-drop}, lemmas.Bool.{cases_Bool, eqb-true}, lemmas.Slice.Eq.{bytes_eq-Decides}}
 use Rattle.std.specs.Prelude.{ℕ, ◌&&◌, ◌||◌, ◌==◌, not, codes}
-use Rattle.std.proofs.lemmas.List.{append-nil, length-append, length-drop}
-use Rattle.std.proofs.lemmas.Bool.{cases_Bool, eqb-true}
-use Rattle.std.proofs.lemmas.Slice.Eq.{bytes_eq-Decides}
-use Rattle.t1_grammar.specs.Grammar.{Grammar, NoneIn, Lacks, first}
-use Rattle.t1_grammar.specs.Places.{occurs, absent_lacks}
-use Rattle.t1_bytes.specs.FlatText.{starts_segment}
-use Rattle.t1_bytes.specs.Laws.{AreBytes}
-use Rattle.t1_bytes.specs.Eexec.{eexec_marker}
-use Rattle.t1_font.specs.Markers.{encoding_marker}
-use Rattle.t1_font.specs.FontValue.{Shell, SubrsShell, Numbered, weight}
-use Rattle.t1_font.specs.IsFont.{NoMarker, SubrsFit}
-use Rattle.t1_font.specs.Words.{is_regular, regular_comes}
-use Rattle.t1_font.specs.FontTest.{ends_before, token, test_tokens, then_save, known_name, font_test, apart_test, found_test, around}
-use Rattle.t1_font.specs.FontTest.{eexec_there, has_marker, is_untested, tested_head, untested, untested_shell, untested_font}
-use Rattle.t1_font.specs.FontTest.{UntestedTwice, UntestedStarts, UntestedIsFont}
-use Rattle.t1_font.proofs.ByteLemmas.{AreBytes-append}
-use Rattle.t1_font.proofs.read_fonts.ReadBytes.{bytes_left, bytes_right, drop_bytes}
+use Rattle.t1_grammar.specs.{Grammar.{Grammar, NoneIn, Lacks, first}, Places.{occurs, absent_lacks}}
+use Rattle.t1_bytes.specs.{FlatText.{starts_segment}, Laws.{AreBytes}, Eexec.{eexec_marker}}
+use Rattle.t1_font.specs.{Markers.{encoding_marker}, FontValue.{Shell, SubrsShell, Numbered, weight}, IsFont.{NoMarker, SubrsFit}, Words.{is_regular, regular_comes}}
+use Rattle.t1_font.specs.FontTest.{ends_before, token, test_tokens, then_save, known_name, font_test, apart_test, found_test, around, eexec_there, has_marker, is_untested, tested_head, untested}
+use Rattle.t1_font.specs.FontTest.{untested_shell, untested_font, UntestedTwice, UntestedStarts, UntestedIsFont}
+use Rattle.t1_font.proofs.{ByteLemmas.{AreBytes-append}, read_fonts.ReadBytes.{bytes_left, bytes_right, drop_bytes}}
 
 -- ---- what a head without a test is
 

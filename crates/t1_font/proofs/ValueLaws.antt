@@ -1,27 +1,15 @@
 -- What is tested on lists of entries holds of the font.
 use Rattle.std.proofs.Common.{◌≡◌, ℕ, ◌≤◌, Bool, true, false, cond, ◌||◌, ◌&&◌, leb, List, [], ◌∷◌, ◌++◌, length, take, drop, Option, Some, None, refl, sym, ap, ◌∙◌, arith}
-use Rattle.std.specs.Prelude.{is_some}
-use Rattle.std.specs.List.{list_any}
-use Rattle.std.specs.Str.{bytes_eq}
-use Rattle.std.specs.FinMap as maps
-use Rattle.std.specs.FinSet.{IsAntisymmetric, slice_cmp-IsAntisymmetric, nat_cmp-IsAntisymmetric}
-use Rattle.std.specs.Ordering.{nat_cmp, is_eq}
-use Rattle.std.specs.Cmp.{nat_cmp_total}
+use Rattle.std.proofs.{lemmas.Map.Text.{is_eq-slice_cmp}, lemmas.Bool.{leb-true, le-leb, and_parts, and_from}, lemmas.List.{take-append-drop, drop_at, length-take-le}}
+use Rattle.std.specs.{Prelude.{is_some}, List.{list_any}, Str.{bytes_eq}, FinSet.{IsAntisymmetric, slice_cmp-IsAntisymmetric, nat_cmp-IsAntisymmetric}, Ordering.{nat_cmp, is_eq}, Cmp.{nat_cmp_total}}
 use Rattle.std.specs.Cmp.Lexicographic.{nat_list_cmp_total}
-use Rattle.std.proofs.lemmas.Map.Text.{is_eq-slice_cmp}
-use Rattle.std.proofs.lemmas.Bool.{leb-true, le-leb, and_parts, and_from}
-use Rattle.std.proofs.lemmas.List.{take-append-drop, drop_at, length-take-le}
-use Rattle.t1_bytes.specs.Cipher.{Enciphers, decrypted, private_text}
-use Rattle.t1_bytes.proofs.Ciphers.{Enciphers-decrypted, decrypted-is, length-decrypted}
+use Rattle.t1_bytes.{specs.Cipher.{Enciphers, decrypted, private_text}, proofs.Ciphers.{Enciphers-decrypted, decrypted-is, length-decrypted}}
 use Rattle.t1_grammar.specs.Grammar.{choice}
-use Rattle.t1_font.specs.Charstrings.{plain_of}
-use Rattle.t1_font.specs.Entry.{plain_entries}
-use Rattle.t1_font.specs.Glyphs.{Glyph}
-use Rattle.t1_font.specs.Pieces.{ClearPieces, PrivatePieces}
-use Rattle.t1_font.specs.FontValue.{name_cmp, notdef, weight_of, IsWithin, declared_count, count_limit, weight_limit}
-use Rattle.t1_font.specs.Entries.{last_entries, last_value}
+use Rattle.t1_font.specs.{Charstrings.{plain_of}, Entry.{plain_entries}, Glyphs.{Glyph}, Pieces.{ClearPieces, PrivatePieces}}
+use Rattle.t1_font.specs.{FontValue.{name_cmp, notdef, weight_of, IsWithin, declared_count, count_limit, weight_limit}, Entries.{last_entries, last_value}}
 use Rattle.t1_font.specs.ReadFont.{subr_entries, glyph_entries, shell_of, font_of, has_notdef, is_within}
 use Rattle.t1_font.proofs.MapLaws.{get-map_of, entries-map_of, len-map_of}
+use Rattle.std.specs.FinMap as maps
 
 name_same : IsAntisymmetric name_cmp
 name_same = slice_cmp-IsAntisymmetric nat_cmp-IsAntisymmetric

@@ -1,13 +1,9 @@
 -- Sums that are cut off at 64 bits, and weights of what is in ranges.
-use Rattle.std.proofs.Common.{◌≡◌, refl, sym, ◌∙◌, ap, ℕ, ◌+◌, ◌-◌, ◌≤◌, ◌<◌, min, List, [], ◌∷◌, length, map, drop, arith}
-use Rattle.std.proofs.lemmas.List.Elements.{All-head, All-tail}
+use Rattle.std.proofs.{Common.{◌≡◌, refl, sym, ◌∙◌, ap, ℕ, ◌+◌, ◌-◌, ◌≤◌, ◌<◌, min, List, [], ◌∷◌, length, map, drop, arith}, lemmas.List.Elements.{All-head, All-tail}}
 use Rattle.std.proofs.lemmas.List.{length-take-le, length-drop}
-use Rattle.std.specs.Ordering.{nat_cmp}
-use Rattle.std.specs.FinMap.{from_sorted, entries, entries-from_sorted}
+use Rattle.std.specs.{Ordering.{nat_cmp}, FinMap.{from_sorted, entries, entries-from_sorted}}
 use Rattle.t1_join.specs.TableMeaning.{Rises}
-use Rattle.t1_font.specs.declared.ranges.Range.{Range}
-use Rattle.t1_font.specs.FontValue.{Shell, weight_limit, name_cmp, total, texts_weight, weight_of, subr_weight, glyph_weight}
-use Rattle.t1_font.specs.FontModel.{clamp}
+use Rattle.t1_font.specs.{declared.ranges.Range.{Range}, FontValue.{Shell, weight_limit, name_cmp, total, texts_weight, weight_of, subr_weight, glyph_weight}, FontModel.{clamp}}
 use Rattle.t1_font.specs.Ranges.{bytes_at, IsInside, AllInside, numbered_at, named_at, subr_at_weight, glyph_at_weight}
 
 -- a sum that is cut off on the way, with what is added, is cut off at the end

@@ -1,27 +1,14 @@
 -- A file that spells a font spells the same font widely: where white space alone stands, no comment begins.
 use Rattle.std.proofs.Common.{◌≡◌, ℕ, ◌==◌, Bool, true, false, not, inl, inr, List, [], ◌∷◌, ◌++◌, take, drop, Option, Some, None, refl, sym, ap, subst, ◌∙◌, append_assoc, true≢false, arith}
-use Rattle.std.specs.Prelude.{codes}
-use Rattle.std.specs.List.{AllByRecursion}
-use Rattle.std.specs.Str.{bytes_eq}
-use Rattle.std.specs.List.{prefix_len}
-use Rattle.std.proofs.lemmas.Option.{cond_some}
-use Rattle.std.proofs.lemmas.Bool.{eqb-true, cases_Bool}
-use Rattle.std.proofs.lemmas.List.{append-nil}
-use Rattle.std.proofs.lemmas.Slice.Eq.{bytes_eq-Decides}
-use Rattle.t1_grammar.specs.Grammar.{Grammar, pure, ◌>>=◌, ◌>>◌, that, may_be, Stops, fixed, AtFront, NotAtFront, unspelled}
-use Rattle.t1_grammar.specs.Tables.{Entries, IsTable}
-use Rattle.t1_grammar.specs.Scans.{GoesOn}
+use Rattle.std.proofs.{lemmas.Option.{cond_some}, lemmas.Bool.{eqb-true, cases_Bool}, lemmas.List.{append-nil}, lemmas.Slice.Eq.{bytes_eq-Decides}}
+use Rattle.std.specs.{Prelude.{codes}, List.{AllByRecursion, prefix_len}, Str.{bytes_eq}}
+use Rattle.t1_grammar.specs.{Grammar.{Grammar, pure, ◌>>=◌, ◌>>◌, that, may_be, Stops, fixed, AtFront, NotAtFront, unspelled}, Tables.{Entries, IsTable}, Scans.{GoesOn}}
 use Rattle.t1_bytes.specs.White.{is_white, white, gap}
-use Rattle.t1_font.specs.declared.dialect.Spacing.TheVariants.{White, Comments}
-use Rattle.t1_font.specs.Dialect.{Blank, spacing, white_and_comments, white_in, gap_in, strict, wide}
-use Rattle.t1_font.specs.Words.{is_regular, is_word, is_decimal, word, keyword, decimal, name, next_name, phrase_of, passes}
-use Rattle.t1_font.specs.Entry.{entry}
-use Rattle.t1_font.specs.Subrs.{Subr, subr_key, subr, subrs_end}
-use Rattle.t1_font.specs.Encoding.{octal, code, CodeEntry, put_entry, code_entry, Opening, Whole, OpensPuts, OpensNames, encoding_start, readonly}
-use Rattle.t1_font.specs.Encoding.{encoding_end, array_start, array_end, encoding_word, encoding_table, loop_range, loop_body, encoding_loop}
-use Rattle.t1_font.specs.EntryLaws.{keyword_text}
-use Rattle.t1_font.specs.Pieces.{EncodingText, OneWord, Puts, ClearPieces, SubrsPieces, PrivatePieces}
-use Rattle.t1_font.specs.FontValue.{FontValue}
+use Rattle.t1_font.specs.{declared.dialect.Spacing.TheVariants.{White, Comments}, Dialect.{Blank, spacing, white_and_comments, white_in, gap_in, strict, wide}}
+use Rattle.t1_font.specs.{Words.{is_regular, is_word, is_decimal, word, keyword, decimal, name, next_name, phrase_of, passes}, Entry.{entry}, Subrs.{Subr, subr_key, subr, subrs_end}}
+use Rattle.t1_font.specs.Encoding.{octal, code, CodeEntry, put_entry, code_entry, Opening, Whole, OpensPuts, OpensNames, encoding_start, readonly, encoding_end, array_start, array_end}
+use Rattle.t1_font.specs.{Encoding.{encoding_word, encoding_table, loop_range, loop_body, encoding_loop}, EntryLaws.{keyword_text}}
+use Rattle.t1_font.specs.{Pieces.{EncodingText, OneWord, Puts, ClearPieces, SubrsPieces, PrivatePieces}, FontValue.{FontValue}}
 use Rattle.t1_font.specs.Spelling.{SpellsEncoding, IsClear, SpellsTables, HasTables, HasGlyphs, IsPrivate, HasPieces, Spells, SpellsWidely}
 use Rattle.t1_font.proofs.read_fonts.ReadClear.{word_start}
 

@@ -1,11 +1,7 @@
 -- Keywords and decimals, byte by byte.
-use Rattle.std.proofs.Common.{◌≡◌, ℕ, suc, ◌+◌, ◌*◌, ◌-◌, ◌<◌, Bool, true, false, ◌&&◌, ◌||◌, not, cond, leb, List, []}
-use Rattle.std.proofs.Common.{◌∷◌, length, take, drop, Option, Some, None, refl, sym, ap, subst, ◌∙◌, one-add, arith}
-use Rattle.std.specs.List.{AllByRecursion, prefix_len}
-use Rattle.std.specs.Option.{option_and_then}
-use Rattle.std.proofs.lemmas.Bool.{and_parts, agree_below_at, leb-true}
-use Rattle.std.proofs.lemmas.Option.{none-some, cond_some}
-use Rattle.std.proofs.lemmas.Slice.Eq.{bytes_eq-Decides}
+use Rattle.std.proofs.Common.{◌≡◌, ℕ, suc, ◌+◌, ◌*◌, ◌-◌, ◌<◌, Bool, true, false, ◌&&◌, ◌||◌, not, cond, leb, List, [], ◌∷◌, length, take, drop, Option, Some, None, refl, sym, ap, subst, ◌∙◌}
+use Rattle.std.proofs.{Common.{one-add, arith}, lemmas.Bool.{and_parts, agree_below_at, leb-true}, lemmas.Option.{none-some, cond_some}, lemmas.Slice.Eq.{bytes_eq-Decides}}
+use Rattle.std.specs.{List.{AllByRecursion, prefix_len}, Option.{option_and_then}}
 use Rattle.t1_grammar.specs.Grammar.{Stops, fixed}
 use Rattle.t1_font.specs.Words.{is_regular, all_regular, regular_comes, first_digit, is_digit, all_digits, keyword, decimal, is_decimal, digits_after}
 

@@ -1,22 +1,10 @@
 -- What code returned, against what a reading reads.
-use Rattle.std.specs.Prelude.{◌≡◌, ℕ, List, Option, Some, None, Result, Ok, Err}
-use Rattle.std.specs.Option.{option_map}
-use Rattle.t1_font.specs.declared.fault.ReadFault.{ReadFault}
-use Rattle.t1_font.specs.declared.fault.ReadFault.TheVariants.{Memory}
-use Rattle.t1_font.specs.declared.encoding.EncodingParts.{EncodingParts}
+use Rattle.std.specs.{Prelude.{◌≡◌, ℕ, List, Option, Some, None, Result, Ok, Err}, Option.{option_map}}
+use Rattle.t1_font.specs.{declared.fault.ReadFault.{ReadFault}, declared.fault.ReadFault.TheVariants.{Memory}, declared.encoding.EncodingParts.{EncodingParts}}
+use Rattle.t1_font.specs.{declared.encoding.ClearParts.{ClearParts}, declared.subrs.SubrsParts.{SubrsParts}, declared.glyphs.GlyphsParts.{GlyphsParts}, declared.private.Before.{Before}}
+use Rattle.t1_font.specs.{declared.private.PrivateParts.{PrivateParts}, FontValue.{Numbered, Encoding, Word, Codes}, Pieces.{ClearPieces, SubrsPieces, PrivatePieces}, Glyphs.{Glyph}}
+use Rattle.t1_font.specs.{ReadFont.{encoding_value, subrs_of}, Views.{words_view}, Gathering.{Entries, named}, Held.{first_words, names_notdef, HoldsSubrs, HoldsGlyphs}}
 use Rattle.t1_font.specs.declared.encoding.EncodingParts.TheVariants as parts
-use Rattle.t1_font.specs.declared.encoding.ClearParts.{ClearParts}
-use Rattle.t1_font.specs.declared.subrs.SubrsParts.{SubrsParts}
-use Rattle.t1_font.specs.declared.glyphs.GlyphsParts.{GlyphsParts}
-use Rattle.t1_font.specs.declared.private.Before.{Before}
-use Rattle.t1_font.specs.declared.private.PrivateParts.{PrivateParts}
-use Rattle.t1_font.specs.FontValue.{Numbered, Encoding, Word, Codes}
-use Rattle.t1_font.specs.Pieces.{ClearPieces, SubrsPieces, PrivatePieces}
-use Rattle.t1_font.specs.Glyphs.{Glyph}
-use Rattle.t1_font.specs.ReadFont.{encoding_value, subrs_of}
-use Rattle.t1_font.specs.Views.{words_view}
-use Rattle.t1_font.specs.Gathering.{Entries, named}
-use Rattle.t1_font.specs.Held.{first_words, names_notdef, HoldsSubrs, HoldsGlyphs}
 
 -- want of memory may come in place of each answer
 abbrev pub Refused : {A : Type 0} → ReadFault → Result A ReadFault → Type 0

@@ -1,13 +1,9 @@
 -- Boxes and their places as the code has them, without where they lie in memory.
-use Rattle.std.specs.Prelude.{Bool, true, List, [], ◌∷◌, Option, Some, None, if◌then◌else◌}
-use Rattle.std.specs.List.{list_all}
-use Rattle.t1_font.specs.declared.joined_boxes.FontBox.{FontBox}
-use Rattle.t1_font.specs.declared.joined_boxes.KeptBox.{KeptBox}
-use Rattle.t1_font.specs.declared.font_boxes.Numbers.{Numbers as CodeNumbers}
-use Rattle.t1_font.specs.declared.font_boxes.Place.{Place as CodePlace}
-use Rattle.t1_font.specs.declared.font_boxes.Side.{Side as CodeSide}
-use Rattle.t1_font.specs.declared.font_boxes.Side.TheVariants as sides
+use Rattle.std.specs.{Prelude.{Bool, true, List, [], ◌∷◌, Option, Some, None, if◌then◌else◌}, List.{list_all}}
+use Rattle.t1_font.specs.{declared.joined_boxes.FontBox.{FontBox}, declared.joined_boxes.KeptBox.{KeptBox}, declared.font_boxes.Numbers.{Numbers as CodeNumbers}}
+use Rattle.t1_font.specs.{declared.font_boxes.Place.{Place as CodePlace}, declared.font_boxes.Side.{Side as CodeSide}}
 use Rattle.t1_font.specs.FontBoxes.{Box, BoxNumbers, BoxPlace, Side, InHead, InTail, same_box, joined_box}
+use Rattle.t1_font.specs.declared.font_boxes.Side.TheVariants as sides
 
 abbrev pub box_view : FontBox → Box
 box_view b = record { llx = b.llx.now; lly = b.lly.now; urx = b.urx.now; ury = b.ury.now }

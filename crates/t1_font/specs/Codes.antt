@@ -1,7 +1,5 @@
 -- The codes of byte lists, and of finite maps to byte lists.
-use Rattle.std.specs.Prelude.{List, ℕ}
-use Rattle.std.specs.Coded.{Coded, coded_list, coded_ℕ}
-use Rattle.std.specs.FinMap.{code}
+use Rattle.std.specs.{Prelude.{List, ℕ}, Coded.{Coded, coded_list, coded_ℕ}, FinMap.{code}}
 use Rattle.t1_font.specs.FontValue.{Numbered, Named}
 
 abbrev pub bytes_code : Coded (List ℕ)

@@ -1,10 +1,6 @@
 -- A font cut to some of its names and Subrs.
-use Rattle.std.specs.Prelude.{ℕ, Bool, cond, List, [], ◌∷◌, map, unwrap_or}
-use Rattle.std.specs.FinMap.{get, retain_keys}
-use Rattle.std.specs.FinSet.{FinSet, from_list}
-use Rattle.std.specs.Global.{Vec}
-use Rattle.t1_font.specs.FontValue.{FontValue, Encoding, Word, Codes, name_cmp}
-use Rattle.t1_font.specs.Maps.{map_values}
+use Rattle.std.specs.{Prelude.{ℕ, Bool, cond, List, [], ◌∷◌, map, unwrap_or}, FinMap.{get, retain_keys}, FinSet.{FinSet, from_list}, Global.{Vec}}
+use Rattle.t1_font.specs.{FontValue.{FontValue, Encoding, Word, Codes, name_cmp}, Maps.{map_values}}
 
 -- `return`
 abbrev pub stub : List ℕ

@@ -1,11 +1,7 @@
 -- By which rules a font may be spelled, beside those of the standard.
 use Rattle.std.specs.Prelude.{ℕ, ◌==◌, ◌||◌, Bool, true, false, List, Option, Some, None, if◌then◌else◌}
-use Rattle.t1_grammar.specs.Grammar.{Grammar, that}
-use Rattle.t1_grammar.specs.Scans.{scan}
-use Rattle.t1_font.specs.declared.dialect.Spacing.{Spacing}
-use Rattle.t1_font.specs.declared.dialect.Spacing.TheVariants.{White, Comments}
-use Rattle.t1_font.specs.declared.dialect.Dialect.{Dialect}
-use Rattle.t1_font.specs.declared.dialect.Rule.{Rule}
+use Rattle.t1_grammar.specs.{Grammar.{Grammar, that}, Scans.{scan}}
+use Rattle.t1_font.specs.{declared.dialect.Spacing.{Spacing}, declared.dialect.Spacing.TheVariants.{White, Comments}, declared.dialect.Dialect.{Dialect}, declared.dialect.Rule.{Rule}}
 use Rattle.t1_font.specs.declared.dialect.Rule.TheVariants.{EncodingComments, CopiedCodes, ReadonlyWord, SubrsComments}
 use Rattle.t1_bytes.specs.White.{is_white, white, has_bytes, gap}
 

@@ -1,9 +1,6 @@
 -- The names at which two tables of glyphs differ.
-use Rattle.std.specs.Prelude.{◌≡◌, List, ℕ, Some, MatchOption}
-use Rattle.std.specs.declared.cmp.Ordering.TheVariants.{Less}
-use Rattle.std.specs.FinMap.{get}
-use Rattle.t1_font.specs.FontValue.{Named, name_cmp}
-use Rattle.t1_font.specs.Joins.{differing_name}
+use Rattle.std.specs.{Prelude.{◌≡◌, List, ℕ, Some, MatchOption}, declared.cmp.Ordering.TheVariants.{Less}, FinMap.{get}}
+use Rattle.t1_font.specs.{FontValue.{Named, name_cmp}, Joins.{differing_name}}
 
 -- both tables have a glyph of this name, with different charstrings
 pub record DifferAt (m n : Named) (name : List ℕ) : Type 0 where

@@ -1,12 +1,7 @@
 -- The Encoding of the clear text.
-use Rattle.std.specs.Ordering.{nat_cmp}
-use Rattle.std.specs.Prelude.{ℕ, zero, suc, ◌+◌, ◌-◌, ◌*◌, ◌&&◌, nat_le, Bool, true, false, List, [], ◌∷◌, ◌++◌, length, codes, unwrap_or}
+use Rattle.std.specs.{Ordering.{nat_cmp}, Prelude.{ℕ, zero, suc, ◌+◌, ◌-◌, ◌*◌, ◌&&◌, nat_le, Bool, true, false, List, [], ◌∷◌, ◌++◌, length, codes, unwrap_or}}
 use Rattle.t1_grammar.specs.Grammar.{Grammar, pure, ◌>>=◌, ◌>>◌, that, run, fixed, either, may_be}
-use Rattle.t1_font.specs.declared.dialect.Spacing.{Spacing}
-use Rattle.t1_font.specs.declared.dialect.Dialect.{Dialect}
-use Rattle.t1_font.specs.FontValue.{notdef}
-use Rattle.t1_font.specs.Entries.{last_value}
-use Rattle.t1_font.specs.Dialect.{white_in, gap_in}
+use Rattle.t1_font.specs.{declared.dialect.Spacing.{Spacing}, declared.dialect.Dialect.{Dialect}, FontValue.{notdef}, Entries.{last_value}, Dialect.{white_in, gap_in}}
 use Rattle.t1_font.specs.Words.{is_regular, word, keyword, decimal, name}
 
 abbrev pub readonly : Spacing → Grammar (List ℕ)

@@ -1,7 +1,6 @@
 -- The Encodings of two fonts: whether both are of one kind, and their join.
 use Rattle.std.specs.Prelude.{◌≡◌}
-use Rattle.t1_font.specs.FontValue.{Encoding, Word, Codes}
-use Rattle.t1_font.specs.Maps.{merged}
+use Rattle.t1_font.specs.{FontValue.{Encoding, Word, Codes}, Maps.{merged}}
 
 -- the same word, or two tables
 abbrev pub SameKind : Encoding → Encoding → Type 0

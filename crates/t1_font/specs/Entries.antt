@@ -1,12 +1,9 @@
 -- Lists of entries in the order of a file, and the maps that they make: of a repeated key the last entry stands.
-use Rattle.std.specs.Prelude.{◌≡◌, ◌⊎◌, ℕ, not, Bool, false, List, [], ◌∷◌, filter, Option, Some, None, if◌then◌else◌}
-use Rattle.std.specs.Str.{bytes_eq}
-use Rattle.std.specs.Ordering.{is_eq}
-use Rattle.std.specs.declared.cmp.Ordering.{Ordering}
-use Rattle.std.specs.FinMap as maps
+use Rattle.std.specs.{Prelude.{◌≡◌, ◌⊎◌, ℕ, not, Bool, false, List, [], ◌∷◌, filter, Option, Some, None, if◌then◌else◌}, Str.{bytes_eq}, Ordering.{is_eq}, declared.cmp.Ordering.{Ordering}}
 use Rattle.std.specs.List.Sorted.{IsPermutation, IsSortedByKey, IsStableByKey}
 use Rattle.t1_grammar.specs.Grammar.{choice}
 use Rattle.t1_font.specs.FontValue.{notdef}
+use Rattle.std.specs.FinMap as maps
 
 module _ {K : Type 0} (R : K → K → Ordering) where
   -- entries put one after another among those that stand in the order of their keys

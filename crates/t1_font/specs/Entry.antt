@@ -2,8 +2,7 @@
 use Rattle.std.specs.Prelude.{ℕ, ◌&&◌, nat_le, true, List, map}
 use Rattle.t1_grammar.specs.Grammar.{Grammar, pure, ◌>>=◌, ◌>>◌, that, count}
 use Rattle.t1_bytes.specs.White.{white, gap}
-use Rattle.t1_font.specs.Words.{one_white, word, decimal, phrase_of, passes}
-use Rattle.t1_font.specs.Charstrings.{plain_of}
+use Rattle.t1_font.specs.{Words.{one_white, word, decimal, phrase_of, passes}, Charstrings.{plain_of}}
 
 -- what stands behind a key: the word before the encrypted bytes, these, and the phrase after them
 pub record Body : Type 0 where

@@ -1,23 +1,13 @@
 -- Each entry has bytes, and no close can be read where one stands: so a table has one reading.
-use Rattle.std.proofs.Common.{◌≡◌, ℕ, ◌<◌, Bool, true, false, true≢false, List, [], ◌∷◌, length, take, drop, Some, None, refl, sym, ap, ◌∙◌, arith, ◌++◌}
-use Rattle.std.specs.Prelude.{codes}
-use Rattle.std.specs.List.{prefix_len}
-use Rattle.std.specs.Str.{bytes_eq}
-use Rattle.std.proofs.lemmas.Slice.Eq.{bytes_eq-Decides}
-use Rattle.std.proofs.lemmas.Option.{cond_some, option_and_then_some}
-use Rattle.std.proofs.lemmas.List.{length-append}
-use Rattle.t1_grammar.specs.Grammar.{Grammar, fixed, either}
-use Rattle.t1_grammar.specs.TableLaws.{Eats, Eats-spelled, Apart, eats_either, apart_either, apart_behind}
+use Rattle.std.proofs.{Common.{◌≡◌, ℕ, ◌<◌, Bool, true, false, true≢false, List, [], ◌∷◌, length, take, drop, Some, None, refl, sym, ap, ◌∙◌, arith, ◌++◌}, lemmas.Slice.Eq.{bytes_eq-Decides}}
+use Rattle.std.proofs.{lemmas.Option.{cond_some, option_and_then_some}, lemmas.List.{length-append}}
+use Rattle.std.specs.{Prelude.{codes}, List.{prefix_len}, Str.{bytes_eq}}
+use Rattle.t1_grammar.specs.{Grammar.{Grammar, fixed, either}, TableLaws.{Eats, Eats-spelled, Apart, eats_either, apart_either, apart_behind}}
 use Rattle.t1_bytes.specs.White.{is_white, gap}
-use Rattle.t1_font.specs.declared.dialect.Spacing.{Spacing}
-use Rattle.t1_font.specs.declared.dialect.Dialect.{Dialect}
-use Rattle.t1_font.specs.declared.dialect.Spacing.TheVariants.{White}
-use Rattle.t1_font.specs.Dialect.{white_in}
+use Rattle.t1_font.specs.{declared.dialect.Spacing.{Spacing}, declared.dialect.Dialect.{Dialect}, declared.dialect.Spacing.TheVariants.{White}, Dialect.{white_in}}
 use Rattle.t1_font.specs.Words.{is_regular, word, keyword, name, phrase_of, passes, next_name}
-use Rattle.t1_font.specs.Encoding.{put_entry, copy_start, one_copy, copied_range, copy_of_range, range_copy, entry_with, code_entry, encoding_end}
-use Rattle.t1_font.specs.Entry.{Body, body, entry}
-use Rattle.t1_font.specs.Subrs.{subr_key, subr, subrs_end}
-use Rattle.t1_font.specs.Glyphs.{glyph, glyphs_end}
+use Rattle.t1_font.specs.{Encoding.{put_entry, copy_start, one_copy, copied_range, copy_of_range, range_copy, entry_with, code_entry, encoding_end}, Entry.{Body, body, entry}}
+use Rattle.t1_font.specs.{Subrs.{subr_key, subr, subrs_end}, Glyphs.{glyph, glyphs_end}}
 
 -- what a keyword spells is its own text
 pub keyword_text : (w a text rest : List ℕ) → (keyword w).Spells a text rest → text ≡ w

@@ -1,20 +1,10 @@
 -- The kept texts of fonts made even. A step that changes a text is taken if the result is again a text of that place, and if it stays when this
 -- step and those before it are tried again. So making texts even twice is making them even once, and no marker arises or goes.
-use Rattle.std.specs.Prelude.{ℕ, ◌==◌, ◌&&◌, not, Bool, true, false, List, [], ◌∷◌, ◌++◌, Option, Some, None, Result, Ok, Err, if◌then◌else◌}
-use Rattle.std.specs.Str.{bytes_eq}
-use Rattle.t1_grammar.specs.Grammar.{Grammar, first}
-use Rattle.t1_grammar.specs.Places.{occurs}
-use Rattle.t1_font.specs.declared.even_texts.KeptText.{KeptText}
-use Rattle.t1_font.specs.declared.even_texts.KeptText.TheVariants.{Head, ClearTail, Private, Middle, Tail}
-use Rattle.t1_font.specs.declared.fault.ReadFault.{ReadFault}
-use Rattle.t1_font.specs.Words.{regular_comes}
-use Rattle.t1_font.specs.Markers.{subrs_marker, chars_marker, closefile}
-use Rattle.t1_font.specs.Pieces.{iv_of}
-use Rattle.t1_font.specs.FontTest.{eexec_there, has_marker}
-use Rattle.t1_font.specs.FontValue.{Shell}
-use Rattle.t1_font.specs.Squeezing.{squeezed}
-use Rattle.t1_font.specs.Identity.{unnumbered}
-use Rattle.t1_font.specs.Tags.{tagged_name, both_untagged}
+use Rattle.std.specs.{Prelude.{ℕ, ◌==◌, ◌&&◌, not, Bool, true, false, List, [], ◌∷◌, ◌++◌, Option, Some, None, Result, Ok, Err, if◌then◌else◌}, Str.{bytes_eq}}
+use Rattle.t1_grammar.specs.{Grammar.{Grammar, first}, Places.{occurs}}
+use Rattle.t1_font.specs.{declared.even_texts.KeptText.{KeptText}, declared.even_texts.KeptText.TheVariants.{Head, ClearTail, Private, Middle, Tail}, declared.fault.ReadFault.{ReadFault}}
+use Rattle.t1_font.specs.{Words.{regular_comes}, Markers.{subrs_marker, chars_marker, closefile}, Pieces.{iv_of}, FontTest.{eexec_there, has_marker}, FontValue.{Shell}, Squeezing.{squeezed}}
+use Rattle.t1_font.specs.{Identity.{unnumbered}, Tags.{tagged_name, both_untagged}}
 
 -- ---- texts of a font
 

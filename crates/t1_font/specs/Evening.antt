@@ -1,14 +1,7 @@
 -- Fonts made even: subsets that other programs cut differ in white space, in lines that number the font, in tags before its name and in FontBBox, and
 -- declare no Subrs after the last one used.
-use Rattle.std.specs.Prelude.{ℕ, max, nat_lt, List, [], ◌∷◌, map, filter}
-use Rattle.std.specs.List.{flat_map}
-use Rattle.std.specs.Option.{option_map}
-use Rattle.std.specs.FinMap.{entries, keys, from_entries}
-use Rattle.t1_font.specs.FontValue.{FontValue, Shell, SubrsShell, Numbered, declared_count}
-use Rattle.t1_font.specs.Cut.{stub}
-use Rattle.t1_font.specs.Maps.{merged}
-use Rattle.t1_font.specs.EvenTexts.{even_texts}
-use Rattle.t1_font.specs.FontBoxes.{boxed}
+use Rattle.std.specs.{Prelude.{ℕ, max, nat_lt, List, [], ◌∷◌, map, filter}, List.{flat_map}, Option.{option_map}, FinMap.{entries, keys, from_entries}}
+use Rattle.t1_font.specs.{FontValue.{FontValue, Shell, SubrsShell, Numbered, declared_count}, Cut.{stub}, Maps.{merged}, EvenTexts.{even_texts}, FontBoxes.{boxed}}
 
 -- a table that declares at least so many Subrs
 abbrev pub raised : ℕ → SubrsShell → SubrsShell

@@ -1,14 +1,6 @@
 -- The laws of fonts made even, each the contract of a function in `laws`.
-use Rattle.std.specs.Prelude.{◌≡◌, ℕ, ◌≤◌, true, false, List, [], ◌∷◌, map}
-use Rattle.std.specs.Ordering.{is_gt}
-use Rattle.std.specs.List.{AllByRecursion, list_any}
-use Rattle.std.specs.List.Sorted.{IsPermutation}
-use Rattle.std.specs.FinMap.{keys, contains_key}
-use Rattle.t1_font.specs.FontValue.{FontValue, Shell, declared_count}
-use Rattle.t1_font.specs.EvenTexts.{even_texts}
-use Rattle.t1_font.specs.Evening.{even, filled, evened}
-use Rattle.t1_font.specs.IsFont.{IsFont}
-use Rattle.t1_font.specs.Numbers.{value_cmp}
+use Rattle.std.specs.{Prelude.{◌≡◌, ℕ, ◌≤◌, true, false, List, [], ◌∷◌, map}, Ordering.{is_gt}, List.{AllByRecursion, list_any}, List.Sorted.{IsPermutation}, FinMap.{keys, contains_key}}
+use Rattle.t1_font.specs.{FontValue.{FontValue, Shell, declared_count}, EvenTexts.{even_texts}, Evening.{even, filled, evened}, IsFont.{IsFont}, Numbers.{value_cmp}}
 use Rattle.t1_font.specs.FontBoxes.{Box, box_of, says_nothing, joined_box, with_box, box_stays, with_texts, boxed}
 
 -- a font of even texts that declares so many Subrs stays

@@ -1,10 +1,8 @@
 -- The printed texts of the refusals.
-use Rattle.std.specs.Prelude.{ℕ, List, ◌++◌, codes}
-use Rattle.std.specs.Fmt.{decimal}
+use Rattle.std.specs.{Prelude.{ℕ, List, ◌++◌, codes}, Fmt.{decimal}}
 use Rattle.t1_font.specs.declared.fault.ReadFault.{ReadFault}
-use Rattle.t1_font.specs.declared.fault.ReadFault.TheVariants.{TooLong, BadSegment, NoEexec, ShortCipher, NoEncoding, BadEncoding, NoCharStrings}
-use Rattle.t1_font.specs.declared.fault.ReadFault.TheVariants.{BadLenIV, BadSubrs, BadGlyphs, Hybrid, NoClosefile, NoNotdef, Limit, Memory}
-use Rattle.t1_font.specs.declared.parts.PartsFault.{PartsFault}
+use Rattle.t1_font.specs.declared.fault.ReadFault.TheVariants.{TooLong, BadSegment, NoEexec, ShortCipher, NoEncoding, BadEncoding, NoCharStrings, BadLenIV, BadSubrs, BadGlyphs, Hybrid, NoClosefile}
+use Rattle.t1_font.specs.{declared.fault.ReadFault.TheVariants.{NoNotdef, Limit, Memory}, declared.parts.PartsFault.{PartsFault}}
 use Rattle.t1_font.specs.declared.parts.PartsFault.TheVariants as parts
 
 -- what is printed of a fault

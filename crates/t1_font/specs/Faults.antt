@@ -1,14 +1,11 @@
 -- What reading a table returned, against what reading gives.
 use Rattle.std.specs.Prelude.{◌≡◌, ℕ, ◌-◌, List, length, Option, Some, None, Err}
 use Rattle.t1_bytes.specs.declared.fault.BytesFault.{BytesFault}
-use Rattle.t1_bytes.specs.declared.fault.BytesFault.TheVariants as bytes
 use Rattle.t1_grammar.specs.Tables.{Table}
-use Rattle.t1_font.specs.declared.dialect.Spacing.{Spacing}
-use Rattle.t1_font.specs.Dialect.{white_in}
-use Rattle.t1_font.specs.declared.fault.ReadFault.{ReadFault}
-use Rattle.t1_font.specs.declared.fault.ReadFault.TheVariants as faults
-use Rattle.t1_font.specs.declared.fault.TableError.{TableError}
+use Rattle.t1_font.specs.{declared.dialect.Spacing.{Spacing}, Dialect.{white_in}, declared.fault.ReadFault.{ReadFault}, declared.fault.TableError.{TableError}}
 use Rattle.t1_font.specs.declared.fault.TableError.TheVariants.{Memory, Left}
+use Rattle.t1_bytes.specs.declared.fault.BytesFault.TheVariants as bytes
+use Rattle.t1_font.specs.declared.fault.ReadFault.TheVariants as faults
 
 -- how many bytes stand behind what is read
 abbrev pub behind : {A : Type 0} → Option (A × List ℕ) → ℕ

@@ -1,13 +1,7 @@
 -- What is answered where fonts are filled.
-use Rattle.std.specs.Prelude.{◌≡◌, ◌⊎◌, ◌≤◌, ◌<◌, ℕ, nat_lt, Bool, true, false, List, [], ◌∷◌, Some}
-use Rattle.std.specs.List.{AllByRecursion, list_all}
-use Rattle.std.specs.FinMap.{get, contains_key, entries, retain_keys}
-use Rattle.t1_font.specs.declared.parts.PartsFault.{PartsFault}
-use Rattle.t1_font.specs.declared.parts.PartsFault.TheVariants.{Limit, Memory}
-use Rattle.t1_font.specs.FontValue.{FontValue, Numbered, declared_count, weight, weight_limit}
-use Rattle.t1_font.specs.Cut.{stub}
-use Rattle.t1_font.specs.Maps.{merged}
-use Rattle.t1_font.specs.Evening.{filled_all}
+use Rattle.std.specs.{Prelude.{◌≡◌, ◌⊎◌, ◌≤◌, ◌<◌, ℕ, nat_lt, Bool, true, false, List, [], ◌∷◌, Some}, List.{AllByRecursion, list_all}, FinMap.{get, contains_key, entries, retain_keys}}
+use Rattle.t1_font.specs.{declared.parts.PartsFault.{PartsFault}, declared.parts.PartsFault.TheVariants.{Limit, Memory}, FontValue.{FontValue, Numbered, declared_count, weight, weight_limit}}
+use Rattle.t1_font.specs.{Cut.{stub}, Maps.{merged}, Evening.{filled_all}}
 
 -- each of these fonts is within the weight limit
 abbrev pub AreLight : List FontValue → Type 0

@@ -1,15 +1,11 @@
 -- One FontBBox for a list of fonts (Adobe Type 1 Font Format 1.1, chapter 2): the least box that holds the box of each. Programs that convert one font
 -- write another box into each subset of it.
-use Rattle.std.specs.Prelude.{ℕ, ◌&&◌, ◌||◌, nat_le, Bool, false, List, [], ◌∷◌, ◌++◌, map, filter, codes, Option, Some, None, is_some, if◌then◌else◌}
-use Rattle.std.specs.List.{list_any, list_all}
-use Rattle.std.specs.Option.{option_map, option_and_then}
-use Rattle.std.specs.Str.{bytes_eq}
+use Rattle.std.specs.{Prelude.{ℕ, ◌&&◌, ◌||◌, nat_le, Bool, false, List, [], ◌∷◌, ◌++◌, map, filter, codes, Option, Some, None, is_some, if◌then◌else◌}, List.{list_any, list_all}}
+use Rattle.std.specs.{Option.{option_map, option_and_then}, Str.{bytes_eq}}
 use Rattle.std.proofs.Common.{refl}
 use Rattle.t1_grammar.specs.Grammar.{Grammar, pure, ◌>>=◌, ◌>>◌, that, before, count, fixed, first, Begins}
 use Rattle.t1_bytes.specs.White.{is_white, white, gap}
-use Rattle.t1_font.specs.Rewriting.{parted}
-use Rattle.t1_font.specs.Numbers.{number, is_zero, least_first, greatest_first, soonest}
-use Rattle.t1_font.specs.FontValue.{FontValue, Shell, weight, weight_limit}
+use Rattle.t1_font.specs.{Rewriting.{parted}, Numbers.{number, is_zero, least_first, greatest_first, soonest}, FontValue.{FontValue, Shell, weight, weight_limit}}
 use Rattle.t1_font.specs.EvenTexts.{same_both, both_fit, even_clear}
 
 -- ---- boxes

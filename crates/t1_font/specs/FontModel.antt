@@ -1,18 +1,12 @@
 -- What the parts of a font in memory stand for, and what its readers answer.
-use Rattle.std.specs.Prelude.{◌≡◌, ℕ, ◌<◌, nat_lt, Bool, true, false, ◌⊎◌, min, List, [], Option, Some, None, IsSome, if◌then◌else◌}
-use Rattle.std.proofs.Common.{inl, inr, refl}
-use Rattle.std.proofs.lemmas.Bool.{ltb-true}
-use Rattle.std.specs.Coded.{Coded, code_by, coded×, coded⊎, coded_ℕ, coded_option}
-use Rattle.std.specs.FinMap.{get}
-use Rattle.std.specs.Option.{option_map}
-use Rattle.t1_font.specs.declared.shell.KeptSubrs.{KeptSubrs}
-use Rattle.t1_font.specs.declared.shell.Shell.TheInside as shells
-use Rattle.t1_font.specs.declared.font.LentEncoding.{LentEncoding}
-use Rattle.t1_font.specs.declared.font.LentEncoding.TheVariants as lent
-use Rattle.t1_font.specs.declared.font.Part.{Part}
+use Rattle.std.specs.{Prelude.{◌≡◌, ℕ, ◌<◌, nat_lt, Bool, true, false, ◌⊎◌, min, List, [], Option, Some, None, IsSome, if◌then◌else◌}, Coded.{Coded, code_by, coded×, coded⊎, coded_ℕ, coded_option}}
+use Rattle.std.specs.{FinMap.{get}, Option.{option_map}}
+use Rattle.std.proofs.{Common.{inl, inr, refl}, lemmas.Bool.{ltb-true}}
+use Rattle.t1_font.specs.{declared.shell.KeptSubrs.{KeptSubrs}, declared.font.LentEncoding.{LentEncoding}, declared.font.Part.{Part}}
 use Rattle.t1_font.specs.declared.font.Part.TheVariants.{Head, ClearTail, Private, Middle, Tail, SubrsRd, SubrsPut, SubrsDef, GlyphsRd, GlyphsDef}
-use Rattle.t1_font.specs.FontValue.{FontValue, Shell, SubrsShell, Encoding, Word, Codes, Numbered, Named, declared_count}
-use Rattle.t1_font.specs.Codes.{bytes_code, numbered_code, named_code}
+use Rattle.t1_font.specs.{FontValue.{FontValue, Shell, SubrsShell, Encoding, Word, Codes, Numbered, Named, declared_count}, Codes.{bytes_code, numbered_code, named_code}}
+use Rattle.t1_font.specs.declared.shell.Shell.TheInside as shells
+use Rattle.t1_font.specs.declared.font.LentEncoding.TheVariants as lent
 
 -- ---- views
 

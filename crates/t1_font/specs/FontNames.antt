@@ -1,14 +1,8 @@
 -- Fonts under another name: what stands behind the first `/FontName`, white space and a slash of the head (Adobe Type 1 Font Format 1.1, chapter 2). It is
 -- the key by which a document finds the font.
-use Rattle.std.specs.Prelude.{ℕ, ◌-◌, ◌&&◌, nat_le, Bool, List, ◌++◌, length, take, map, Option, Some, None, if◌then◌else◌}
-use Rattle.std.specs.Option.{option_map}
+use Rattle.std.specs.{Prelude.{ℕ, ◌-◌, ◌&&◌, nat_le, Bool, List, ◌++◌, length, take, map, Option, Some, None, if◌then◌else◌}, Option.{option_map}}
 use Rattle.t1_grammar.specs.Grammar.{first}
-use Rattle.t1_font.specs.Words.{is_regular}
-use Rattle.t1_font.specs.Rewriting.{parted}
-use Rattle.t1_font.specs.Tags.{name_marker}
-use Rattle.t1_font.specs.FontValue.{FontValue, Shell, weight, weight_limit}
-use Rattle.t1_font.specs.EvenTexts.{both_fit}
-use Rattle.t1_font.specs.FontBoxes.{with_texts}
+use Rattle.t1_font.specs.{Words.{is_regular}, Rewriting.{parted}, Tags.{name_marker}, FontValue.{FontValue, Shell, weight, weight_limit}, EvenTexts.{both_fit}, FontBoxes.{with_texts}}
 use Rattle.t1_font.specs.Evening.{evened_shells}
 
 -- the bytes of a text before its name, and those behind the name

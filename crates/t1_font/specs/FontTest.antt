@@ -1,17 +1,9 @@
 -- Heads without the test whether their font was loaded before, which asks PostScript's FontDirectory for it.
-use Rattle.std.specs.Prelude.{◌≡◌, ℕ, ◌≤◌, ◌&&◌, ◌||◌, not, Bool, List, [], ◌∷◌, ◌++◌, length, drop, codes, Option, Some, None, is_some, if◌then◌else◌}
-use Rattle.std.specs.Str.{bytes_eq}
-use Rattle.std.proofs.Common.{refl}
-use Rattle.t1_grammar.specs.Grammar.{Grammar, pure, ◌>>=◌, ◌>>◌, that, before, count, fixed, first, Begins}
-use Rattle.t1_grammar.specs.Places.{occurs}
-use Rattle.t1_bytes.specs.White.{white}
-use Rattle.t1_bytes.specs.FlatText.{starts_segment}
-use Rattle.t1_bytes.specs.Eexec.{eexec_marker}
-use Rattle.t1_font.specs.declared.dialect.Spacing.TheVariants.{White}
-use Rattle.t1_font.specs.Words.{regular_comes, keyword, decimal, next_name}
-use Rattle.t1_font.specs.Markers.{break_comes, encoding_marker}
-use Rattle.t1_font.specs.FontValue.{FontValue, Shell, weight}
-use Rattle.t1_font.specs.IsFont.{IsFont}
+use Rattle.std.{specs.{Prelude.{◌≡◌, ℕ, ◌≤◌, ◌&&◌, ◌||◌, not, Bool, List, [], ◌∷◌, ◌++◌, length, drop, codes, Option, Some, None, is_some, if◌then◌else◌}, Str.{bytes_eq}}, proofs.Common.{refl}}
+use Rattle.t1_grammar.specs.{Grammar.{Grammar, pure, ◌>>=◌, ◌>>◌, that, before, count, fixed, first, Begins}, Places.{occurs}}
+use Rattle.t1_bytes.specs.{White.{white}, FlatText.{starts_segment}, Eexec.{eexec_marker}}
+use Rattle.t1_font.specs.{declared.dialect.Spacing.TheVariants.{White}, Words.{regular_comes, keyword, decimal, next_name}, Markers.{break_comes, encoding_marker}}
+use Rattle.t1_font.specs.{FontValue.{FontValue, Shell, weight}, IsFont.{IsFont}}
 
 -- ---- tokens
 

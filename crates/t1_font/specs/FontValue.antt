@@ -1,8 +1,5 @@
 -- The value of a font, its weight and its limits.
-use Rattle.std.specs.Prelude.{ℕ, ◌+◌, ◌≤◌, max, List, [], ◌∷◌, length, codes, map, Option, Some, None}
-use Rattle.std.specs.declared.cmp.Ordering.{Ordering}
-use Rattle.std.specs.Ordering.{nat_cmp}
-use Rattle.std.specs.Cmp.Lexicographic.{slice_cmp}
+use Rattle.std.specs.{Prelude.{ℕ, ◌+◌, ◌≤◌, max, List, [], ◌∷◌, length, codes, map, Option, Some, None}, declared.cmp.Ordering.{Ordering}, Ordering.{nat_cmp}, Cmp.Lexicographic.{slice_cmp}}
 use Rattle.std.specs.FinMap.{FinMap, entries, len}
 
 -- names are in the order of their bytes

@@ -1,18 +1,10 @@
 -- What is gathered of a font while it is read.
-use Rattle.std.specs.Prelude.{◌≡◌, ℕ, zero, suc, ◌≤◌, List, [], ◌∷◌, length, filter, map, drop, unwrap_or}
-use Rattle.std.specs.Borrow.{Bor}
-use Rattle.std.specs.Coded.{Coded, code_by, coded×}
-use Rattle.std.specs.FinMap.{from_sorted, entries, get, insert}
+use Rattle.std.specs.{Prelude.{◌≡◌, ℕ, zero, suc, ◌≤◌, List, [], ◌∷◌, length, filter, map, drop, unwrap_or}, Borrow.{Bor}, Coded.{Coded, code_by, coded×}, FinMap.{from_sorted, entries, get, insert}}
 use Rattle.std.proofs.Common.{refl}
 use Rattle.t1_bytes.specs.Limits.{file_limit}
 use Rattle.t1_join.specs.Entries.{entries_by}
-use Rattle.t1_font.specs.declared.gathered.Gathered.TheInside.{Inside}
-use Rattle.t1_font.specs.declared.ranges.Range.{Range}
-use Rattle.t1_font.specs.FontValue.{Numbered, Named, notdef}
-use Rattle.t1_font.specs.Encoding.{CodeEntry, Put, Copy}
-use Rattle.t1_font.specs.Entries.{has_name, map_of}
-use Rattle.t1_font.specs.Codes.{bytes_code, numbered_code, named_code}
-use Rattle.t1_font.specs.Ranges.{bytes_at, AllInside, NamesInside, named_at}
+use Rattle.t1_font.specs.{declared.gathered.Gathered.TheInside.{Inside}, declared.ranges.Range.{Range}, FontValue.{Numbered, Named, notdef}, Encoding.{CodeEntry, Put, Copy}}
+use Rattle.t1_font.specs.{Entries.{has_name, map_of}, Codes.{bytes_code, numbered_code, named_code}, Ranges.{bytes_at, AllInside, NamesInside, named_at}}
 
 -- what is left of the private text; the last name of each code, `.notdef` among them, and the last plain charstring of
 -- each Subr and of each glyph

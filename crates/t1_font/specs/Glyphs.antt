@@ -2,9 +2,7 @@
 use Rattle.std.specs.Prelude.{ℕ, List, codes}
 use Rattle.t1_grammar.specs.Grammar.{Grammar, ◌>>◌}
 use Rattle.t1_bytes.specs.White.{white}
-use Rattle.t1_font.specs.declared.dialect.Spacing.TheVariants.{White}
-use Rattle.t1_font.specs.Words.{keyword, next_name}
-use Rattle.t1_font.specs.Entry.{Entry, entry}
+use Rattle.t1_font.specs.{declared.dialect.Spacing.TheVariants.{White}, Words.{keyword, next_name}, Entry.{Entry, entry}}
 
 -- a glyph by its name
 abbrev pub Glyph : Type 0

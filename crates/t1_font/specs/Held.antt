@@ -1,16 +1,8 @@
 -- What code holds of a table that it has read so far.
-use Rattle.std.specs.Prelude.{◌≡◌, ℕ, ◌≤◌, Bool, List, [], ◌∷◌, Option, Some, None, Result, Ok, Err}
-use Rattle.std.specs.List.{list_any}
-use Rattle.std.specs.Str.{bytes_eq}
+use Rattle.std.specs.{Prelude.{◌≡◌, ℕ, ◌≤◌, Bool, List, [], ◌∷◌, Option, Some, None, Result, Ok, Err}, List.{list_any}, Str.{bytes_eq}}
 use Rattle.t1_grammar.specs.Tables.{Table}
-use Rattle.t1_font.specs.declared.fault.TableError.{TableError}
-use Rattle.t1_font.specs.FontValue.{Numbered, Named, notdef, count_limit}
-use Rattle.t1_font.specs.Entries.{map_of}
-use Rattle.t1_font.specs.Entry.{Entry, plain_entries}
-use Rattle.t1_font.specs.Subrs.{Subr}
-use Rattle.t1_font.specs.Glyphs.{Glyph}
-use Rattle.t1_font.specs.declared.dialect.Spacing.{Spacing}
-use Rattle.t1_font.specs.Faults.{TableFails}
+use Rattle.t1_font.specs.{declared.fault.TableError.{TableError}, FontValue.{Numbered, Named, notdef, count_limit}, Entries.{map_of}, Entry.{Entry, plain_entries}, Subrs.{Subr}, Glyphs.{Glyph}}
+use Rattle.t1_font.specs.{declared.dialect.Spacing.{Spacing}, Faults.{TableFails}}
 
 -- the words of the first entry, where there is one
 abbrev pub first_words : {K : Type 0} → List (Entry K) → Option (List ℕ × List ℕ)

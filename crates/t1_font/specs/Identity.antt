@@ -1,11 +1,8 @@
 -- Lines that number a font: UniqueID and XUID (Adobe Type 1 Font Format 1.1, chapters 2 and 5; PostScript Language Reference, 5.6).
 -- A printer may keep what it drew of a font under its number, so a font that cuts of another come to has no number.
-use Rattle.std.specs.Prelude.{ℕ, ◌==◌, ◌||◌, not, Bool, List, [], ◌∷◌, ◌++◌, codes, Option, Some, None, is_some}
-use Rattle.std.specs.Option.{option_and_then}
-use Rattle.std.proofs.Common.{ap}
+use Rattle.std.{specs.{Prelude.{ℕ, ◌==◌, ◌||◌, not, Bool, List, [], ◌∷◌, ◌++◌, codes, Option, Some, None, is_some}, Option.{option_and_then}}, proofs.Common.{ap}}
 use Rattle.t1_grammar.specs.Grammar.{Grammar, pure, ◌>>◌, before, fixed, run, either, may_be, Begins}
-use Rattle.t1_font.specs.Words.{is_digit, keyword, decimal}
-use Rattle.t1_font.specs.Rewriting.{Piece, parted, rewritten}
+use Rattle.t1_font.specs.{Words.{is_digit, keyword, decimal}, Rewriting.{Piece, parted, rewritten}}
 
 -- a blank, or none
 unfoldable pub one_blank : Grammar (List ℕ)

@@ -1,16 +1,9 @@
 -- What makes a value a font: its canonical file is read as itself. A cut of a font and a join of two keep it.
-use Rattle.std.specs.Prelude.{◌≡◌, ℕ, ◌+◌, ◌≤◌, ◌<◌, Bool, true, false, List, [], ◌∷◌, ◌++◌, length, Option, Some, None, Ok}
-use Rattle.std.specs.List.{AllByRecursion}
-use Rattle.std.specs.Option.{option_map}
-use Rattle.std.specs.Str.{bytes_eq}
+use Rattle.std.specs.{Prelude.{◌≡◌, ℕ, ◌+◌, ◌≤◌, ◌<◌, Bool, true, false, List, [], ◌∷◌, ◌++◌, length, Option, Some, None, Ok}, List.{AllByRecursion}, Option.{option_map}, Str.{bytes_eq}}
 use Rattle.std.specs.FinMap.{get, contains_key, len, entries}
-use Rattle.t1_bytes.specs.Laws.{AreBytes}
+use Rattle.t1_bytes.specs.{Laws.{AreBytes}, Eexec.{eexec_marker}}
 use Rattle.t1_grammar.specs.Grammar.{Grammar, first, NoneIn, Stops, Lacks}
-use Rattle.t1_bytes.specs.Eexec.{eexec_marker}
-use Rattle.t1_font.specs.Words.{word_limit, name_limit, is_regular, phrase_of, passes}
-use Rattle.t1_font.specs.Entry.{charstring_limit}
-use Rattle.t1_font.specs.Markers.{encoding_marker, subrs_marker, chars_marker, closefile}
-use Rattle.t1_font.specs.Pieces.{iv_of}
+use Rattle.t1_font.specs.{Words.{word_limit, name_limit, is_regular, phrase_of, passes}, Entry.{charstring_limit}, Markers.{encoding_marker, subrs_marker, chars_marker, closefile}, Pieces.{iv_of}}
 use Rattle.t1_font.specs.FontValue.{FontValue, Shell, SubrsShell, Encoding, Word, Codes, Numbered, Named, notdef, count_limit, weight_limit, weight}
 
 -- ---- words

@@ -1,22 +1,12 @@
 -- The laws of reading, each the contract of a function in `laws`.
-use Rattle.std.specs.Prelude.{◌≡◌, ◌↔◌, ℕ, Bool, List, Ok, Err}
-use Rattle.std.specs.Ordering.{nat_cmp}
-use Rattle.std.specs.FinMap as maps
+use Rattle.std.specs.{Prelude.{◌≡◌, ◌↔◌, ℕ, Bool, List, Ok, Err}, Ordering.{nat_cmp}}
 use Rattle.t1_grammar.specs.Grammar.{IsExact, first}
-use Rattle.t1_font.specs.declared.fault.ReadFault.{ReadFault}
-use Rattle.t1_font.specs.FontValue.{FontValue, name_cmp}
-use Rattle.t1_font.specs.Entries.{map_of, names_of, last_value, unless_notdef}
-use Rattle.t1_font.specs.ReadFont.{read_font, read_font_widely}
-use Rattle.t1_font.specs.Spelling.{Spells, SpellsWidely}
-use Rattle.t1_font.specs.Reasons.{Reason, WideReason}
-use Rattle.t1_font.specs.declared.dialect.Spacing.{Spacing}
-use Rattle.t1_font.specs.declared.dialect.Dialect.{Dialect}
-use Rattle.t1_font.specs.Words.{one_white, word, keyword, decimal, name, phrase_of, next_name}
-use Rattle.t1_font.specs.Markers.{encoding_marker, subrs_marker, chars_marker, len_iv_marker, len_iv, closefile}
+use Rattle.t1_font.specs.{declared.fault.ReadFault.{ReadFault}, FontValue.{FontValue, name_cmp}, Entries.{map_of, names_of, last_value, unless_notdef}, ReadFont.{read_font, read_font_widely}}
+use Rattle.t1_font.specs.{Spelling.{Spells, SpellsWidely}, Reasons.{Reason, WideReason}, declared.dialect.Spacing.{Spacing}, declared.dialect.Dialect.{Dialect}}
+use Rattle.t1_font.specs.{Words.{one_white, word, keyword, decimal, name, phrase_of, next_name}, Markers.{encoding_marker, subrs_marker, chars_marker, len_iv_marker, len_iv, closefile}}
 use Rattle.t1_font.specs.Encoding.{encoding_word, encoding_table, encoding_loop, encoding_start, octal, code, put_entry, one_copy, range_copy, code_entry, encoding_end, array_start, array_end}
-use Rattle.t1_font.specs.Glyphs.{glyph, glyphs_end}
-use Rattle.t1_font.specs.Entry.{length_from, body}
-use Rattle.t1_font.specs.Subrs.{subr_key, subr, subrs_end}
+use Rattle.t1_font.specs.{Glyphs.{glyph, glyphs_end}, Entry.{length_from, body}, Subrs.{subr_key, subr, subrs_end}}
+use Rattle.std.specs.FinMap as maps
 
 -- what is read of each part of the grammar is what is spelled, and the other way round
 pub record ReadsAsSpelled : Type 0 where

@@ -1,16 +1,8 @@
 -- What borrowed entries stand for.
-use Rattle.std.specs.Prelude.{◌≡◌, ℕ, List, map, unwrap_or}
-use Rattle.std.specs.Borrow.{Bor}
-use Rattle.std.specs.FinMap.{get, entries, from_entries}
-use Rattle.std.specs.List.{AllByRecursion}
-use Rattle.t1_font.specs.declared.lent.NumberedForm.{NumberedForm}
+use Rattle.std.specs.{Prelude.{◌≡◌, ℕ, List, map, unwrap_or}, Borrow.{Bor}, FinMap.{get, entries, from_entries}, List.{AllByRecursion}}
+use Rattle.t1_font.specs.{declared.lent.NumberedForm.{NumberedForm}, declared.lent.Glyph.{Glyph}, declared.lent.NamedForm.{NamedForm}, Cut.{stub}, FontValue.{Numbered, Named}, Ranges.{named_at}}
 use Rattle.t1_font.specs.declared.lent.NumberedForm.TheVariants as numbers
-use Rattle.t1_font.specs.declared.lent.Glyph.{Glyph}
-use Rattle.t1_font.specs.declared.lent.NamedForm.{NamedForm}
 use Rattle.t1_font.specs.declared.lent.NamedForm.TheVariants as names
-use Rattle.t1_font.specs.Cut.{stub}
-use Rattle.t1_font.specs.FontValue.{Numbered, Named}
-use Rattle.t1_font.specs.Ranges.{named_at}
 
 -- an entry by number
 abbrev pub lent_number : ℕ × Bor (List ℕ) → ℕ × List ℕ

@@ -1,7 +1,5 @@
 -- Finite maps made of others.
-use Rattle.std.specs.Prelude.{List, [], ◌∷◌, ◌++◌, map, Option, Some, None}
-use Rattle.std.specs.declared.cmp.Ordering.{Ordering}
-use Rattle.std.specs.FinMap.{FinMap, entries, insert, from_sorted, from_entries}
+use Rattle.std.specs.{Prelude.{List, [], ◌∷◌, ◌++◌, map, Option, Some, None}, declared.cmp.Ordering.{Ordering}, FinMap.{FinMap, entries, insert, from_sorted, from_entries}}
 
 -- the same keys, with f of each key and its value
 abbrev pub map_values : {K X Y : Type 0} {R : K → K → Ordering} → (K → X → Y) → FinMap R X → FinMap R Y

@@ -1,7 +1,5 @@
 -- The markers of font text: where its parts begin, and where a font's own text ends.
-use Rattle.std.specs.Prelude.{ℕ, not, nat_le, Bool, false, List, [], ◌∷◌, codes}
-use Rattle.std.specs.Option.{option_and_then}
-use Rattle.std.proofs.Common.{ap}
+use Rattle.std.{specs.{Prelude.{ℕ, not, nat_le, Bool, false, List, [], ◌∷◌, codes}, Option.{option_and_then}}, proofs.Common.{ap}}
 use Rattle.t1_grammar.specs.Grammar.{Grammar, pure, ◌>>=◌, ◌>>◌, that, before, fixed, Begins}
 use Rattle.t1_bytes.specs.White.{is_white, white, gap}
 use Rattle.t1_font.specs.Words.{is_regular, keyword, decimal}

@@ -1,13 +1,9 @@
 -- Decimal numbers of font text, whole or with a point (PostScript Language Reference, 3.2.2), and the order of their values. An exponent or another
 -- base makes no decimal number.
-use Rattle.std.specs.Prelude.{ℕ, ◌-◌, ◌==◌, ◌&&◌, ◌||◌, not, nat_le, Bool, true, false, List, [], ◌∷◌, length, take, drop, if◌then◌else◌}
-use Rattle.std.specs.declared.cmp.Ordering.{Ordering}
-use Rattle.std.specs.Ordering.{nat_cmp, is_gt, on, then_cmp, flip_args}
-use Rattle.std.specs.Cmp.Lexicographic.{slice_cmp}
-use Rattle.std.specs.List.{fold, list_any, list_all, suffix_len}
+use Rattle.std.specs.{Prelude.{ℕ, ◌-◌, ◌==◌, ◌&&◌, ◌||◌, not, nat_le, Bool, true, false, List, [], ◌∷◌, length, take, drop, if◌then◌else◌}, declared.cmp.Ordering.{Ordering}}
+use Rattle.std.specs.{Ordering.{nat_cmp, is_gt, on, then_cmp, flip_args}, Cmp.Lexicographic.{slice_cmp}, List.{fold, list_any, list_all, suffix_len}}
 use Rattle.t1_grammar.specs.Grammar.{Grammar, that, run}
-use Rattle.t1_font.specs.Words.{is_regular, is_digit}
-use Rattle.t1_font.specs.Rewriting.{parted}
+use Rattle.t1_font.specs.{Words.{is_regular, is_digit}, Rewriting.{parted}}
 
 -- ---- spellings
 

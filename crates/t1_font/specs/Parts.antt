@@ -1,7 +1,6 @@
 -- Fonts with the shell of another.
 use Rattle.std.specs.Prelude.{◌≡◌}
-use Rattle.t1_font.specs.FontValue.{FontValue}
-use Rattle.t1_font.specs.Encodings.{SameKind}
+use Rattle.t1_font.specs.{FontValue.{FontValue}, Encodings.{SameKind}}
 
 -- f has the shell of whole, and its kind of Encoding
 pub record HasShellOf (f whole : FontValue) : Type 0 where

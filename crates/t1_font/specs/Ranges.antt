@@ -1,9 +1,6 @@
 -- Byte strings that stand in a buffer.
-use Rattle.std.specs.Prelude.{ℕ, ◌+◌, ◌-◌, ◌≤◌, max, List, slice_range}
-use Rattle.std.specs.List.{All}
-use Rattle.std.specs.declared.cmp.Ordering.{Ordering}
-use Rattle.t1_font.specs.declared.ranges.Range.{Range}
-use Rattle.t1_font.specs.FontValue.{name_cmp}
+use Rattle.std.specs.{Prelude.{ℕ, ◌+◌, ◌-◌, ◌≤◌, max, List, slice_range}, List.{All}, declared.cmp.Ordering.{Ordering}}
+use Rattle.t1_font.specs.{declared.ranges.Range.{Range}, FontValue.{name_cmp}}
 
 -- the bytes of a range
 abbrev pub bytes_at : List ℕ → Range → List ℕ

@@ -1,22 +1,12 @@
 -- Reading a font file.
-use Rattle.std.specs.Prelude.{ℕ, ◌&&◌, nat_le, Bool, List, [], ◌∷◌, length, Option, Some, None, Result}
-use Rattle.std.specs.List.{list_any}
-use Rattle.std.specs.Str.{bytes_eq}
-use Rattle.std.specs.Ordering.{nat_cmp}
-use Rattle.std.specs.Option.{option_map}
-use Rattle.t1_bytes.specs.FlatText as files
-use Rattle.t1_bytes.specs.Cipher.{private_text}
-use Rattle.t1_font.specs.declared.fault.ReadFault.{ReadFault}
-use Rattle.t1_font.specs.declared.fault.ReadFault.TheVariants.{TooLong, BadSegment, NoNotdef, Limit}
+use Rattle.std.specs.{Prelude.{ℕ, ◌&&◌, nat_le, Bool, List, [], ◌∷◌, length, Option, Some, None, Result}, List.{list_any}, Str.{bytes_eq}, Ordering.{nat_cmp}, Option.{option_map}}
+use Rattle.t1_bytes.specs.{Cipher.{private_text}, Limits.{file_limit}}
+use Rattle.t1_font.specs.{declared.fault.ReadFault.{ReadFault}, declared.fault.ReadFault.TheVariants.{TooLong, BadSegment, NoNotdef, Limit}}
 use Rattle.t1_font.specs.FontValue.{SubrsShell, Shell, Encoding, Word, Codes, FontValue, name_cmp, notdef, count_limit, weight_limit, weight_of, declared_count}
-use Rattle.t1_bytes.specs.Limits.{file_limit}
-use Rattle.t1_font.specs.Entries.{last_entries, map_of, names_of}
-use Rattle.t1_font.specs.declared.dialect.Dialect.{Dialect}
-use Rattle.t1_font.specs.Dialect.{strict, wide}
-use Rattle.t1_font.specs.Entry.{plain_entries}
-use Rattle.t1_font.specs.Subrs.{Subr}
+use Rattle.t1_font.specs.{Entries.{last_entries, map_of, names_of}, declared.dialect.Dialect.{Dialect}, Dialect.{strict, wide}, Entry.{plain_entries}, Subrs.{Subr}}
 use Rattle.t1_font.specs.Pieces.{FlatPieces, EncodingText, OneWord, Puts, ClearPieces, SubrsPieces, PrivatePieces, flat_pieces, clear_pieces, private_pieces}
 use Rattle.t1_font.specs.Reading.{Reading, give, ◌>>=◌, ◌>>◌, faulted, must}
+use Rattle.t1_bytes.specs.FlatText as files
 
 -- ---- the value of the pieces
 

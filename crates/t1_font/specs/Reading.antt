@@ -1,13 +1,10 @@
 -- What a font's texts spell, and the first fault of a text that spells nothing. The order of the lines of a reading is the order of
 -- the faults.
 use Rattle.std.specs.Prelude.{ℕ, ◌-◌, List}
-use Rattle.t1_grammar.specs.Grammar.{Grammar}
-use Rattle.t1_grammar.specs.TableLaws.{Eats, Apart}
+use Rattle.t1_grammar.specs.{Grammar.{Grammar}, TableLaws.{Eats, Apart}}
+use Rattle.t1_font.specs.{declared.fault.ReadFault.{ReadFault}, declared.dialect.Spacing.{Spacing}, Faults.{left_after_white}}
 use Rattle.t1_grammar.specs.Formats as formats
 pub use Rattle.t1_grammar.specs.Formats.{Format, give, ◌>>=◌, ◌>>◌, faulted, must, wanted, sought, if_sought, lacking}
-use Rattle.t1_font.specs.declared.fault.ReadFault.{ReadFault}
-use Rattle.t1_font.specs.declared.dialect.Spacing.{Spacing}
-use Rattle.t1_font.specs.Faults.{left_after_white}
 
 -- a value, or the first fault
 abbrev pub Reading : Type 0 → Type 1

@@ -1,10 +1,6 @@
 -- Why a file spells no font: the first line of its reading that fails, behind lines that are spelled.
 use Rattle.std.specs.Prelude.{List, ℕ}
-use Rattle.t1_font.specs.declared.dialect.Dialect.{Dialect}
-use Rattle.t1_font.specs.Dialect.{strict, wide}
-use Rattle.t1_font.specs.declared.fault.ReadFault.{ReadFault}
-use Rattle.t1_font.specs.declared.fault.ReadFault.TheVariants.{Memory}
-use Rattle.t1_font.specs.ReadFont.{font_file}
+use Rattle.t1_font.specs.{declared.dialect.Dialect.{Dialect}, Dialect.{strict, wide}, declared.fault.ReadFault.{ReadFault}, declared.fault.ReadFault.TheVariants.{Memory}, ReadFont.{font_file}}
 
 -- the reason for a fault of reading; want of memory is no reason
 abbrev pub Reason : List ℕ → ReadFault → Type 0

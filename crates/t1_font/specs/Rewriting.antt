@@ -1,6 +1,5 @@
 -- Texts that are rewritten from left to right, one piece after another.
-use Rattle.std.specs.Prelude.{◌≡◌, ℕ, zero, suc, ◌≤◌, Bool, List, [], ◌∷◌, ◌++◌, length, take, drop}
-use Rattle.std.specs.List.{prefix_len}
+use Rattle.std.specs.{Prelude.{◌≡◌, ℕ, zero, suc, ◌≤◌, Bool, List, [], ◌∷◌, ◌++◌, length, take, drop}, List.{prefix_len}}
 use Rattle.t1_bytes.specs.Laws.{AreBytes}
 
 -- what is put in place of the first piece of a text, and the text behind that piece

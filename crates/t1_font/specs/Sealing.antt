@@ -1,7 +1,6 @@
 -- A private text while it is written: its first bytes are encrypted already.
 use Rattle.std.specs.Prelude.{◌≡◌, ◌≤◌, ℕ, List, ◌++◌, length, take, drop}
-use Rattle.t1_bytes.specs.Cipher.{decrypted}
-use Rattle.t1_bytes.specs.Keys.{key_behind}
+use Rattle.t1_bytes.specs.{Cipher.{decrypted}, Keys.{key_behind}}
 use Rattle.t1_font.specs.declared.sealing.Sealing.TheInside.{Inside}
 
 -- the text: what the encrypted bytes decrypt to, and the other bytes

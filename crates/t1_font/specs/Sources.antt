@@ -1,14 +1,9 @@
 -- What a source stands for, and what holds of each.
-use Rattle.std.specs.Prelude.{ℕ, List, [], map, length}
-use Rattle.std.specs.Ordering.{nat_cmp}
-use Rattle.std.specs.FinMap.{from_sorted}
-use Rattle.std.specs.Global.{Vec}
+use Rattle.std.specs.{Prelude.{ℕ, List, [], map, length}, Ordering.{nat_cmp}, FinMap.{from_sorted}, Global.{Vec}}
 use Rattle.t1_join.specs.TableMeaning.{Rises}
-use Rattle.t1_font.specs.declared.source.KeptEncoding.{KeptEncoding}
-use Rattle.t1_font.specs.declared.source.KeptEncoding.TheVariants as kept
-use Rattle.t1_font.specs.declared.source.SourceParts.TheInside.{Inside}
-use Rattle.t1_font.specs.FontValue.{FontValue, Encoding, Word, Codes, name_cmp}
+use Rattle.t1_font.specs.{declared.source.KeptEncoding.{KeptEncoding}, declared.source.SourceParts.TheInside.{Inside}, FontValue.{FontValue, Encoding, Word, Codes, name_cmp}}
 use Rattle.t1_font.specs.Ranges.{AllInside, NamesInside, numbered_at, named_at}
+use Rattle.t1_font.specs.declared.source.KeptEncoding.TheVariants as kept
 
 -- a code and its name, which is owned
 abbrev pub kept_name : ℕ × Vec ℕ → ℕ × List ℕ

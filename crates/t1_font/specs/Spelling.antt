@@ -1,23 +1,12 @@
 -- Which font a file spells: each piece is a text of its grammar, and each marker is the first of its kind.
 use Rattle.std.specs.Prelude.{◌≡◌, ◌⊎◌, ℕ, ◌≤◌, ◌<◌, true, List, [], ◌++◌, length, take, Option, Some, None}
+use Rattle.t1_bytes.specs.{Cipher.{Enciphers}, FlatText.{IsFlat}, Split.{IsSplit}, Limits.{file_limit}}
+use Rattle.t1_grammar.specs.{Grammar.{first, AtFront, Lacks}, Tables.{TableAt, CountedAt}}
+use Rattle.t1_font.specs.{declared.dialect.Spacing.{Spacing}, declared.dialect.Dialect.{Dialect}, Dialect.{strict, wide}, Subrs.{subr, subrs_end}}
+use Rattle.t1_font.specs.{Markers.{encoding_marker, subrs_marker, chars_marker, len_iv_marker, len_iv, closefile}, Words.{next_name}}
+use Rattle.t1_font.specs.{Encoding.{Whole, OpensPuts, OpensNames, encoding_start, CodeEntry, code_entry, encoding_end, puts_of, code_count, array_end, from_code}, Glyphs.{glyph, glyphs_end}}
+use Rattle.t1_font.specs.{Pieces.{EncodingText, OneWord, Puts, ClearPieces, SubrsPieces, PrivatePieces}, FontValue.{FontValue, notdef, IsWithin}, ReadFont.{font_of}}
 use Rattle.std.specs.FinMap as maps
-use Rattle.t1_bytes.specs.Cipher.{Enciphers}
-use Rattle.t1_grammar.specs.Grammar.{first, AtFront, Lacks}
-use Rattle.t1_grammar.specs.Tables.{TableAt, CountedAt}
-use Rattle.t1_bytes.specs.FlatText.{IsFlat}
-use Rattle.t1_bytes.specs.Split.{IsSplit}
-use Rattle.t1_font.specs.declared.dialect.Spacing.{Spacing}
-use Rattle.t1_font.specs.declared.dialect.Dialect.{Dialect}
-use Rattle.t1_font.specs.Dialect.{strict, wide}
-use Rattle.t1_font.specs.Subrs.{subr, subrs_end}
-use Rattle.t1_font.specs.Markers.{encoding_marker, subrs_marker, chars_marker, len_iv_marker, len_iv, closefile}
-use Rattle.t1_font.specs.Words.{next_name}
-use Rattle.t1_font.specs.Encoding.{Whole, OpensPuts, OpensNames, encoding_start, CodeEntry, code_entry, encoding_end, puts_of, code_count, array_end, from_code}
-use Rattle.t1_font.specs.Glyphs.{glyph, glyphs_end}
-use Rattle.t1_font.specs.Pieces.{EncodingText, OneWord, Puts, ClearPieces, SubrsPieces, PrivatePieces}
-use Rattle.t1_font.specs.FontValue.{FontValue, notdef, IsWithin}
-use Rattle.t1_bytes.specs.Limits.{file_limit}
-use Rattle.t1_font.specs.ReadFont.{font_of}
 
 -- a table: the puts are those of its entries
 abbrev pub SpellsPuts : Dialect → List (ℕ × List ℕ) → List ℕ → List ℕ → Type 0

@@ -1,6 +1,5 @@
 -- Texts whose white space is squeezed. NUL and FF, which are white space too, stay as they are.
-use Rattle.std.specs.Prelude.{ℕ, suc, ◌==◌, ◌&&◌, ◌||◌, not, Bool, List, [], ◌∷◌, if◌then◌else◌}
-use Rattle.std.specs.List.{list_any}
+use Rattle.std.specs.{Prelude.{ℕ, suc, ◌==◌, ◌&&◌, ◌||◌, not, Bool, List, [], ◌∷◌, if◌then◌else◌}, List.{list_any}}
 use Rattle.t1_bytes.specs.Eexec.{is_blank, blank_comes}
 use Rattle.t1_font.specs.Rewriting.{Piece, parted, rewritten}
 

@@ -1,9 +1,5 @@
 -- Steps by which kept texts are rewritten piece by piece.
-use Rattle.t1_font.specs.declared.rewriting.Step.{Step}
-use Rattle.t1_font.specs.declared.rewriting.Step.TheVariants.{Unnumbered, Untagged}
-use Rattle.t1_font.specs.Rewriting.{Piece}
-use Rattle.t1_font.specs.Identity.{unnumbered_piece}
-use Rattle.t1_font.specs.Tags.{untagged_piece}
+use Rattle.t1_font.specs.{declared.rewriting.Step.{Step}, declared.rewriting.Step.TheVariants.{Unnumbered, Untagged}, Rewriting.{Piece}, Identity.{unnumbered_piece}, Tags.{untagged_piece}}
 
 -- what a step puts in place of the first piece of a text
 abbrev pub piece_of : Step → Piece

@@ -1,12 +1,8 @@
 -- The table of subroutines.
 use Rattle.std.specs.Prelude.{ℕ, nat_lt, false, List, codes}
-use Rattle.t1_grammar.specs.Grammar.{Grammar, ◌>>◌, that}
-use Rattle.t1_grammar.specs.Tables.{Table, table_at}
+use Rattle.t1_grammar.specs.{Grammar.{Grammar, ◌>>◌, that}, Tables.{Table, table_at}}
 use Rattle.t1_bytes.specs.White.{gap}
-use Rattle.t1_font.specs.declared.dialect.Spacing.{Spacing}
-use Rattle.t1_font.specs.Dialect.{white_in}
-use Rattle.t1_font.specs.Words.{keyword, decimal, phrase_of, passes}
-use Rattle.t1_font.specs.Entry.{Entry, entry}
+use Rattle.t1_font.specs.{declared.dialect.Spacing.{Spacing}, Dialect.{white_in}, Words.{keyword, decimal, phrase_of, passes}, Entry.{Entry, entry}}
 
 -- a subroutine by its index
 abbrev pub Subr : Type 0

@@ -1,12 +1,9 @@
 -- Tags of subsets: six capitals and `+` before the name of a font (ISO 32000-1, 9.6.4), and texts without them.
-use Rattle.std.specs.Prelude.{ℕ, zero, suc, ◌&&◌, not, nat_le, nat_lt, Bool, List, length, codes, Option, Some, None, is_some, if◌then◌else◌}
-use Rattle.std.specs.List.{list_all}
-use Rattle.std.specs.Option.{option_and_then, option_map}
+use Rattle.std.specs.{Prelude.{ℕ, zero, suc, ◌&&◌, not, nat_le, nat_lt, Bool, List, length, codes, Option, Some, None, is_some, if◌then◌else◌}, List.{list_all}, Option.{option_and_then, option_map}}
 use Rattle.std.proofs.Common.{ap}
 use Rattle.t1_grammar.specs.Grammar.{Grammar, ◌>>◌, that, count, fixed, first, choice, Begins}
 use Rattle.t1_bytes.specs.White.{white}
-use Rattle.t1_font.specs.Words.{is_regular, regular_comes}
-use Rattle.t1_font.specs.Rewriting.{Piece, parted, rewritten}
+use Rattle.t1_font.specs.{Words.{is_regular, regular_comes}, Rewriting.{Piece, parted, rewritten}}
 
 -- A to Z
 abbrev pub is_capital : ℕ → Bool

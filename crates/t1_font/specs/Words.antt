@@ -1,10 +1,8 @@
 -- Words of font text: white space, names, decimals and phrases.
-use Rattle.std.specs.Prelude.{ℕ, ◌+◌, ◌-◌, ◌*◌, ◌==◌, ◌&&◌, ◌||◌, not, nat_le, Bool, true, false, List, [], ◌∷◌, ◌++◌, length, codes, Option, Some, None, if◌then◌else◌}
-use Rattle.std.specs.Str.{bytes_eq}
+use Rattle.std.specs.{Prelude.{ℕ, ◌+◌, ◌-◌, ◌*◌, ◌==◌, ◌&&◌, ◌||◌, not, nat_le, Bool, true, false, List, [], ◌∷◌, ◌++◌, length, codes, Option, Some, None, if◌then◌else◌}, Str.{bytes_eq}}
 use Rattle.t1_grammar.specs.Grammar.{Grammar, pure, ◌>>=◌, ◌>>◌, that, run, count, fixed}
 use Rattle.t1_bytes.specs.White.{is_white, gap}
-use Rattle.t1_font.specs.declared.dialect.Spacing.{Spacing}
-use Rattle.t1_font.specs.Dialect.{white_in}
+use Rattle.t1_font.specs.{declared.dialect.Spacing.{Spacing}, Dialect.{white_in}}
 
 -- ( ) < > [ ] { } / %
 abbrev pub is_delimiter : ℕ → Bool

@@ -1,20 +1,8 @@
 -- The laws of fonts and their canonical files, each the contract of a function in `laws`.
-use Rattle.std.specs.Prelude.{◌≡◌, ◌↔◌, ℕ, ◌+◌, ◌*◌, ◌≤◌, Bool, true, List, length, Ok}
-use Rattle.std.specs.FinMap.{get, len}
-use Rattle.t1_bytes.specs.declared.form.Form.{Form}
-use Rattle.t1_bytes.specs.declared.form.Form.TheVariants.{Pfa, Pfb}
-use Rattle.t1_bytes.specs.Laws.{AreBytes}
-use Rattle.t1_bytes.specs.FlatText.{starts_segment, IsFlat}
-use Rattle.t1_font.specs.FontValue.{FontValue, notdef, count_limit, weight_limit, weight}
-use Rattle.t1_bytes.specs.Limits.{file_limit}
-use Rattle.t1_font.specs.FontModel.{subr_at}
-use Rattle.t1_font.specs.ReadFont.{read_font}
-use Rattle.t1_font.specs.Canon.{canon, Fits}
-use Rattle.t1_font.specs.Cut.{restrict}
-use Rattle.t1_font.specs.Joins.{join_parts}
-use Rattle.t1_font.specs.Maps.{merged}
-use Rattle.t1_font.specs.Encodings.{SameKind}
-use Rattle.t1_font.specs.IsFont.{HasBytes, IsFont}
+use Rattle.std.specs.{Prelude.{◌≡◌, ◌↔◌, ℕ, ◌+◌, ◌*◌, ◌≤◌, Bool, true, List, length, Ok}, FinMap.{get, len}}
+use Rattle.t1_bytes.specs.{declared.form.Form.{Form}, declared.form.Form.TheVariants.{Pfa, Pfb}, Laws.{AreBytes}, FlatText.{starts_segment, IsFlat}, Limits.{file_limit}}
+use Rattle.t1_font.specs.{FontValue.{FontValue, notdef, count_limit, weight_limit, weight}, FontModel.{subr_at}, ReadFont.{read_font}, Canon.{canon, Fits}, Cut.{restrict}, Joins.{join_parts}}
+use Rattle.t1_font.specs.{Maps.{merged}, Encodings.{SameKind}, IsFont.{HasBytes, IsFont}}
 
 -- the canonical file of a font is read as the font
 abbrev pub RoundTrip : Type 0

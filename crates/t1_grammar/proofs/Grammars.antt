@@ -1,7 +1,5 @@
 -- What is read, step by step.
-use Rattle.std.proofs.Common.{◌≡◌, ℕ, Bool, true, List, ◌++◌, Option, Some, refl, ap, ◌∙◌}
-use Rattle.std.specs.List.{AllByRecursion}
-use Rattle.std.specs.Option.{option_and_then}
+use Rattle.std.{proofs.Common.{◌≡◌, ℕ, Bool, true, List, ◌++◌, Option, Some, refl, ap, ◌∙◌}, specs.{List.{AllByRecursion}, Option.{option_and_then}}}
 use Rattle.t1_grammar.specs.Grammar.{Grammar, ◌>>=◌, that, Stops, run}
 
 -- a text and then the one that follows it are read as one after the other

@@ -1,9 +1,7 @@
 -- Tables of so many entries: what is read is what the text spells, or the first place where it breaks off.
-use Rattle.std.proofs.Common.{◌≡◌, inl, inr, ℕ, zero, suc, ◌+◌, ◌-◌, List, [], ◌∷◌, ◌++◌, length, Option, Some, None, Ok, Err}
-use Rattle.std.proofs.Common.{refl, sym, ap, subst, ◌∙◌, append_assoc, arith}
+use Rattle.std.proofs.Common.{◌≡◌, inl, inr, ℕ, zero, suc, ◌+◌, ◌-◌, List, [], ◌∷◌, ◌++◌, length, Option, Some, None, Ok, Err, refl, sym, ap, subst, ◌∙◌, append_assoc, arith}
 use Rattle.std.proofs.lemmas.List.{append-nil}
-use Rattle.t1_grammar.specs.Grammar.{Grammar, unspelled, unread}
-use Rattle.t1_grammar.specs.Tables.{Entries, IsCounted, CountedAt, NextIsMissing, CountBreaksOff, Table, with_front, table_step, counted_at}
+use Rattle.t1_grammar.specs.{Grammar.{Grammar, unspelled, unread}, Tables.{Entries, IsCounted, CountedAt, NextIsMissing, CountBreaksOff, Table, with_front, table_step, counted_at}}
 use Rattle.t1_grammar.specs.TableLaws.{table_front, front_nil, with_front-with_front}
 
 -- what is read is so many entries and their close, or it breaks off

@@ -1,12 +1,10 @@
 -- Formats: what a whole text says, or the first reason why it says nothing. A format carries the laws that what is read is what is
 -- spelled, and that the fault is the reason.
-use Rattle.std.proofs.Common.{refl, sym, ap, subst, ◌∙◌, inl, inr}
-use Rattle.std.proofs.lemmas.Bool.{cases_Bool}
+use Rattle.std.proofs.{Common.{refl, sym, ap, subst, ◌∙◌, inl, inr}, lemmas.Bool.{cases_Bool}}
 use Rattle.std.specs.Prelude.{◌≡◌, ◌⊎◌, ℕ, Bool, true, false, List, Option, Some, None, Result, Ok, Err, if◌then◌else◌}
 use Rattle.t1_grammar.specs.Grammar.{Grammar, AtFront, NotAtFront, Has, Lacks, first, first_at, front_again, unspelled, unread}
 use Rattle.t1_grammar.specs.Places.{unread_lacks, lacks_unread, occurs, absent_lacks, lacks_absent, occurs_has, has_occurs}
-use Rattle.t1_grammar.specs.Tables.{Table, TableAt, BreaksOff, CountedAt, CountBreaksOff, table_at, counted_at}
-use Rattle.t1_grammar.specs.TableLaws.{Eats, Apart, Read, table_reads, table_again, break_again}
+use Rattle.t1_grammar.specs.{Tables.{Table, TableAt, BreaksOff, CountedAt, CountBreaksOff, table_at, counted_at}, TableLaws.{Eats, Apart, Read, table_reads, table_again, break_again}}
 use Rattle.t1_grammar.specs.CountedLaws.{CountedRead, counted_reads, counted_again, count_broken}
 
 -- what spells each value, what is the reason for each fault, and what is read: a value, or the first fault

@@ -1,13 +1,10 @@
 -- Grammars of byte texts. A grammar says which texts spell a value and how a value is read from the front of bytes, and carries the
 -- law that the two agree.
 use Rattle.std.proofs.Common.{refl, sym, ap, subst, ◌∙◌, inl, inr, append_assoc, one-add, arith, cond, leb}
-use Rattle.std.specs.Prelude.{◌≡◌, ◌⊎◌, ℕ, suc, nat_le, Bool, true, false, List, [], ◌∷◌, ◌++◌, length, take, drop, Option, Some, None, if◌then◌else◌}
-use Rattle.std.specs.List.{AllByRecursion, prefix_len}
-use Rattle.std.specs.Option.{option_and_then}
-use Rattle.std.specs.Str.{bytes_eq}
-use Rattle.std.proofs.lemmas.List.{take_at, drop_at, take-append-drop, append-nil, length-append, length-take-le}
-use Rattle.std.proofs.lemmas.Option.{cond_some, none-some, option_and_then_some, same_Some}
+use Rattle.std.proofs.{lemmas.List.{take_at, drop_at, take-append-drop, append-nil, length-append, length-take-le}, lemmas.Option.{cond_some, none-some, option_and_then_some, same_Some}}
 use Rattle.std.proofs.lemmas.Bool.{leb-true, le-leb, cases_Bool}
+use Rattle.std.specs.{Prelude.{◌≡◌, ◌⊎◌, ℕ, suc, nat_le, Bool, true, false, List, [], ◌∷◌, ◌++◌, length, take, drop, Option, Some, None, if◌then◌else◌}, List.{AllByRecursion, prefix_len}}
+use Rattle.std.specs.{Option.{option_and_then}, Str.{bytes_eq}}
 
 -- the front of bytes is a text of a value, and what follows it is the rest
 abbrev pub Front : {A : Type 0} → (A → List ℕ → List ℕ → Type 0) → List ℕ → A × List ℕ → Type 0

@@ -1,10 +1,7 @@
 -- The first place where a grammar can be read, from places where it can't.
-use Rattle.std.proofs.Common.{inl, inr, Bool, true, false, true≢false, is_some, sym}
-use Rattle.std.proofs.lemmas.Bool.{cases_Bool}
-use Rattle.std.proofs.Common.{◌≡◌, ℕ, zero, suc, ◌+◌, ◌≤◌, ◌<◌, List, [], ◌∷◌, ◌++◌}
-use Rattle.std.proofs.Common.{length, take, drop, Option, Some, None, refl, ap, ◌∙◌, append_assoc, arith, below_more}
+use Rattle.std.proofs.Common.{inl, inr, Bool, true, false, true≢false, is_some, sym, ◌≡◌, ℕ, zero, suc, ◌+◌, ◌≤◌, ◌<◌, List, [], ◌∷◌, ◌++◌, length, take, drop, Option, Some, None, refl, ap, ◌∙◌}
+use Rattle.std.proofs.{Common.{append_assoc, arith, below_more}, lemmas.Bool.{cases_Bool}, lemmas.List.{append-nil, drop_at}}
 use Rattle.std.specs.Option.{option_and_then}
-use Rattle.std.proofs.lemmas.List.{append-nil, drop_at}
 use Rattle.t1_grammar.specs.Grammar.{Grammar, choice, first_at, first, Has, Lacks, first_here, and_then_none, unspelled, unread}
 
 -- a place found behind these bytes

@@ -1,8 +1,6 @@
 -- The longest prefix along which a machine goes on.
-use Rattle.std.proofs.Common.{refl, sym, ap, subst, arith}
+use Rattle.std.proofs.{Common.{refl, sym, ap, subst, arith}, lemmas.List.{take_at, drop_at, take-append-drop}, lemmas.Option.{same_Some}}
 use Rattle.std.specs.Prelude.{◌≡◌, ◌≤◌, ℕ, suc, List, [], ◌∷◌, ◌++◌, length, take, drop, Option, Some, None}
-use Rattle.std.proofs.lemmas.List.{take_at, drop_at, take-append-drop}
-use Rattle.std.proofs.lemmas.Option.{same_Some}
 use Rattle.t1_grammar.specs.Grammar.{Grammar, Front}
 
 module _ {S : Type 0} (step : S → ℕ → Option S) where

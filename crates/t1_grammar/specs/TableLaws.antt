@@ -1,10 +1,8 @@
 -- Tables: reading goes entry by entry, and finds what the text spells or the first place where it breaks off.
-use Rattle.std.proofs.Common.{inl, inr}
-use Rattle.std.proofs.Common.{◌≡◌, ℕ, zero, suc, ◌<◌, List, [], ◌∷◌, ◌++◌, length, Option, Some, None, Ok, Err, refl, sym, ap, subst, ◌∙◌, append_assoc, arith}
+use Rattle.std.proofs.Common.{inl, inr, ◌≡◌, ℕ, zero, suc, ◌<◌, List, [], ◌∷◌, ◌++◌, length, Option, Some, None, Ok, Err, refl, sym, ap, subst, ◌∙◌, append_assoc, arith}
 use Rattle.std.proofs.lemmas.List.{append-nil, length-append}
 use Rattle.std.specs.Option.{option_and_then}
-use Rattle.t1_grammar.specs.Grammar.{Grammar, either, choice_some, unspelled, unread}
-use Rattle.t1_grammar.specs.Tables.{Entries, IsTable, TableAt, BreaksOff, Table, with_front, table_step, table_within, table_at}
+use Rattle.t1_grammar.specs.{Grammar.{Grammar, either, choice_some, unspelled, unread}, Tables.{Entries, IsTable, TableAt, BreaksOff, Table, with_front, table_step, table_within, table_at}}
 
 -- an entry has bytes
 abbrev pub Eats : {A : Type 0} → Grammar A → Type 0

@@ -1,28 +1,14 @@
 -- Entries that were sorted, and the table of them in the order that they had.
 use Rattle.std.proofs.Common.{◌≡◌, ◌<◌, refl, sym, ap, ◌∙◌, ◌+◌, ℕ, suc, zero, add-one, length, arith, Bool, true, false, cond, T, List, [], ◌∷◌, Option, None, Some, get_or}
-use Rattle.std.specs.declared.cmp.Ordering.{Ordering}
-use Rattle.std.specs.declared.cmp.Ordering.TheVariants.{Less, Equal, Greater}
-use Rattle.std.specs.Cmp.{IsTotalOrder, IsEquivalence}
-use Rattle.std.specs.List.{AllByRecursion, IsDistinct, IsAllAdjacentAnswer}
-use Rattle.std.specs.List.Sorted.{IsPermutation, IsSortedBy, IsStrictlySortedBy}
-use Rattle.std.specs.Map.{keys_of, lookup}
-use Rattle.std.specs.Ordering.{eq_by_cmp, is_eq, is_lt, ordering_reverse}
+use Rattle.std.proofs.{lemmas.Cmp.{nat_list_cmp_total, eq_by_cmp_equiv}, lemmas.List.{length-map}, lemmas.List.Sorted.{IsPermutation-sym, IsPermutation-map, Contains-permutation}}
+use Rattle.std.proofs.{lemmas.Map.Keys.{IsDistinct-from_sorted, IsDistinct-IsPermutation, IsDistinct-head, IsDistinct-tail, sorted_from_all_adjacent}, lemmas.Map.Entries.{length-keys_of}}
+use Rattle.std.proofs.{Math.ListN.{get_or-map}, lemmas.Map.Views.{Contains-from_lookup, lookup-from_Contains}}
+use Rattle.std.specs.{declared.cmp.Ordering.{Ordering}, declared.cmp.Ordering.TheVariants.{Less, Equal, Greater}, Cmp.{IsTotalOrder, IsEquivalence}}
+use Rattle.std.specs.{List.{AllByRecursion, IsDistinct, IsAllAdjacentAnswer}, List.Sorted.{IsPermutation, IsSortedBy, IsStrictlySortedBy}, Map.{keys_of, lookup}}
+use Rattle.std.specs.{Ordering.{eq_by_cmp, is_eq, is_lt, ordering_reverse}, FinMap.Entries.{below_all}}
+use Rattle.t1_join.specs.{Meaning.{Meaning, meaning_cmp}, TableMeaning.{entry_meanings, pair_meaning, Rises}, TableLaws.{same_table}, Unsorted.{KeysDiffer, IsTableOf}}
+use Rattle.t1_join.proofs.{Sorted.{both_true, lt_is}, TreeEntries.{is_eq-Equal}, EntryLemmas.{same_by_cmp}}
 use Rattle.std.specs.FinMap as fin
-use Rattle.std.specs.FinMap.Entries.{below_all}
-use Rattle.std.proofs.lemmas.Cmp.{nat_list_cmp_total, eq_by_cmp_equiv}
-use Rattle.std.proofs.lemmas.List.{length-map}
-use Rattle.std.proofs.lemmas.List.Sorted.{IsPermutation-sym, IsPermutation-map, Contains-permutation}
-use Rattle.std.proofs.lemmas.Map.Keys.{IsDistinct-from_sorted, IsDistinct-IsPermutation, IsDistinct-head, IsDistinct-tail, sorted_from_all_adjacent}
-use Rattle.std.proofs.lemmas.Map.Entries.{length-keys_of}
-use Rattle.std.proofs.Math.ListN.{get_or-map}
-use Rattle.std.proofs.lemmas.Map.Views.{Contains-from_lookup, lookup-from_Contains}
-use Rattle.t1_join.specs.Meaning.{Meaning, meaning_cmp}
-use Rattle.t1_join.specs.TableMeaning.{entry_meanings, pair_meaning, Rises}
-use Rattle.t1_join.specs.TableLaws.{same_table}
-use Rattle.t1_join.specs.Unsorted.{KeysDiffer, IsTableOf}
-use Rattle.t1_join.proofs.Sorted.{both_true, lt_is}
-use Rattle.t1_join.proofs.TreeEntries.{is_eq-Equal}
-use Rattle.t1_join.proofs.EntryLemmas.{same_by_cmp}
 
 below_keys : {K X : Type 0} (R : K → K → Ordering) (k : K) (es : List (K × X)) → T (below_all R k es) → AllByRecursion (λ y. R k y ≡ Less) (keys_of es)
 below_keys R k [] h = tt

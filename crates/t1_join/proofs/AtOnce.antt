@@ -1,26 +1,14 @@
 -- The reading of a listing whose keys are compared when all lines are read.
 use Rattle.std.proofs.Common.{◌≡◌, ◌≤◌, ◌+◌, ℕ, refl, sym, ◌∙◌, ap, subst, List, [], ◌∷◌, ◌++◌, length, cond, Bool, true, false, None, Some, Result, Ok, Err, ◌||◌}
-use Rattle.std.specs.List.{AllByRecursion, IsDistinct, list_any}
-use Rattle.std.specs.Map.{keys_of}
-use Rattle.std.specs.Ordering.{eq_by_cmp}
-use Rattle.std.specs.Result.{IsErr}
-use Rattle.std.specs.FinMap as fin
-use Rattle.std.proofs.lemmas.Cmp.{nat_list_cmp_total, eq_by_cmp_equiv}
-use Rattle.std.proofs.lemmas.List.Sorted.{IsPermutation-to_front, IsPermutation-map, IsPermutation-sym}
+use Rattle.std.proofs.{lemmas.Cmp.{nat_list_cmp_total, eq_by_cmp_equiv}, lemmas.List.Sorted.{IsPermutation-to_front, IsPermutation-map, IsPermutation-sym}}
 use Rattle.std.proofs.lemmas.Map.Keys.{IsDistinct-IsPermutation, IsDistinct-cons, IsDistinct-head, IsDistinct-tail}
-use Rattle.t1_join.specs.declared.listing.ListFault.{ListFault}
-use Rattle.t1_join.specs.declared.listing.ListFault.TheVariants.{BadLine, Repeated}
-use Rattle.t1_join.specs.Meaning.{Meaning, meaning_cmp, of_number}
-use Rattle.t1_join.specs.TableMeaning.{TableMeaning}
+use Rattle.std.specs.{List.{AllByRecursion, IsDistinct, list_any}, Map.{keys_of}, Ordering.{eq_by_cmp}, Result.{IsErr}}
+use Rattle.t1_join.specs.{declared.listing.ListFault.{ListFault}, declared.listing.ListFault.TheVariants.{BadLine, Repeated}, Meaning.{Meaning, meaning_cmp, of_number}, TableMeaning.{TableMeaning}}
 use Rattle.t1_join.specs.ListingMeaning.{ListingMeaning, IsListing}
-use Rattle.t1_join.specs.ListingText.{ListedEntry, subr, glyph, split_at, listed_entry, listing_lines, same_key, read_entry, read_lines, entries_of, with_entry, listing_from, listing_of, listing_result}
-use Rattle.t1_join.specs.LineMeaning.{IsEntry}
-use Rattle.t1_join.specs.TableLaws.{same_table}
-use Rattle.t1_join.specs.Unsorted.{Unsorted, with_line, KeysDiffer, AllKeysDiffer, AreTablesOf}
-use Rattle.t1_join.proofs.EntryLemmas.{same_by_cmp}
-use Rattle.t1_join.proofs.SplitLemmas.{lines-split, first_line}
-use Rattle.t1_join.proofs.ReadLemmas.{ended, not_ended, shorter}
-use Rattle.t1_join.proofs.ListingLemmas.{none_listed, entry_listed, entry_fits}
+use Rattle.t1_join.specs.ListingText.{ListedEntry, subr, glyph, split_at, listed_entry, listing_lines, same_key, read_entry, read_lines, entries_of, with_entry, listing_from, listing_of}
+use Rattle.t1_join.specs.{ListingText.{listing_result}, LineMeaning.{IsEntry}, TableLaws.{same_table}, Unsorted.{Unsorted, with_line, KeysDiffer, AllKeysDiffer, AreTablesOf}}
+use Rattle.t1_join.proofs.{EntryLemmas.{same_by_cmp}, SplitLemmas.{lines-split, first_line}, ReadLemmas.{ended, not_ended, shorter}, ListingLemmas.{none_listed, entry_listed, entry_fits}}
+use Rattle.std.specs.FinMap as fin
 
 -- what was read, the newest first, before its keys are compared
 abbrev unsorted : List ListedEntry → Unsorted
@@ -88,7 +76,8 @@ module _ (text : List ℕ) (u : Unsorted) (rest : List ℕ) (r : IsGathering tex
     pub gathered_bad : listed_entry front ≡ None → IsErr (listing_of text)
     gathered_bad none = no_listing (entries_of text) (λ es good.
         let bad : entries_of text ≡ Err (BadLine r.line) =
-        this_line (r.no_fault es good) ∙ ap (λ x. read_entry r.line r.seen x (λ more. read_lines (r.line + 1) more (listing_lines back).0 (listing_lines back).1)) none in
+        this_line (r.no_fault es good) ∙ ap (λ x. read_entry r.line r.seen x
+        (λ more. read_lines (r.line + 1) more (listing_lines back).0 (listing_lines back).1)) none in
         cc)
 
   -- so is a last line without a line feed

@@ -1,19 +1,10 @@
 -- Conflicts of tables and of listings: at most one, and the same in either order.
-use Rattle.std.proofs.Common.{◌≡◌, refl, ◌∙◌, ap, Option}
-use Rattle.std.specs.declared.cmp.Ordering.{Ordering}
-use Rattle.std.specs.declared.cmp.Ordering.TheVariants.{Less, Equal, Greater}
-use Rattle.std.specs.Ordering.{ordering_reverse}
-use Rattle.std.proofs.lemmas.Cmp.{nat_list_cmp_total}
-use Rattle.std.specs.FinMap as fin
-use Rattle.t1_join.specs.declared.listing.JoinFault.{JoinFault}
-use Rattle.t1_join.specs.declared.listing.JoinFault.TheVariants.{Subr, Glyph, Memory}
-use Rattle.t1_join.specs.Meaning.{Meaning, meaning_cmp, of_number}
-use Rattle.t1_join.specs.StateLaws.{state_back}
-use Rattle.t1_join.specs.TableMeaning.{TableMeaning, TablesAgree, joined_table, IsFirstConflict}
-use Rattle.t1_join.specs.TableLaws.{table_laws}
-use Rattle.t1_join.specs.ListingMeaning.{ListingMeaning}
-use Rattle.t1_join.specs.ListingJoin.{IsJoined, IsJoinFault}
+use Rattle.std.proofs.{Common.{◌≡◌, refl, ◌∙◌, ap, Option}, lemmas.Cmp.{nat_list_cmp_total}}
+use Rattle.std.specs.{declared.cmp.Ordering.{Ordering}, declared.cmp.Ordering.TheVariants.{Less, Equal, Greater}, Ordering.{ordering_reverse}}
+use Rattle.t1_join.specs.{declared.listing.JoinFault.{JoinFault}, declared.listing.JoinFault.TheVariants.{Subr, Glyph, Memory}, Meaning.{Meaning, meaning_cmp, of_number}, StateLaws.{state_back}}
+use Rattle.t1_join.specs.{TableMeaning.{TableMeaning, TablesAgree, joined_table, IsFirstConflict}, TableLaws.{table_laws}, ListingMeaning.{ListingMeaning}, ListingJoin.{IsJoined, IsJoinFault}}
 use Rattle.t1_join.proofs.EntryLemmas.{same_by_cmp}
+use Rattle.std.specs.FinMap as fin
 
 abbrev state_at : TableMeaning → Meaning → Option Meaning
 state_at m q = fin.get m q

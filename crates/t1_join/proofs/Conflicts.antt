@@ -1,21 +1,11 @@
 -- The first conflict that one pass over two sorted lists meets is the smallest.
 use Rattle.std.proofs.Common.{◌≡◌, refl, sym, ap, ◌∙◌, subst, ℕ, ◌≤◌, Bool, true, false, cond, T, List, [], ◌∷◌, map, length, drop, Option, Some, None, inl, inr, ◌⊎◌, true≢false}
-use Rattle.std.proofs.lemmas.List.{drop_all}
-use Rattle.std.specs.declared.cmp.Ordering.{Ordering}
-use Rattle.std.specs.declared.cmp.Ordering.TheVariants.{Less, Equal, Greater}
-use Rattle.std.specs.FinMap.Entries.{by_order, below_all}
-use Rattle.std.specs.FinMap.{find, get, from_sorted, get-from_sorted}
-use Rattle.std.specs.Option.{option_map, option_copied, MatchOption}
-use Rattle.std.specs.Borrow.{Bor}
-use Rattle.std.proofs.lemmas.Cmp.{nat_list_cmp_total}
-use Rattle.t1_join.specs.Meaning.{Meaning, meaning_cmp, same_meaning}
-use Rattle.t1_join.specs.Join.{State, states_agree}
-use Rattle.std.specs.Ordering.{is_eq, ordering_reverse}
+use Rattle.std.proofs.{lemmas.List.{drop_all}, lemmas.Cmp.{nat_list_cmp_total}}
+use Rattle.std.specs.{declared.cmp.Ordering.{Ordering}, declared.cmp.Ordering.TheVariants.{Less, Equal, Greater}, FinMap.Entries.{by_order, below_all}}
+use Rattle.std.specs.{FinMap.{find, get, from_sorted, get-from_sorted}, Option.{option_map, option_copied, MatchOption}, Borrow.{Bor}, Ordering.{is_eq, ordering_reverse}}
 use Rattle.std.specs.Cmp.{IsTotalOrder, alike_right, tied_itself}
-use Rattle.t1_join.specs.TableMeaning.{Rises, TableMeaning, TablesAgree, IsFirstConflict}
-use Rattle.t1_join.proofs.Sorted.{both_true, make_both, is_lt_from}
-use Rattle.t1_join.proofs.Merges.{Below-less, below_tied, find_below}
-use Rattle.t1_join.specs.Passes.{met, first_met}
+use Rattle.t1_join.specs.{Meaning.{Meaning, meaning_cmp, same_meaning}, Join.{State, states_agree}, TableMeaning.{Rises, TableMeaning, TablesAgree, IsFirstConflict}, Passes.{met, first_met}}
+use Rattle.t1_join.proofs.{Sorted.{both_true, make_both, is_lt_from}, Merges.{Below-less, below_tied, find_below}}
 
 module _ {K X Y : Type 0} (R : K → K → Ordering) (same : X → X → Bool) (v : Y → K × X) where
   -- what is left meets what all meets

@@ -1,20 +1,11 @@
 -- Digits, and the bytes that they spell.
-use Rattle.std.proofs.Common.{◌≡◌, ◌↔◌, ◌<◌, ◌+◌, ◌*◌, ◌/◌, ◌%◌, ℕ, refl, sym, ◌∙◌, ap, List, [], ◌∷◌, length, map, cond, Bool, true, false, true≢false, inl}
-use Rattle.std.proofs.Common.{inr, eqb, Option, None, Some, is_some, Result, Ok, Err, nat_le, arith}
-use Rattle.std.specs.Prelude.{slice_index}
-use Rattle.std.specs.Bool.{IsTrue}
-use Rattle.std.specs.Result.{result_ok, result_unwrap_or}
-use Rattle.std.specs.List.{list_all}
-use Rattle.std.proofs.lemmas.List.Sums.{AllPass-from_list_all, list_all-from_AllPass}
-use Rattle.std.proofs.lemmas.Slice.Eq.{slice_eq-Decides}
-use Rattle.std.proofs.lemmas.Bool.Decides.{Decides-eqb}
+use Rattle.std.proofs.Common.{◌≡◌, ◌↔◌, ◌<◌, ◌+◌, ◌*◌, ◌/◌, ◌%◌, ℕ, refl, sym, ◌∙◌, ap, List, [], ◌∷◌, length, map, cond, Bool, true, false, true≢false, inl, inr, eqb, Option, None, Some, is_some}
+use Rattle.std.proofs.{Common.{Result, Ok, Err, nat_le, arith}, lemmas.List.Sums.{AllPass-from_list_all, list_all-from_AllPass}, lemmas.Slice.Eq.{slice_eq-Decides}, lemmas.Bool.Decides.{Decides-eqb}}
 use Rattle.std.proofs.lemmas.Bool.{agree_below_at, eqb-true, cases_Bool}
-use Rattle.std.specs.Char.{to_ascii_lowercase}
-use Rattle.hex.specs.Hex.{IsBytes, lower_digits, encode_with, encode_lower, hex_digit_value, is_hex_digit, digit_or_error, decode_pairs, decode_of, ◌>>=◌}
-use Rattle.hex.specs.declared.error.FromHexError.{FromHexError}
+use Rattle.std.specs.{Prelude.{slice_index}, Bool.{IsTrue}, Result.{result_ok, result_unwrap_or}, List.{list_all}, Char.{to_ascii_lowercase}}
+use Rattle.hex.specs.{Hex.{IsBytes, lower_digits, encode_with, encode_lower, hex_digit_value, is_hex_digit, digit_or_error, decode_pairs, decode_of, ◌>>=◌}, declared.error.FromHexError.{FromHexError}}
 use Rattle.hex.proofs.HexLemmas.{decode_of-even, decode_of-ok, decode_of-digits, decode_of-encode_lower}
-use Rattle.t1_join.specs.Meaning.{same_meaning}
-use Rattle.t1_join.specs.ListingText.{bytes_of, spelled}
+use Rattle.t1_join.specs.{Meaning.{same_meaning}, ListingText.{bytes_of, spelled}}
 
 -- ---- digits that spell bytes
 

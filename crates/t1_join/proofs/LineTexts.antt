@@ -1,15 +1,9 @@
 -- A line that was written is read again.
-use Rattle.std.proofs.Common.{◌≡◌, ◌<◌, ◌≤◌, ◌+◌, ◌-◌, ◌*◌, ◌/◌, ◌%◌, ◌^◌, ◌==◌, ◌&&◌, ℕ, refl, sym, ◌∙◌, ap, subst, List, [], ◌∷◌, ◌++◌, length, cond, Bool}
-use Rattle.std.proofs.Common.{true, false, not, None, Some, nat_le, arith, suc, ◌≢◌, eq-eqb, eqb-true}
-use Rattle.std.specs.Prelude.{option_and_then, slice_index}
-use Rattle.std.specs.Option.{option_map}
-use Rattle.std.specs.Result.{result_ok}
-use Rattle.std.specs.List.{AllByRecursion, list_all}
-use Rattle.std.specs.Fmt.{decimal}
-use Rattle.std.proofs.lemmas.Bool.{le-leb, leb-true, and_from, and_parts, agree_below_at}
+use Rattle.std.proofs.Common.{◌≡◌, ◌<◌, ◌≤◌, ◌+◌, ◌-◌, ◌*◌, ◌/◌, ◌%◌, ◌^◌, ◌==◌, ◌&&◌, ℕ, refl, sym, ◌∙◌, ap, subst, List, [], ◌∷◌, ◌++◌, length, cond, Bool, true, false, not, None, Some, nat_le}
+use Rattle.std.proofs.{Common.{arith, suc, ◌≢◌, eq-eqb, eqb-true}, lemmas.Bool.{le-leb, leb-true, and_from, and_parts, agree_below_at}}
 use Rattle.std.proofs.lemmas.Fmt.{decimal_by_steps, length-decimal-le, decimal_nonempty}
-use Rattle.hex.specs.Hex.{IsBytes, decode_of, encode_lower, encode_with, lower_digits}
-use Rattle.hex.proofs.HexLemmas.{decode_of-encode_lower, length-encode_with}
+use Rattle.std.specs.{Prelude.{option_and_then, slice_index}, Option.{option_map}, Result.{result_ok}, List.{AllByRecursion, list_all}, Fmt.{decimal}}
+use Rattle.hex.{specs.Hex.{IsBytes, decode_of, encode_lower, encode_with, lower_digits}, proofs.HexLemmas.{decode_of-encode_lower, length-encode_with}}
 use Rattle.t1_join.specs.ListingMeaning.{ends_name, is_listed_name, IsValue}
 use Rattle.t1_join.specs.ListingText.{ListedEntry, subr, glyph, with_digit, split_at, number_after, up_to, listed_index, bytes_of, listed_entry, subr_of, glyph_of, listing_lines}
 use Rattle.t1_join.specs.LineMeaning.{IsEntry}
@@ -175,5 +169,6 @@ no_line_feed (subr i v) h = (
 no_line_feed (glyph n v) h = (refl, (refl, no_append 10 n (32 ∷ encode_lower v) (name_no 10 n refl h.0) (refl, no_hex v h.1.bytes)))
 
 -- the line of an entry comes first
-pub line_first : (e : ListedEntry) (rest : List ℕ) → IsEntry e → listing_lines (bare_line e ++ 10 ∷ rest) ≡ (bare_line e ∷ (listing_lines rest).0, (listing_lines rest).1)
+pub line_first : (e : ListedEntry) (rest : List ℕ) → IsEntry e →
+    listing_lines (bare_line e ++ 10 ∷ rest) ≡ (bare_line e ∷ (listing_lines rest).0, (listing_lines rest).1)
 line_first e rest h = lines-split (bare_line e ++ 10 ∷ rest) ∙ ap (first_line (bare_line e ++ 10 ∷ rest)) (split_after 10 (bare_line e) rest (no_line_feed e h))

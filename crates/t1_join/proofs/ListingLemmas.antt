@@ -1,25 +1,13 @@
 -- What a line says can stand in a listing, and listings keep to it.
 use Rattle.std.proofs.Common.{◌≡◌, ◌<◌, ◌≤◌, ◌==◌, ℕ, refl, sym, ◌∙◌, subst, List, [], ◌∷◌, length, cond, Bool, true, false, not, Option, None, Some, Result, Ok, Err, nat_le, ◌&&◌, ◌*◌, arith}
-use Rattle.std.specs.Prelude.{option_and_then, if◌then◌else◌}
-use Rattle.std.specs.Option.{option_map}
-use Rattle.std.specs.Bool.{MatchBool}
-use Rattle.std.specs.Result.{result_ok, IfOk, OnErr}
-use Rattle.std.specs.Ordering.{eq_by_cmp}
-use Rattle.std.proofs.lemmas.Bool.{leb-true}
-use Rattle.std.proofs.lemmas.Cmp.{nat_list_cmp_total}
-use Rattle.std.specs.FinMap as fin
-use Rattle.hex.specs.Hex.{decode_of}
-use Rattle.hex.specs.declared.error.FromHexError.{FromHexError}
-use Rattle.hex.proofs.HexLemmas.{decode_of-ok}
-use Rattle.t1_join.specs.Meaning.{Meaning, meaning_cmp, of_number}
-use Rattle.t1_join.specs.Join.{State, joined_state}
-use Rattle.t1_join.specs.TableMeaning.{TableMeaning, IsNewEntry, IsRepeated, joined_table}
-use Rattle.t1_join.specs.TableLaws.{get_joined}
+use Rattle.std.proofs.{lemmas.Bool.{leb-true}, lemmas.Cmp.{nat_list_cmp_total}}
+use Rattle.std.specs.{Prelude.{option_and_then, if◌then◌else◌}, Option.{option_map}, Bool.{MatchBool}, Result.{result_ok, IfOk, OnErr}, Ordering.{eq_by_cmp}}
+use Rattle.hex.{specs.{Hex.{decode_of}, declared.error.FromHexError.{FromHexError}}, proofs.HexLemmas.{decode_of-ok}}
+use Rattle.t1_join.specs.{Meaning.{Meaning, meaning_cmp, of_number}, Join.{State, joined_state}, TableMeaning.{TableMeaning, IsNewEntry, IsRepeated, joined_table}, TableLaws.{get_joined}}
 use Rattle.t1_join.specs.ListingMeaning.{ListingMeaning, IsValue, IsIndex, IsListing, is_listed_name}
-use Rattle.t1_join.specs.ListingText.{ListedEntry, subr, glyph, split_at, number_after, up_to, listed_index, name_of, bytes_of, subr_of, glyph_of, listed_entry, with_entry}
-use Rattle.t1_join.specs.LineMeaning.{IsEntry}
-use Rattle.t1_join.proofs.EntryLemmas.{same_by_cmp}
-use Rattle.t1_join.proofs.TreeEntries.{is_eq-Equal}
+use Rattle.t1_join.specs.{ListingText.{ListedEntry, subr, glyph, split_at, number_after, up_to, listed_index, name_of, bytes_of, subr_of, glyph_of, listed_entry, with_entry}, LineMeaning.{IsEntry}}
+use Rattle.t1_join.proofs.{EntryLemmas.{same_by_cmp}, TreeEntries.{is_eq-Equal}}
+use Rattle.std.specs.FinMap as fin
 
 -- what digits spell fits an entry
 bytes_fit : (hex v : List ℕ) → bytes_of hex ≡ Some v → IsValue v

@@ -1,15 +1,9 @@
 -- One pass over two lists of entries whose keys rise.
 use Rattle.std.proofs.Common.{◌≡◌, refl, sym, ap, ◌∙◌, ℕ, ◌≤◌, arith, Bool, true, false, cond, ◌⊎◌, T, List, [], ◌∷◌, ◌++◌, map, length, take, take_all, drop, ◌-◌, Option, Some, None, inl, inr}
 use Rattle.std.proofs.lemmas.List.{map-append, append-nil, drop_all, length-drop}
-use Rattle.std.specs.declared.cmp.Ordering.{Ordering}
-use Rattle.std.specs.declared.cmp.Ordering.TheVariants.{Less, Equal, Greater}
-use Rattle.std.specs.Ordering.{ordering_reverse, is_eq}
-use Rattle.std.specs.Cmp.{IsTotalOrder, alike_right}
-use Rattle.std.specs.FinMap.{find, from_sorted, from_entries, entries, entries-from_sorted, get-from_sorted, get-from_entries, IsAntisymmetric, same_map}
-use Rattle.std.specs.FinMap.Entries.{below_all, by_order}
-use Rattle.t1_join.specs.TableMeaning.{Rises}
-use Rattle.t1_join.specs.Passes.{weave, merge}
-use Rattle.t1_join.proofs.Sorted.{both_true, make_both, lt_is, is_lt_from}
+use Rattle.std.specs.{declared.cmp.Ordering.{Ordering}, declared.cmp.Ordering.TheVariants.{Less, Equal, Greater}, Ordering.{ordering_reverse, is_eq}, Cmp.{IsTotalOrder, alike_right}}
+use Rattle.std.specs.{FinMap.{find, from_sorted, from_entries, entries, entries-from_sorted, get-from_sorted, get-from_entries, IsAntisymmetric, same_map}, FinMap.Entries.{below_all, by_order}}
+use Rattle.t1_join.{specs.{TableMeaning.{Rises}, Passes.{weave, merge}}, proofs.Sorted.{both_true, make_both, lt_is, is_lt_from}}
 
 -- ---- the loop: what is out, and then the merge of what is left, is the merge of all
 

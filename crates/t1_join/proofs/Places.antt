@@ -1,17 +1,9 @@
 -- Entries put where a search says: the finite map with that key's value.
 use Rattle.std.proofs.Common.{◌≡◌, refl, sym, ap, ◌∙◌, subst, ℕ, zero, suc, ◌<◌, ◌≤◌, arith, List, [], ◌∷◌, map, length, get_or, slice_set, Ok, Err}
-use Rattle.std.specs.List.{insert}
-use Rattle.std.specs.List.Sorted.{IsBinarySearchResult}
-use Rattle.std.specs.declared.cmp.Ordering.{Ordering}
-use Rattle.std.specs.declared.cmp.Ordering.TheVariants.{Less, Equal, Greater}
-use Rattle.std.specs.Ordering.{ordering_reverse}
-use Rattle.std.specs.Cmp.{IsTotalOrder, alike_right, tied_back}
-use Rattle.std.specs.FinMap.{put, from_sorted, entries-from_sorted, entries-insert, same_entries_map}
-use Rattle.std.specs.FinMap.Entries.{by_order, is_sorted-put}
+use Rattle.std.specs.{List.{insert}, List.Sorted.{IsBinarySearchResult}, declared.cmp.Ordering.{Ordering}, declared.cmp.Ordering.TheVariants.{Less, Equal, Greater}, Ordering.{ordering_reverse}}
+use Rattle.std.specs.{Cmp.{IsTotalOrder, alike_right, tied_back}, FinMap.{put, from_sorted, entries-from_sorted, entries-insert, same_entries_map}, FinMap.Entries.{by_order, is_sorted-put}}
+use Rattle.t1_join.{specs.TableMeaning.{Rises}, proofs.{Sorted.{both_true}, Searches.{above, rising}}}
 use Rattle.std.specs.FinMap as fin
-use Rattle.t1_join.specs.TableMeaning.{Rises}
-use Rattle.t1_join.proofs.Sorted.{both_true}
-use Rattle.t1_join.proofs.Searches.{above, rising}
 
 module _ {K X Y : Type 0} {R : K → K → Ordering} (o : IsTotalOrder R) (v : Y → K × X) where
   -- what `put` makes of a first entry, by how the key compares with the entry's

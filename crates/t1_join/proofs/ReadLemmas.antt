@@ -1,18 +1,12 @@
 -- The reading of a listing, line by line.
 use Rattle.std.proofs.Common.{◌≡◌, ◌≤◌, ◌+◌, ℕ, suc, refl, sym, ◌∙◌, ap, subst, List, [], ◌∷◌, length, cond, Bool, true, false, Option, None, Some, Ok, Err, ◌==◌, ◌||◌, arith, is_some}
-use Rattle.std.specs.Option.{option_map}
-use Rattle.std.specs.List.{list_any}
-use Rattle.std.specs.Ordering.{eq_by_cmp}
 use Rattle.std.proofs.lemmas.Cmp.{nat_list_cmp_total}
-use Rattle.std.specs.FinMap as fin
-use Rattle.t1_join.specs.ListingMeaning.{ListingMeaning}
-use Rattle.t1_join.specs.declared.listing.ListFault.TheVariants.{BadLine, Repeated}
-use Rattle.t1_join.specs.Meaning.{Meaning, meaning_cmp, of_number}
-use Rattle.t1_join.specs.TableMeaning.{TableMeaning}
-use Rattle.t1_join.specs.ListingText.{ListedEntry, subr, glyph, split_at, with_digit, listed_entry, listing_lines, same_key, read_entry, at_end, read_lines, entries_of}
-use Rattle.t1_join.specs.ListingText.{with_entry, listing_from, listing_of, listing_result}
-use Rattle.t1_join.specs.LineMeaning.{has_entry}
+use Rattle.std.specs.{Option.{option_map}, List.{list_any}, Ordering.{eq_by_cmp}}
+use Rattle.t1_join.specs.{ListingMeaning.{ListingMeaning}, declared.listing.ListFault.TheVariants.{BadLine, Repeated}, Meaning.{Meaning, meaning_cmp, of_number}, TableMeaning.{TableMeaning}}
+use Rattle.t1_join.specs.ListingText.{ListedEntry, subr, glyph, split_at, with_digit, listed_entry, listing_lines, same_key, read_entry, at_end, read_lines, entries_of, with_entry, listing_from}
+use Rattle.t1_join.specs.{ListingText.{listing_of, listing_result}, LineMeaning.{has_entry}}
 use Rattle.t1_join.proofs.SplitLemmas.{lines-split, first_line}
+use Rattle.std.specs.FinMap as fin
 
 some_or : (b : Bool) (v : Meaning) (x : Option Meaning) → is_some (cond b (Some v) x) ≡ (b || is_some x)
 some_or true v x = refl
@@ -81,7 +75,8 @@ module _ (text : List ℕ) (l : ListingMeaning) (line : ℕ) (rest : List ℕ) (
 
     -- a line that says no entry is a bad line
     pub bad_line : listed_entry front ≡ None → listing_of text ≡ Err (BadLine line)
-    bad_line h = ap listing_result (next_line ∙ ap (λ e. read_entry line r.seen e (λ more. read_lines (line + 1) more (listing_lines back).0 (listing_lines back).1)) h)
+    bad_line h = ap listing_result (next_line ∙ ap (λ e. read_entry line r.seen e
+        (λ more. read_lines (line + 1) more (listing_lines back).0 (listing_lines back).1)) h)
 
     known : (e : ListedEntry) → has_entry l e ≡ list_any (same_key e) r.seen
     known e = ap (λ k. has_entry k e) r.listing ∙ has_seen e r.seen
@@ -98,7 +93,8 @@ module _ (text : List ℕ) (l : ListingMeaning) (line : ℕ) (rest : List ℕ) (
     repeated e h k = ap listing_result (with_line e true h k)
 
     -- a line with a new key adds its entry, and reading goes on
-    pub next : (e : ListedEntry) (new : ListingMeaning) → listed_entry front ≡ Some e → has_entry l e ≡ false → new ≡ with_entry e l → IsReading text new (line + 1) back
+    pub next : (e : ListedEntry) (new : ListingMeaning) → listed_entry front ≡ Some e → has_entry l e ≡ false → new ≡ with_entry e l →
+        IsReading text new (line + 1) back
     next e new h k n = record {
       seen = e ∷ r.seen;
       listing = n ∙ ap (with_entry e) r.listing;

@@ -1,15 +1,10 @@
 -- What a binary search by key finds among entries whose keys rise: what the finite map of them has at the key.
 use Rattle.std.proofs.Common.{◌≡◌, refl, sym, ap, ◌∙◌, ℕ, zero, suc, ◌-◌, ◌<◌, ◌≤◌, arith, false, cond, ◌⊎◌, T, List, [], ◌∷◌, map, length, get_or, Some, None, Result, Ok, Err, inl, inr}
-use Rattle.std.specs.declared.cmp.Ordering.{Ordering}
-use Rattle.std.specs.declared.cmp.Ordering.TheVariants.{Less, Equal, Greater}
-use Rattle.std.specs.Ordering.{ordering_index, ordering_reverse, is_eq}
-use Rattle.std.specs.Cmp.{IsTotalOrder, alike_right, tied_back}
 use Rattle.std.proofs.lemmas.Bool.{cases_lt}
-use Rattle.std.specs.List.Sorted.{IsNonDecreasingBy, IsSearchInRange, IsBinarySearchResult}
-use Rattle.std.specs.FinMap.{find, from_sorted, get, get-from_sorted}
+use Rattle.std.specs.{declared.cmp.Ordering.{Ordering}, declared.cmp.Ordering.TheVariants.{Less, Equal, Greater}, Ordering.{ordering_index, ordering_reverse, is_eq}}
+use Rattle.std.specs.{Cmp.{IsTotalOrder, alike_right, tied_back}, List.Sorted.{IsNonDecreasingBy, IsSearchInRange, IsBinarySearchResult}, FinMap.{find, from_sorted, get, get-from_sorted}}
 use Rattle.std.specs.FinMap.Entries.{below_all}
-use Rattle.t1_join.specs.TableMeaning.{Rises}
-use Rattle.t1_join.proofs.Sorted.{both_true, lt_is}
+use Rattle.t1_join.{specs.TableMeaning.{Rises}, proofs.Sorted.{both_true, lt_is}}
 
 not_eq : (r : Ordering) → (r ≡ Equal → ⊥) → is_eq r ≡ false
 not_eq Less h = refl

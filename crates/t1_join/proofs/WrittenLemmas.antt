@@ -1,27 +1,15 @@
 -- A listing that was written is read again.
 use Rattle.std.proofs.Common.{◌≡◌, ◌+◌, ◌||◌, ℕ, refl, sym, ◌∙◌, ap, subst, List, [], ◌∷◌, ◌++◌, cond, Bool, true, false, T, None, Some, Ok, Err, ◌<◌, append_assoc, map}
-use Rattle.std.specs.Prelude.{flat_map, slice_index}
-use Rattle.std.specs.List.{AllByRecursion, list_any}
-use Rattle.std.specs.Fmt.{decimal}
-use Rattle.hex.specs.Hex.{encode_lower}
-use Rattle.std.specs.declared.cmp.Ordering.TheVariants.{Less}
-use Rattle.std.specs.Ordering.{eq_by_cmp, is_eq}
 use Rattle.std.proofs.lemmas.Cmp.{nat_list_cmp_total, tied_itself}
-use Rattle.std.specs.FinMap as fin
+use Rattle.std.specs.{Prelude.{flat_map, slice_index}, List.{AllByRecursion, list_any}, Fmt.{decimal}, declared.cmp.Ordering.TheVariants.{Less}, Ordering.{eq_by_cmp, is_eq}}
 use Rattle.std.specs.FinMap.Entries.{below_all}
-use Rattle.t1_join.specs.declared.listing.ListFault.TheVariants.{Repeated}
-use Rattle.t1_join.specs.Meaning.{Meaning, meaning_cmp, of_number}
-use Rattle.t1_join.specs.Join.{State, joined_state}
-use Rattle.t1_join.specs.TableMeaning.{TableMeaning}
-use Rattle.t1_join.specs.TableLaws.{same_table}
+use Rattle.hex.specs.Hex.{encode_lower}
+use Rattle.t1_join.specs.{declared.listing.ListFault.TheVariants.{Repeated}, Meaning.{Meaning, meaning_cmp, of_number}, Join.{State, joined_state}, TableMeaning.{TableMeaning}, TableLaws.{same_table}}
 use Rattle.t1_join.specs.ListingMeaning.{ListingMeaning, IsIndex, IsListing}
 use Rattle.t1_join.specs.ListingText.{ListedEntry, subr, glyph, listing_lines, same_key, read_entry, read_lines, listing_from, listing_result, listing_of, subr_line, glyph_line, text_of}
 use Rattle.t1_join.specs.LineMeaning.{IsEntry}
-use Rattle.t1_join.proofs.EntryLemmas.{same_by_cmp}
-use Rattle.t1_join.proofs.TreeEntries.{is_eq-Equal}
-use Rattle.t1_join.proofs.Sorted.{both_true, lt_is}
-use Rattle.t1_join.proofs.Merges.{find_below}
-use Rattle.t1_join.proofs.LineTexts.{bare_line, entry_read, line_first}
+use Rattle.t1_join.proofs.{EntryLemmas.{same_by_cmp}, TreeEntries.{is_eq-Equal}, Sorted.{both_true, lt_is}, Merges.{find_below}, LineTexts.{bare_line, entry_read, line_first}}
+use Rattle.std.specs.FinMap as fin
 
 present_first : (b : Bool) (x : State) (v : Meaning) (z : State) → (b ≡ true → x ≡ None) →
     joined_state x (cond b (Some v) z) ≡ joined_state (cond b (Some v) x) z
@@ -157,7 +145,8 @@ module _ (made : Meaning × Meaning → ListedEntry) (Good : Meaning → Type 0)
       let apart : same_key (made f) (made e) ≡ false = keyed e f g gs.0 ∙ above_differs e.0 f.0 (lt_is (meaning_cmp e.0 f.0) (both_true _ _ s).0) in
       (ap (λ b. b || list_any (same_key (made f)) seen) apart ∙ h.0, fresh_after e fs seen g gs.1 (both_true _ _ s).1 h.1)
 
-  apart_entries : (es : List (Meaning × Meaning)) (seen : List ListedEntry) → AllByRecursion (λ f. Good f.0) es → T (fin.is_sorted meaning_cmp es) → Fresh es seen →
+  apart_entries : (es : List (Meaning × Meaning)) (seen : List ListedEntry) → AllByRecursion (λ f. Good f.0) es → T (fin.is_sorted meaning_cmp es) →
+      Fresh es seen →
       Apart (map made es) seen
   apart_entries [] seen g s h = tt
   apart_entries (e ∷ es) seen g s h = (h.0, apart_entries es (made e ∷ seen) g.1 (both_true _ _ s).1 (fresh_after e es seen g.0 g.1 (both_true _ _ s).0 h.1))

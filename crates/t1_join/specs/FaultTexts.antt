@@ -1,11 +1,7 @@
 -- The printed texts of the refusals.
-use Rattle.std.specs.Prelude.{ℕ, List, ◌++◌, codes}
-use Rattle.std.specs.Fmt.{decimal}
-use Rattle.t1_join.specs.declared.listing.ListFault.{ListFault}
-use Rattle.t1_join.specs.declared.listing.ListFault.TheVariants.{BadLine, Repeated, Memory as ListMemory}
-use Rattle.t1_join.specs.declared.listing.JoinFault.{JoinFault}
-use Rattle.t1_join.specs.declared.listing.JoinFault.TheVariants.{Subr, Glyph, Memory as JoinMemory}
-use Rattle.t1_join.specs.Shown.{shown}
+use Rattle.std.specs.{Prelude.{ℕ, List, ◌++◌, codes}, Fmt.{decimal}}
+use Rattle.t1_join.specs.{declared.listing.ListFault.{ListFault}, declared.listing.ListFault.TheVariants.{BadLine, Repeated, Memory as ListMemory}, declared.listing.JoinFault.{JoinFault}}
+use Rattle.t1_join.specs.{declared.listing.JoinFault.TheVariants.{Subr, Glyph, Memory as JoinMemory}, Shown.{shown}}
 
 -- what is printed of a text that is no listing
 abbrev pub list_text : ListFault → List ℕ

@@ -1,12 +1,8 @@
 -- What a line that was read says.
-use Rattle.std.specs.Prelude.{◌≡◌, ◌<◌, ℕ, List, Bool, true, false}
-use Rattle.std.specs.FinMap as fin
-use Rattle.t1_join.specs.ListingMeaning.{ListingMeaning, IsValue, index_limit, is_listed_name}
-use Rattle.t1_join.specs.Meaning.{of_number}
-use Rattle.std.specs.Borrow.{Bor}
-use Rattle.t1_join.specs.declared.lines.Line.{Line}
-use Rattle.t1_join.specs.declared.lines.Line.TheVariants.{Subr, Glyph}
+use Rattle.std.specs.{Prelude.{◌≡◌, ◌<◌, ℕ, List, Bool, true, false}, Borrow.{Bor}}
+use Rattle.t1_join.specs.{ListingMeaning.{ListingMeaning, IsValue, index_limit, is_listed_name}, Meaning.{of_number}, declared.lines.Line.{Line}, declared.lines.Line.TheVariants.{Subr, Glyph}}
 use Rattle.t1_join.specs.ListingText.{ListedEntry, subr, glyph, with_entry}
+use Rattle.std.specs.FinMap as fin
 
 -- the entry that a line of a listing says
 abbrev pub line_entry : Line → ListedEntry

@@ -1,11 +1,7 @@
 -- What the join of two listings is.
 use Rattle.std.specs.Prelude.{◌≡◌, ℕ, List}
-use Rattle.t1_join.specs.declared.listing.JoinFault.{JoinFault}
-use Rattle.t1_join.specs.declared.listing.JoinFault.TheVariants.{Subr, Glyph, Memory}
-use Rattle.t1_join.specs.Meaning.{of_number}
-use Rattle.t1_join.specs.TableMeaning.{TablesAgree, joined_table, IsFirstConflict}
-use Rattle.t1_join.specs.ListingMeaning.{ListingMeaning}
-use Rattle.t1_join.specs.ListingText.{text_of}
+use Rattle.t1_join.specs.{declared.listing.JoinFault.{JoinFault}, declared.listing.JoinFault.TheVariants.{Subr, Glyph, Memory}, Meaning.{of_number}}
+use Rattle.t1_join.specs.{TableMeaning.{TablesAgree, joined_table, IsFirstConflict}, ListingMeaning.{ListingMeaning}, ListingText.{text_of}}
 
 -- the states of each index and of each name join, and `both` has the joined ones
 pub record IsJoined (left right both : ListingMeaning) : Type 0 where

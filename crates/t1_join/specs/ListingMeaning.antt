@@ -1,11 +1,8 @@
 -- What a listing is: the Subrs and the glyphs of a font program (Adobe Type 1 Font Format 1.1, chapters 2 and 8).
-use Rattle.std.specs.Prelude.{◌≡◌, refl, ℕ, ◌<◌, ◌≤◌, ◌==◌, ◌&&◌, not, nat_le, Bool, true, Some, List, ◌∷◌, length, codes}
-use Rattle.std.specs.List.{list_all, list_any}
-use Rattle.std.specs.Coded.{Coded, code_by, coded×}
-use Rattle.std.specs.FinMap as fin
+use Rattle.std.specs.{Prelude.{◌≡◌, refl, ℕ, ◌<◌, ◌≤◌, ◌==◌, ◌&&◌, not, nat_le, Bool, true, Some, List, ◌∷◌, length, codes}, List.{list_all, list_any}, Coded.{Coded, code_by, coded×}}
 use Rattle.hex.specs.Hex.{IsBytes}
-use Rattle.t1_join.specs.Meaning.{Meaning, of_number}
-use Rattle.t1_join.specs.TableMeaning.{TableMeaning, table_code}
+use Rattle.t1_join.specs.{Meaning.{Meaning, of_number}, TableMeaning.{TableMeaning, table_code}}
+use Rattle.std.specs.FinMap as fin
 
 -- two finite maps: from the indices of Subrs, and from the names of glyphs, to the bytes that stand there
 pub record ListingMeaning : Type 0 where

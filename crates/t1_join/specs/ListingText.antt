@@ -1,17 +1,10 @@
 -- The text of a listing: lines `S INDEX HEX` and `G NAME HEX`, each ended by a line feed.
-use Rattle.std.specs.Prelude.{ℕ, ◌+◌, ◌-◌, ◌*◌, ◌==◌, ◌&&◌, not, nat_le, Bool, false, if◌then◌else◌, cond, List, [], ◌∷◌, ◌++◌, length, Option, Some, None}
-use Rattle.std.specs.Prelude.{unwrap_or, Result, Ok, Err, option_and_then, flat_map, slice_index}
-use Rattle.std.specs.Option.{option_map}
-use Rattle.std.specs.Result.{result_ok}
-use Rattle.std.specs.Ordering.{eq_by_cmp}
-use Rattle.std.specs.List.{list_any}
-use Rattle.std.specs.Fmt.{decimal}
-use Rattle.std.specs.FinMap as fin
+use Rattle.std.specs.Prelude.{ℕ, ◌+◌, ◌-◌, ◌*◌, ◌==◌, ◌&&◌, not, nat_le, Bool, false, if◌then◌else◌, cond, List, [], ◌∷◌, ◌++◌, length, Option, Some, None, unwrap_or, Result, Ok, Err}
+use Rattle.std.specs.{Prelude.{option_and_then, flat_map, slice_index}, Option.{option_map}, Result.{result_ok}, Ordering.{eq_by_cmp}, List.{list_any}, Fmt.{decimal}}
 use Rattle.hex.specs.Hex.{decode_of, encode_lower}
-use Rattle.t1_join.specs.declared.listing.ListFault.{ListFault}
-use Rattle.t1_join.specs.declared.listing.ListFault.TheVariants.{BadLine, Repeated}
-use Rattle.t1_join.specs.Meaning.{Meaning, meaning_cmp, of_number}
+use Rattle.t1_join.specs.{declared.listing.ListFault.{ListFault}, declared.listing.ListFault.TheVariants.{BadLine, Repeated}, Meaning.{Meaning, meaning_cmp, of_number}}
 use Rattle.t1_join.specs.ListingMeaning.{ListingMeaning, is_listed_name}
+use Rattle.std.specs.FinMap as fin
 
 -- what a line says: an index or a name, and the bytes that stand there
 pub data ListedEntry : Type 0 where
@@ -87,7 +80,8 @@ same_key (glyph m v) (subr j w) = false
 same_key (glyph m v) (glyph n w) = eq_by_cmp meaning_cmp m n
 
 -- one line, after the entries that were seen, the newest first; `next` reads the lines after it
-abbrev pub read_entry : ℕ → List ListedEntry → Option ListedEntry → (List ListedEntry → Result (List ListedEntry) ListFault) → Result (List ListedEntry) ListFault
+abbrev pub read_entry : ℕ → List ListedEntry → Option ListedEntry → (List ListedEntry → Result (List ListedEntry) ListFault) →
+    Result (List ListedEntry) ListFault
 read_entry n seen None next = Err (BadLine n)
 read_entry n seen (Some e) next = cond (list_any (same_key e) seen) (Err (Repeated n)) (next (e ∷ seen))
 

@@ -1,6 +1,5 @@
 -- Names as they are printed.
-use Rattle.std.specs.Prelude.{ℕ, ◌+◌, ◌/◌, ◌%◌, List, [], ◌∷◌, Bool, nat_lt, nat_le, ◌&&◌, not, if◌then◌else◌, ◌==◌}
-use Rattle.std.specs.List.{flat_map}
+use Rattle.std.specs.{Prelude.{ℕ, ◌+◌, ◌/◌, ◌%◌, List, [], ◌∷◌, Bool, nat_lt, nat_le, ◌&&◌, not, if◌then◌else◌, ◌==◌}, List.{flat_map}}
 
 -- a hexadecimal digit, in lower case
 abbrev pub hex_digit : ℕ → ℕ

@@ -1,12 +1,7 @@
 -- What was read of a listing before its keys are compared.
-use Rattle.std.specs.Prelude.{◌≡◌, List, [], ◌∷◌, ◌++◌}
-use Rattle.std.specs.List.{IsDistinct}
-use Rattle.std.specs.Map.{keys_of}
-use Rattle.std.specs.Ordering.{eq_by_cmp}
+use Rattle.std.specs.{Prelude.{◌≡◌, List, [], ◌∷◌, ◌++◌}, List.{IsDistinct}, Map.{keys_of}, Ordering.{eq_by_cmp}}
+use Rattle.t1_join.specs.{Meaning.{Meaning, meaning_cmp, of_number}, TableMeaning.{TableMeaning}, ListingText.{ListedEntry, subr, glyph}}
 use Rattle.std.specs.FinMap as fin
-use Rattle.t1_join.specs.Meaning.{Meaning, meaning_cmp, of_number}
-use Rattle.t1_join.specs.TableMeaning.{TableMeaning}
-use Rattle.t1_join.specs.ListingText.{ListedEntry, subr, glyph}
 
 -- the entries of Subrs and of glyphs, each in the order of their lines
 pub record Unsorted : Type 0 where

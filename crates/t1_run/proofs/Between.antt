@@ -1,27 +1,15 @@
 -- Turns of a machine: what it does with a token, whatever marks were made before, is a turn of the run after the marks that were.
 use Rattle.std.proofs.Common.{◌≡◌, refl, sym, ap, subst, ◌∙◌, ℕ, zero, suc, ◌+◌, ◌-◌, ◌<◌, Bool, true, List, [], ◌∷◌, ◌++◌, length, ℤ, Option, Some, arith}
-use Rattle.t1_char.specs.declared.token.Token.{Token}
-use Rattle.t1_char.specs.Tokens.{tokens}
-use Rattle.t1_run.specs.declared.frames.Frame.{Frame}
-use Rattle.t1_run.specs.declared.machine.Machine.{Machine}
-use Rattle.t1_run.specs.declared.machine.Flow.{Flow}
-use Rattle.t1_run.specs.declared.machine.Flow.TheVariants as flow
-use Rattle.t1_run.specs.declared.run.Halt.{Halt}
-use Rattle.t1_run.specs.declared.run.Halt.TheVariants as halt
-use Rattle.t1_run.specs.declared.answer.Mark.{Mark}
-use Rattle.t1_run.specs.declared.answer.Fault.{Fault}
-use Rattle.t1_run.specs.declared.answer.Fault.TheVariants.{Unended, TooLong}
-use Rattle.t1_run.specs.declared.answer.Hints.{Hints}
-use Rattle.t1_run.specs.declared.answer.Hints.TheVariants.{Kept}
-use Rattle.t1_run.specs.State.{State, Ending, Failed, start}
-use Rattle.t1_run.specs.Rules.{Step, Goes, Ends}
+use Rattle.t1_char.specs.{declared.token.Token.{Token}, Tokens.{tokens}}
+use Rattle.t1_run.specs.{declared.frames.Frame.{Frame}, declared.machine.Machine.{Machine}, declared.machine.Flow.{Flow}, declared.run.Halt.{Halt}, declared.answer.Mark.{Mark}}
+use Rattle.t1_run.specs.{declared.answer.Fault.{Fault}, declared.answer.Fault.TheVariants.{Unended, TooLong}, declared.answer.Hints.{Hints}, declared.answer.Hints.TheVariants.{Kept}}
+use Rattle.t1_run.specs.{State.{State, Ending, Failed, start}, Rules.{Step, Goes, Ends}}
 use Rattle.t1_run.specs.Run.{Subrs, Outcome, ends, index_taken, index_of, charstring_at, then_run, level_limit, call, with_indices, run_glyph, at_top, marks_after}
-use Rattle.t1_run.specs.Machine.{state_of, step_of, is_one, Spent, SpendsNext, ending_of, Runs}
-use Rattle.t1_run.specs.Frames.{frame_left}
-use Rattle.t1_run.specs.Limits.{EndsWithinLimits, Keeps}
-use Rattle.t1_run.proofs.Limits.{start_within}
-use Rattle.t1_run.proofs.Turns.{Turns, Turn, Ended, begins, turn, runs_out, length_push, on_goes, on_back, on_last, on_end, on_fault, on_call}
+use Rattle.t1_run.specs.{Machine.{state_of, step_of, is_one, Spent, SpendsNext, ending_of, Runs}, Frames.{frame_left}, Limits.{EndsWithinLimits, Keeps}}
+use Rattle.t1_run.proofs.{Limits.{start_within}, Turns.{Turns, Turn, Ended, begins, turn, runs_out, length_push, on_goes, on_back, on_last, on_end, on_fault, on_call}}
 use Rattle.t1_run.proofs.Mirrors.{Mirror, MirrorTurn, mirror_begins, mirror_turn, mirror_out, mirror_goes, mirror_back, mirror_last, mirror_end, mirror_fault, mirror_call}
+use Rattle.t1_run.specs.declared.machine.Flow.TheVariants as flow
+use Rattle.t1_run.specs.declared.run.Halt.TheVariants as halt
 
 -- Between two turns: what is left of the frames, from the state of the machine after the marks so far, which were drawn.
 pub record Between {P : Type 0} (subrs : Subrs) (hints : Hints) (c old : List ℕ) (one : Bool)

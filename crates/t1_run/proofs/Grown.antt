@@ -1,15 +1,10 @@
 -- A run that ends without a fault calls no absent Subr, so more Subrs change nothing of it.
 use Rattle.std.proofs.Common.{◌≡◌, refl, ap, ◌∙◌, ℕ, zero, suc, List, [], ◌∷◌, map, Option, None, Some, option_map}
-use Rattle.t1_char.specs.declared.token.Token.{Token}
-use Rattle.t1_char.specs.Tokens.{tokens}
-use Rattle.t1_run.specs.declared.answer.Accent.{Accent}
-use Rattle.t1_run.specs.declared.answer.Hints.{Hints}
-use Rattle.t1_run.specs.declared.answer.Hints.TheVariants.{Replaced, Kept}
-use Rattle.t1_run.specs.State.{State, Ending, Back, Plain, Seac, Failed, start}
+use Rattle.t1_char.specs.{declared.token.Token.{Token}, Tokens.{tokens}}
+use Rattle.t1_run.specs.{declared.answer.Accent.{Accent}, declared.answer.Hints.{Hints}, declared.answer.Hints.TheVariants.{Replaced, Kept}, State.{State, Ending, Back, Plain, Seac, Failed, start}}
 use Rattle.t1_run.specs.Rules.{Step, Goes, Ends, Calls}
-use Rattle.t1_run.specs.Run.{Subrs, Outcome, index_taken, index_of, charstring_at, enter, call, then_run, resume, follow, after, visiting, deeper, visit, spend, run_with}
-use Rattle.t1_run.specs.Run.{run, level_limit, run_glyph, direct_by, at_top, calls_of, with_indices, exec}
-use Rattle.t1_run.specs.Drawings.{Glyphs, parts_of, picture, picture_at, of_two, accented_picture, outcome_at, draw_by}
+use Rattle.t1_run.specs.Run.{Subrs, Outcome, index_taken, index_of, charstring_at, enter, call, then_run, resume, follow, after, visiting, deeper, visit, spend, run_with, run, level_limit}
+use Rattle.t1_run.specs.{Run.{run_glyph, direct_by, at_top, calls_of, with_indices, exec}, Drawings.{Glyphs, parts_of, picture, picture_at, of_two, accented_picture, outcome_at, draw_by}}
 use Rattle.t1_run.specs.Growth.{Extends, NoFault, IsDrawn, RunsWithMore, DrawsWithMore}
 
 -- the second gives what the first does, wherever that ends without a fault
@@ -53,7 +48,8 @@ run_with_grown hints call call' (t ∷ ts) calls s h =
 module _ (f g : Subrs) (more : Extends f g) where
   -- what is there is there in g, and a run of what isn't is a fault
   enter_grown : (i : Option ℕ) (o : Option (List ℕ)) → charstring_at f i ≡ o → (inner inner' : List Token → State → Outcome) →
-      ((ts : List Token) → GrowsFrom (inner ts) (inner' ts)) → (s : State) → NoFault (enter o inner s).ending → enter (charstring_at g i) inner' s ≡ enter o inner s
+      ((ts : List Token) → GrowsFrom (inner ts) (inner' ts)) → (s : State) → NoFault (enter o inner s).ending →
+      enter (charstring_at g i) inner' s ≡ enter o inner s
   enter_grown i None is inner inner' same s h = absurd h
   enter_grown None (Some c) is inner inner' same s h = cc
   enter_grown (Some i) (Some c) is inner inner' same s h = ap (λ (o : Option (List ℕ)). enter o inner' s) (more i c is) ∙ same (tokens c) s h

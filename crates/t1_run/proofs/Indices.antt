@@ -1,14 +1,9 @@
 -- Indices that come to a set: those that are in it already change nothing.
 use Rattle.std.proofs.Common.{◌≡◌, refl, sym, ap, subst, ◌∙◌, ℕ, List, [], ◌∷◌, ◌++◌, append_assoc, ◌⊎◌, inl, inr, ◌<◌, ◌≤◌, ◌+◌, ◌==◌, Bool, true, false, cond, eqb-true, arith}
-use Rattle.std.proofs.lemmas.List.{append-nil}
-use Rattle.std.specs.declared.cmp.Ordering.{Ordering}
-use Rattle.std.specs.declared.cmp.Ordering.TheVariants.{Less, Equal, Greater}
-use Rattle.std.proofs.lemmas.List.Sums.{sum_by-cons}
-use Rattle.std.specs.Cmp.{ranked}
-use Rattle.std.specs.BTreeSet.{insert_key}
+use Rattle.std.proofs.{lemmas.List.{append-nil}, lemmas.List.Sums.{sum_by-cons}}
+use Rattle.std.specs.{declared.cmp.Ordering.{Ordering}, declared.cmp.Ordering.TheVariants.{Less, Equal, Greater}, Cmp.{ranked}, BTreeSet.{insert_key}}
 use Rattle.std.specs.Ordering.{nat_cmp, match_ordering, MatchOrdering}
-use Rattle.t1_run.specs.Run.{with_indices, AddsFirst}
-use Rattle.t1_run.specs.Called.{is_in, times, AreListed}
+use Rattle.t1_run.specs.{Run.{with_indices, AddsFirst}, Called.{is_in, times, AreListed}}
 
 -- indices are put into a set one list after the other
 pub with_indices-append : (set is js : List ℕ) → with_indices set (is ++ js) ≡ with_indices (with_indices set is) js

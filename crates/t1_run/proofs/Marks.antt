@@ -1,16 +1,10 @@
 -- The marks that a run makes up to its end: where it goes back, or ends a plain glyph, they are those that it ends with.
 use Rattle.std.proofs.Common.{◌≡◌, refl, sym, ap, subst, ◌∙◌, ℕ, zero, suc, List, [], ◌∷◌, ◌++◌, map, Option, None, Some}
-use Rattle.t1_char.specs.declared.token.Token.{Token}
-use Rattle.t1_char.specs.Tokens.{tokens}
-use Rattle.t1_run.specs.declared.answer.Fault.TheVariants.{TooLong}
-use Rattle.t1_run.specs.declared.answer.Hints.{Hints}
-use Rattle.t1_run.specs.declared.answer.Mark.{Mark}
-use Rattle.t1_run.specs.State.{State, Ending, Back, Plain, Seac, Failed, start}
+use Rattle.t1_char.specs.{declared.token.Token.{Token}, Tokens.{tokens}}
+use Rattle.t1_run.specs.{declared.answer.Fault.TheVariants.{TooLong}, declared.answer.Hints.{Hints}, declared.answer.Mark.{Mark}, State.{State, Ending, Back, Plain, Seac, Failed, start}}
 use Rattle.t1_run.specs.Rules.{Step, Goes, Ends, Calls}
-use Rattle.t1_run.specs.Run.{Subrs, Visit, Outcome, one_deeper, deeper, visiting, marks_after, visit, then_run, resume, follow, spend, index_of, charstring_at, enter}
-use Rattle.t1_run.specs.Run.{run_with, call, level_limit, run_glyph, marks_by, at_top}
-use Rattle.t1_run.specs.Drawings.{marks_of, IsPlain}
-use Rattle.t1_run.specs.Laws.{MakesItsMarks}
+use Rattle.t1_run.specs.Run.{Subrs, Visit, Outcome, one_deeper, deeper, visiting, marks_after, visit, then_run, resume, follow, spend, index_of, charstring_at, enter, run_with, call, level_limit}
+use Rattle.t1_run.specs.{Run.{run_glyph, marks_by, at_top}, Drawings.{marks_of, IsPlain}, Laws.{MakesItsMarks}}
 use Rattle.t1_run.proofs.Resumed.{marks_by-append}
 
 -- an ending that has marks has these

@@ -1,16 +1,9 @@
 -- Runs where hints are replaced and where they are kept: one turn after the other they are one run, as long as no token tells them apart.
 use Rattle.std.proofs.Common.{◌≡◌, refl, sym, ap, ◌∙◌, ℕ, zero, suc, ◌+◌, ◌<◌, Bool, true, List, [], ◌∷◌, ◌++◌, length, ℤ, Option, Some, arith}
-use Rattle.t1_char.specs.declared.token.Token.{Token}
-use Rattle.t1_char.specs.Tokens.{tokens}
-use Rattle.t1_run.specs.declared.frames.Frame.{Frame}
-use Rattle.t1_run.specs.declared.answer.Fault.{Fault}
-use Rattle.t1_run.specs.declared.answer.Hints.{Hints}
-use Rattle.t1_run.specs.State.{State, Ending, Back, Failed}
-use Rattle.t1_run.specs.Rules.{Step, Goes, Ends, Calls}
-use Rattle.t1_run.specs.Run.{Subrs, Visit, Outcome, ends, after, visiting, index_taken, index_of, charstring_at, then_run, spend, run, level_limit, call}
-use Rattle.t1_run.specs.Frames.{frame_left, lists_of, run_frames}
-use Rattle.t1_run.proofs.Resumed.{resume_nothing}
-use Rattle.t1_run.proofs.Turns.{seen, call_on, none_left, token_goes, token_ends, token_calls, call_fails, call_enters, lists_push, length_push}
+use Rattle.t1_char.specs.{declared.token.Token.{Token}, Tokens.{tokens}}
+use Rattle.t1_run.specs.{declared.frames.Frame.{Frame}, declared.answer.Fault.{Fault}, declared.answer.Hints.{Hints}, State.{State, Ending, Back, Failed}, Rules.{Step, Goes, Ends, Calls}}
+use Rattle.t1_run.specs.{Run.{Subrs, Visit, Outcome, ends, after, visiting, index_taken, index_of, charstring_at, then_run, spend, run, level_limit, call}, Frames.{frame_left, lists_of, run_frames}}
+use Rattle.t1_run.proofs.{Resumed.{resume_nothing}, Turns.{seen, call_on, none_left, token_goes, token_ends, token_calls, call_fails, call_enters, lists_push, length_push}}
 
 -- Between two turns: where nothing told the runs apart so far, they are one run if what is left of them is.
 pub record Mirror (whole whole' : Outcome) (subrs : Subrs) (hints other : Hints) (one : Bool) (frames : List Frame) (s : State) : Type 0 where
@@ -129,10 +122,12 @@ module _ {whole whole' : Outcome} {subrs : Subrs} {hints other : Hints} {one : B
     same_levels : in_turn.levels ≡ levels
     same_levels = omega (arith, in_turn.depth, room, length_push callers rest f pushed)
 
-    calls_by : (h : Hints) → Calls i s' ≡ spend h t s → lists_by h ≡ visiting visits (after (index_taken index) (call_on subrs h levels (lists_of callers) index s'))
+    calls_by : (h : Hints) → Calls i s' ≡ spend h t s →
+        lists_by h ≡ visiting visits (after (index_taken index) (call_on subrs h levels (lists_of callers) index s'))
     calls_by h e =
         token_calls subrs h in_turn.levels (lists_of rest) t (frame_left f) s s' i e
-        ∙ ap (λ (index : Option ℕ). visiting visits (after (index_taken index) (call_on subrs h in_turn.levels (frame_left f ∷ lists_of rest) index s'))) (sym is)
+        ∙ ap (λ (index : Option ℕ). visiting visits (after (index_taken index) (call_on subrs h in_turn.levels (frame_left f ∷ lists_of rest) index s')))
+        (sym is)
         ∙ ap (λ (lists : List (List Token)). visiting visits (after (index_taken index) (call_on subrs h in_turn.levels lists index s')))
         (sym (lists_push callers rest f pushed))
         ∙ ap (λ n. visiting visits (after (index_taken index) (call_on subrs h n (lists_of callers) index s'))) same_levels
@@ -147,7 +142,8 @@ module _ {whole whole' : Outcome} {subrs : Subrs} {hints other : Hints} {one : B
   -- a Subr is called: its frame is on top
   pub mirror_call : (s' : State) (i : ℤ) (index : Option ℕ) (callers frames : List Frame) (levels : ℕ) (c : List ℕ) (g : Frame) → Calls i s' ≡ spend hints t s →
       Stays other one one' t s (Calls i s') → index ≡ index_of i → callers ≡ rest ++ f ∷ [] → levels + length callers ≡ suc level_limit →
-      frames ≡ callers ++ g ∷ [] → (0 < levels) × (charstring_at subrs index ≡ Some c) → frame_left g ≡ tokens c → Mirror whole whole' subrs hints other one' frames s'
+      frames ≡ callers ++ g ∷ [] → (0 < levels) × (charstring_at subrs index ≡ Some c) → frame_left g ≡ tokens c →
+      Mirror whole whole' subrs hints other one' frames s'
   mirror_call s' i index callers frames zero c g e stays is pushed room entered enters all = absurd (omega (arith, enters.0))
   mirror_call s' i index callers frames (suc levels) c g e stays is pushed room entered enters all =
       let lists : lists_of frames ≡ tokens c ∷ lists_of callers = lists_push frames callers g entered ∙ ap (λ (ts : List Token). ts ∷ lists_of callers) all in

@@ -1,8 +1,6 @@
 -- What pens made of marks.
-use Rattle.std.proofs.Common.{◌≡◌, refl, sym, ap, ◌∙◌, List, [], ◌∷◌, ◌++◌, append_assoc}
-use Rattle.std.proofs.lemmas.List.{append-nil}
-use Rattle.t1_run.specs.declared.answer.Mark.{Mark}
-use Rattle.t1_run.specs.Pens.{drawn_on, Draws, with_mark}
+use Rattle.std.proofs.{Common.{◌≡◌, refl, sym, ap, ◌∙◌, List, [], ◌∷◌, ◌++◌, append_assoc}, lemmas.List.{append-nil}}
+use Rattle.t1_run.specs.{declared.answer.Mark.{Mark}, Pens.{drawn_on, Draws, with_mark}}
 
 -- the marks of two lists, one list after the other
 drawn_on-append : {Page : Type 0} (marked : Page → Mark → Page) (page : Page) (xs ys : List Mark) →

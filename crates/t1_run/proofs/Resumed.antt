@@ -1,9 +1,6 @@
 -- Runs that are resumed after others, and runs that are deeper in calls.
-use Rattle.std.proofs.Common.{◌≡◌, refl, ap, ◌∙◌, ℕ, zero, suc, List, [], ◌∷◌, ◌++◌, map, append_assoc}
-use Rattle.std.proofs.lemmas.List.{map-append, append-nil}
-use Rattle.t1_run.specs.State.{State, Ending, Back, Plain, Seac, Failed}
-use Rattle.t1_run.specs.declared.answer.Mark.{Mark}
-use Rattle.t1_run.specs.Run.{Visit, Outcome, ends, after, visiting, one_deeper, deeper, then_run, resume, marks_by}
+use Rattle.std.proofs.{Common.{◌≡◌, refl, ap, ◌∙◌, ℕ, zero, suc, List, [], ◌∷◌, ◌++◌, map, append_assoc}, lemmas.List.{map-append, append-nil}}
+use Rattle.t1_run.specs.{State.{State, Ending, Back, Plain, Seac, Failed}, declared.answer.Mark.{Mark}, Run.{Visit, Outcome, ends, after, visiting, one_deeper, deeper, then_run, resume, marks_by}}
 use Rattle.t1_run.specs.Frames.{deeper_by}
 
 -- ---- resumed runs

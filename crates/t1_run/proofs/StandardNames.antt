@@ -1,10 +1,7 @@
 -- The name that runs of names have for a code.
-use Rattle.std.proofs.Common.{◌≡◌, ◌-◌, ◌∙◌, ◌+◌, ◌<◌, ℕ, sym, Bor, slice_index_or, drop, refl, ap, List, [], ◌∷◌, length, Bool, true, false, Option, None, map}
-use Rattle.std.proofs.Common.{nat_le, nat_lt, slice_get, if◌then◌else◌}
-use Rattle.std.proofs.lemmas.Option.{slice_get-get_or, slice_get_past}
+use Rattle.std.proofs.Common.{◌≡◌, ◌-◌, ◌∙◌, ◌+◌, ◌<◌, ℕ, sym, Bor, slice_index_or, drop, refl, ap, List, [], ◌∷◌, length, Bool, true, false, Option, None, map, nat_le, nat_lt, slice_get}
+use Rattle.std.proofs.{Common.{if◌then◌else◌}, lemmas.Option.{slice_get-get_or, slice_get_past}, lemmas.Bool.{ltb-true, ltb-false}, lemmas.List.{at_drop_more}}
 use Rattle.std.specs.Option.{option_or}
-use Rattle.std.proofs.lemmas.Bool.{ltb-true, ltb-false}
-use Rattle.std.proofs.lemmas.List.{at_drop_more}
 use Rattle.t1_run.specs.Standard.{named_in}
 
 -- A run's name for a code, from its first code upwards.

@@ -1,22 +1,14 @@
 -- One turn of a run: the next token of the frame on top, and what it makes of the frames.
 use Rattle.std.proofs.Common.{◌≡◌, refl, sym, ap, subst, ◌∙◌, ℕ, zero, suc, ◌+◌, ◌-◌, ◌<◌, List, [], ◌∷◌, ◌++◌, map, length, take, length-append, append_assoc, reverse, ℤ, Option, Some, arith}
 use Rattle.std.proofs.lemmas.List.{map-append, append-nil, reverse-append, take_at}
-use Rattle.t1_char.specs.declared.token.Token.{Token}
-use Rattle.t1_char.specs.Tokens.{tokens}
-use Rattle.t1_run.specs.declared.frames.Frame.{Frame}
-use Rattle.t1_run.specs.declared.answer.Fault.{Fault}
-use Rattle.t1_run.specs.declared.answer.Fault.TheVariants.{Unended, TooLong}
-use Rattle.t1_run.specs.declared.answer.Mark.{Mark}
-use Rattle.t1_run.specs.declared.answer.Hints.{Hints}
-use Rattle.t1_run.specs.State.{State, Ending, Back, Failed}
-use Rattle.t1_run.specs.Rules.{Step, Goes, Ends, Calls}
-use Rattle.t1_run.specs.Run.{Subrs, Visit, Outcome, ends, after, visiting, deeper, visit, index_taken, index_of, charstring_at, enter, then_run, resume, follow, spend, run}
-use Rattle.t1_run.specs.Run.{level_limit, call, with_indices, marks_after, marks_by}
-use Rattle.t1_run.specs.Frames.{frame_left, lists_of, deeper_by, run_frames}
-use Rattle.t1_run.specs.Limits.{IsWithinLimits}
+use Rattle.t1_char.specs.{declared.token.Token.{Token}, Tokens.{tokens}}
+use Rattle.t1_run.specs.{declared.frames.Frame.{Frame}, declared.answer.Fault.{Fault}, declared.answer.Fault.TheVariants.{Unended, TooLong}, declared.answer.Mark.{Mark}, declared.answer.Hints.{Hints}}
+use Rattle.t1_run.specs.{State.{State, Ending, Back, Failed}, Rules.{Step, Goes, Ends, Calls}}
+use Rattle.t1_run.specs.Run.{Subrs, Visit, Outcome, ends, after, visiting, deeper, visit, index_taken, index_of, charstring_at, enter, then_run, resume, follow, spend, run, level_limit, call}
+use Rattle.t1_run.specs.{Run.{with_indices, marks_after, marks_by}, Frames.{frame_left, lists_of, deeper_by, run_frames}, Limits.{IsWithinLimits}}
 use Rattle.t1_run.proofs.Indices.{with_indices-append}
-use Rattle.t1_run.proofs.Resumed.{resume_after, resume_visiting, resume_twice, resume_nothing, deeper_by-resume, deeper_by-ends, deeper_by-after}
-use Rattle.t1_run.proofs.Resumed.{deeper_by-visiting, visits_by, none_by, one_by, marks_by-append}
+use Rattle.t1_run.proofs.Resumed.{resume_after, resume_visiting, resume_twice, resume_nothing, deeper_by-resume, deeper_by-ends, deeper_by-after, deeper_by-visiting, visits_by, none_by, one_by}
+use Rattle.t1_run.proofs.Resumed.{marks_by-append}
 
 -- ---- what the next token of the list on top makes of a run of lists
 
@@ -73,7 +65,8 @@ module _ (subrs : Subrs) (hints : Hints) (levels : ℕ) (below : List (List Toke
         token_steps (Calls i s') e
         ∙ ap (visiting (seen below s (Calls i s')))
         (ap (λ (o : Outcome). resume o below_runs)
-        (deeper_by-after n (index_taken (index_of i)) (resume (deeper called) on) ∙ ap (after (index_taken (index_of i))) (deeper_by-resume n (deeper called) on))
+        (deeper_by-after n (index_taken (index_of i)) (resume (deeper called) on)
+        ∙ ap (after (index_taken (index_of i))) (deeper_by-resume n (deeper called) on))
         ∙ resume_after (index_taken (index_of i)) (resume (deeper_by (suc n) called) (λ s. deeper_by n (on s))) below_runs
         ∙ ap (after (index_taken (index_of i))) (resume_twice (deeper_by (suc n) called) (λ s. deeper_by n (on s)) below_runs))
 
@@ -267,7 +260,8 @@ module _ {whole : Outcome} {old : List ℕ} {subrs : Subrs} {hints : Hints} {res
         let same : in_turn.levels ≡ levels = omega (arith, in_turn.depth, room, length_push callers rest f pushed) in
         let goes : lists_now ≡ visiting visits (after (index_taken index) (call_on subrs hints levels (lists_of callers) index s')) =
         token_calls subrs hints in_turn.levels (lists_of rest) t (frame_left f) s s' i e
-        ∙ ap (λ (index : Option ℕ). visiting visits (after (index_taken index) (call_on subrs hints in_turn.levels (frame_left f ∷ lists_of rest) index s'))) (sym is)
+        ∙ ap (λ (index : Option ℕ). visiting visits (after (index_taken index) (call_on subrs hints in_turn.levels (frame_left f ∷ lists_of rest) index s')))
+        (sym is)
         ∙ ap (λ (lists : List (List Token)). visiting visits (after (index_taken index) (call_on subrs hints in_turn.levels lists index s')))
         (sym (lists_push callers rest f pushed))
         ∙ ap (λ n. visiting visits (after (index_taken index) (call_on subrs hints n (lists_of callers) index s'))) same

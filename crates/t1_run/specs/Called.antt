@@ -1,6 +1,5 @@
 -- Indices that are in a list, told by place.
-use Rattle.std.specs.Prelude.{◌≡◌, ℕ, ◌==◌, Bool, false, List, get_or, if◌then◌else◌}
-use Rattle.std.specs.List.{count_by}
+use Rattle.std.specs.{Prelude.{◌≡◌, ℕ, ◌==◌, Bool, false, List, get_or, if◌then◌else◌}, List.{count_by}}
 
 -- What stands at the place of the index; past the end nothing is in.
 abbrev pub is_in : List Bool → ℕ → Bool

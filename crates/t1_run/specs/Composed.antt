@@ -1,13 +1,8 @@
 -- Glyphs of the code, made of what is kept of their parts.
 use Rattle.std.specs.Prelude.{List, [], ◌∷◌}
-use Rattle.t1_run.specs.declared.answer.Mark.{Mark}
-use Rattle.t1_run.specs.declared.run.Halt.{Halt}
+use Rattle.t1_run.specs.{declared.answer.Mark.{Mark}, declared.run.Halt.{Halt}, declared.composed.Composed.{Composed}, State.{Ending, origin}, Machine.{ending_of}, Drawings.{Picture, Drawn, Undrawn}}
 use Rattle.t1_run.specs.declared.run.Halt.TheVariants as halt
-use Rattle.t1_run.specs.declared.composed.Composed.{Composed}
 use Rattle.t1_run.specs.declared.composed.Composed.TheVariants as composed
-use Rattle.t1_run.specs.State.{Ending, origin}
-use Rattle.t1_run.specs.Machine.{ending_of}
-use Rattle.t1_run.specs.Drawings.{Picture, Drawn, Undrawn}
 
 -- How a run ended, by the marks of what is kept of it.
 abbrev pub own_ending : {T : Type 0} → (T → List Mark) → Halt × T → Ending

@@ -1,9 +1,7 @@
 -- The names of the faults of runs and of drawings, as they are printed.
 use Rattle.std.specs.Prelude.{ℕ, List, codes}
-use Rattle.t1_run.specs.declared.answer.Fault.{Fault}
+use Rattle.t1_run.specs.{declared.answer.Fault.{Fault}, declared.drawings.DrawFault.{DrawFault}, declared.drawings.DrawFault.TheVariants.{Run, NoPart, MissingPart, NestedSeac, PartFault, NoGlyph}}
 use Rattle.t1_run.specs.declared.answer.Fault.TheVariants as run
-use Rattle.t1_run.specs.declared.drawings.DrawFault.{DrawFault}
-use Rattle.t1_run.specs.declared.drawings.DrawFault.TheVariants.{Run, NoPart, MissingPart, NestedSeac, PartFault, NoGlyph}
 
 -- the name of a run's fault
 abbrev pub run_fault_name : Fault → List ℕ

@@ -1,11 +1,7 @@
 -- What the frames of a run stand for: a glyph and the Subrs that are being run (Adobe Type 1 Font Format 1.1, chapter 8).
 use Rattle.std.specs.Prelude.{ℕ, zero, suc, List, [], ◌∷◌, length, map, reverse}
-use Rattle.t1_char.specs.declared.token.Token.{Token}
-use Rattle.t1_char.specs.Tokens.{tokens}
-use Rattle.t1_run.specs.declared.frames.Frame.{Frame}
-use Rattle.t1_run.specs.declared.answer.Hints.{Hints}
-use Rattle.t1_run.specs.State.{State, Back}
-use Rattle.t1_run.specs.Run.{Subrs, Outcome, ends, deeper, resume, run}
+use Rattle.t1_char.specs.{declared.token.Token.{Token}, Tokens.{tokens}}
+use Rattle.t1_run.specs.{declared.frames.Frame.{Frame}, declared.answer.Hints.{Hints}, State.{State, Back}, Run.{Subrs, Outcome, ends, deeper, resume, run}}
 
 -- The tokens that a frame has left.
 abbrev pub frame_left : Frame → List Token

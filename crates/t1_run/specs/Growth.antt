@@ -1,9 +1,6 @@
 -- Laws of fonts that have more than others: what ends without a fault stays as it is.
 use Rattle.std.specs.Prelude.{◌≡◌, ℕ, List, Option, Some}
-use Rattle.t1_run.specs.declared.answer.Hints.{Hints}
-use Rattle.t1_run.specs.State.{Ending, Failed}
-use Rattle.t1_run.specs.Run.{Subrs, direct_by, direct, direct3, calls_of, exec}
-use Rattle.t1_run.specs.Drawings.{Glyphs, Picture, Drawn, Undrawn, draw, draw3}
+use Rattle.t1_run.specs.{declared.answer.Hints.{Hints}, State.{Ending, Failed}, Run.{Subrs, direct_by, direct, direct3, calls_of, exec}, Drawings.{Glyphs, Picture, Drawn, Undrawn, draw, draw3}}
 
 -- All that f has is in g.
 abbrev pub Extends : {K : Type 0} → (K → Option (List ℕ)) → (K → Option (List ℕ)) → Type 0

@@ -1,13 +1,8 @@
 -- The layouts of the code, as pictures in a font.
-use Rattle.std.specs.Prelude.{List, map}
-use Rattle.std.specs.List.{All}
-use Rattle.t1_run.specs.declared.answer.Point.{Point}
-use Rattle.t1_run.specs.declared.answer.Mark.{Mark}
-use Rattle.t1_run.specs.declared.layouts.PlacedPart.{PlacedPart}
-use Rattle.t1_run.specs.declared.layouts.Layout.{Layout}
-use Rattle.t1_run.specs.declared.layouts.Layout.TheVariants as layout
-use Rattle.t1_run.specs.Run.{Subrs, direct}
+use Rattle.std.specs.{Prelude.{List, map}, List.{All}}
+use Rattle.t1_run.specs.{declared.answer.Point.{Point}, declared.answer.Mark.{Mark}, declared.layouts.PlacedPart.{PlacedPart}, declared.layouts.Layout.{Layout}, Run.{Subrs, direct}}
 use Rattle.t1_run.specs.Drawings.{Picture, Drawn, Undrawn, marks_of, IsPlain}
+use Rattle.t1_run.specs.declared.layouts.Layout.TheVariants as layout
 
 -- A part, as its offset and the marks that its charstring draws.
 abbrev pub traced : Subrs → PlacedPart → Point × List Mark

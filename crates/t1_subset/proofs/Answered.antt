@@ -1,18 +1,16 @@
 -- What the calls that merge answer.
 use Rattle.std.proofs.Common.{◌≡◌, inl, inr, List, [], ◌∷◌, map, refl, sym, ◌∙◌, ap, subst, Option, None, Result, Ok, Err, IfOk, IfErr, IsPermutation, nat_eq, Bool, true, ◌⊎◌, length, arith}
-use Rattle.std.specs.List.{AllByRecursion}
 use Rattle.std.proofs.{lemmas.List.Sorted.{IsPermutation-sym}, lemmas.Bool.{eqb-true}}
-use Rattle.t1_join.proofs.OrderLemmas.{leaves_from_left, same_leaves}
-use Rattle.t1_join.specs.Groupings.{Grouping, one, two, from_left, leaves}
+use Rattle.std.specs.List.{AllByRecursion}
+use Rattle.t1_join.{proofs.OrderLemmas.{leaves_from_left, same_leaves}, specs.Groupings.{Grouping, one, two, from_left, leaves}}
 use Rattle.t1_font.specs.{FontValue.{FontValue}, IsFont.{IsFont}}
-use Rattle.t1_algebra.specs.{Interpreter.{Names}, Keep.{subset, IsOf}, Profile.{profile}, Alike.{DrawsAlike}}
-use Rattle.t1_algebra.specs.{States.{Join, joined_font, KeepsLimits}, Conflicts.{Conflict, conflict}, Groupings.{Merges, union_all, folded}}
-use Rattle.t1_algebra.specs.Merges.{DrawsBoth, ComesTo, DrawsAll, MergesToNone}
+use Rattle.t1_algebra.specs.{Interpreter.{Names}, Keep.{subset, IsOf}, Profile.{profile}, Alike.{DrawsAlike}, States.{Join, joined_font, KeepsLimits}, Conflicts.{Conflict, conflict}}
+use Rattle.t1_algebra.specs.{Groupings.{Merges, union_all, folded}, Merges.{DrawsBoth, ComesTo, DrawsAll, MergesToNone}}
 use Rattle.t1_algebra.proofs.{Drawings.{left_alike, right_alike}, Conflicts.{no_conflict, conflict_back}, Fonts.{two_subsets, font_within, fonts_within, any_order_of_fonts}}
 use Rattle.t1_algebra.proofs.Orders.{one_result, any_order, join_self, join_back, accepted_from_pairs, pairs_from_accepted, folded_is, within}
 use Rattle.t1_algebra.proofs.ManyMerges.{left_append, inner, no_tree, each_font, cut_at, all_before, all_of_font, one_subset, all_draw}
 use Rattle.t1_subset.specs.{declared.conflict.Conflict.{Conflict as Refusal}, Refusals.{Tells}}
-use Rattle.t1_subset.specs.{Merger.{StopsAt, NotMerged, MergesSubsets, MergesAllSubsets, IsMerger, MergesItself, AcceptsAllJoin, MergesInAnyOrder}}
+use Rattle.t1_subset.specs.Merger.{StopsAt, NotMerged, MergesSubsets, MergesAllSubsets, IsMerger, MergesItself, AcceptsAllJoin, MergesInAnyOrder}
 use Rattle.t1_subset.specs.declared.conflict.Conflict.TheVariants as refusal
 
 -- if there is no conflict, a refusal tells want of memory

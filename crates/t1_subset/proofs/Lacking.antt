@@ -1,19 +1,12 @@
 -- Searches for a lack, number by number.
 use Rattle.std.proofs.Common.{◌≡◌, ◌<◌, ◌+◌, ℕ, zero, suc, arith, refl, sym, ap, subst, ◌∙◌, Bool, true, false, ◌&&◌, true≢false, nat_cmp, List, [], ◌∷◌, Option, Some, None, is_some, nat_lt}
 use Rattle.std.proofs.lemmas.Bool.{ltb-true, ltb-false}
-use Rattle.std.specs.Option.{option_map}
-use Rattle.std.specs.List.{AllByRecursion, list_any}
-use Rattle.std.specs.Ordering.{eq_by_cmp}
-use Rattle.std.specs.FinMap as maps
+use Rattle.std.specs.{Option.{option_map}, List.{AllByRecursion, list_any}, Ordering.{eq_by_cmp}}
 use Rattle.t1_font.specs.FontValue.{FontValue}
-use Rattle.t1_algebra.specs.Lacks.{first_lack}
-use Rattle.t1_algebra.specs.Interpreter.{same_bytes}
-use Rattle.t1_algebra.proofs.Sets.{tied, name_same}
-use Rattle.t1_algebra.proofs.Words.{nat_list_cmp_total}
-use Rattle.t1_algebra.proofs.rejoining.Lacking.{same_indices_lack_none}
+use Rattle.t1_algebra.specs.{Lacks.{first_lack, first_below}, Interpreter.{same_bytes}, Searches.{found}}
+use Rattle.t1_algebra.proofs.{Sets.{tied, name_same}, Words.{nat_list_cmp_total}, rejoining.Lacking.{same_indices_lack_none}}
 use Rattle.t1_subset.specs.Lacks.{have_same_subrs}
-use Rattle.t1_algebra.specs.Searches.{found}
-use Rattle.t1_algebra.specs.Lacks.{first_below}
+use Rattle.std.specs.FinMap as maps
 
 module _ {X : Type 0} (value : ℕ → Option X) where
   -- nothing is found below one more number if nothing is there

@@ -1,14 +1,8 @@
 -- Fonts that are filled have the callers and the states that they had.
-use Rattle.std.proofs.Common.{◌≡◌, ◌<◌, ◌≤◌, ◌+◌, ℕ, zero, suc, arith, List, [], ◌∷◌, map, drop, length, get_or, refl, ap, sym, ◌∙◌, None}
-use Rattle.std.proofs.lemmas.List.{drop_more, drop_all}
-use Rattle.t1_font.specs.FontValue.{FontValue}
-use Rattle.t1_font.specs.Evening.{filled, indices_of_all}
-use Rattle.t1_algebra.specs.Lacks.{Lack, lack_in, lack_among, first_lack}
-use Rattle.t1_algebra.specs.Searches.{found}
-use Rattle.t1_algebra.proofs.rejoining.FilledStates.{states_same, user_same, seeker_same, unlacking_quiet}
-use Rattle.t1_subset.specs.declared.fault.RejoinFault.{RejoinFault}
-use Rattle.t1_subset.specs.declared.fault.RejoinFault.TheVariants.{Lacks, Merge}
-use Rattle.t1_subset.specs.{Callers.{RunAlike}, Rejoins.{TellsLack}}
+use Rattle.std.proofs.{Common.{◌≡◌, ◌<◌, ◌≤◌, ◌+◌, ℕ, zero, suc, arith, List, [], ◌∷◌, map, drop, length, get_or, refl, ap, sym, ◌∙◌, None}, lemmas.List.{drop_more, drop_all}}
+use Rattle.t1_font.specs.{FontValue.{FontValue}, Evening.{filled, indices_of_all}}
+use Rattle.t1_algebra.{specs.{Lacks.{Lack, lack_in, lack_among, first_lack}, Searches.{found}}, proofs.rejoining.FilledStates.{states_same, user_same, seeker_same, unlacking_quiet}}
+use Rattle.t1_subset.specs.{declared.fault.RejoinFault.{RejoinFault}, declared.fault.RejoinFault.TheVariants.{Lacks, Merge}, Callers.{RunAlike}, Rejoins.{TellsLack}}
 
 -- a font that lacks nothing runs alike once it is filled
 pub filled_alike : (fs : List FontValue) (f : FontValue) → lack_in fs f ≡ None → RunAlike f (filled (indices_of_all fs) f)

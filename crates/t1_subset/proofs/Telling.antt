@@ -1,10 +1,7 @@
 -- Refusals that are added to a list, one for each conflict of a walk.
-use Rattle.std.proofs.Common.{◌≡◌, Bool, true, false, cond, List, [], ◌∷◌, ◌++◌, map, filter, refl, sym, ◌∙◌, ap, subst, append_assoc, Some}
-use Rattle.std.proofs.lemmas.List.{append-nil}
+use Rattle.std.proofs.{Common.{◌≡◌, Bool, true, false, cond, List, [], ◌∷◌, ◌++◌, map, filter, refl, sym, ◌∙◌, ap, subst, append_assoc, Some}, lemmas.List.{append-nil}}
 use Rattle.t1_algebra.specs.Conflicts.{Conflict, OverLimit}
-use Rattle.t1_subset.specs.declared.conflict.Conflict.{Conflict as Refusal}
-use Rattle.t1_subset.specs.declared.conflict.Conflict.TheVariants.{Memory, Limit}
-use Rattle.t1_subset.specs.Refusals.{Tells, TellEach, Adds, AddsOne}
+use Rattle.t1_subset.specs.{declared.conflict.Conflict.{Conflict as Refusal}, declared.conflict.Conflict.TheVariants.{Memory, Limit}, Refusals.{Tells, TellEach, Adds, AddsOne}}
 
 -- a refusal that tells a conflict, behind those that tell others
 pub told_last : (es : List Refusal) (e : Refusal) (cs : List Conflict) (c : Conflict) →

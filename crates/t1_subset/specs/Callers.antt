@@ -1,19 +1,10 @@
 -- Which glyph executes each Subr of a font, and which names each component that the font lacks.
-use Rattle.std.specs.Prelude.{◌≡◌, ◌<◌, ℕ, Bool, true, false, List, [], ◌∷◌, Option, Some, None, map}
-use Rattle.std.specs.List.{AllByRecursion, find}
-use Rattle.std.specs.FinMap as maps
+use Rattle.std.specs.{Prelude.{◌≡◌, ◌<◌, ℕ, Bool, true, false, List, [], ◌∷◌, Option, Some, None, map}, List.{AllByRecursion, find}}
 use Rattle.t1_join.specs.Meaning.{of_number}
-use Rattle.t1_font.specs.FontValue.{FontValue, name_cmp, declared_count, names_in}
-use Rattle.t1_font.specs.IsFont.{IsFont}
-use Rattle.t1_algebra.specs.Interpreter.{same_bytes}
-use Rattle.t1_algebra.specs.Profile.{profile}
-use Rattle.t1_algebra.specs.Conflicts.{wants}
-use Rattle.t1_algebra.specs.Lacks.{user_of}
-use Rattle.t1_algebra.specs.StateTables.{StatesValue, states_of}
-use Rattle.t1_subset.specs.declared.callers.Callers.{Callers}
-use Rattle.t1_subset.specs.Differences.{smaller}
-use Rattle.t1_subset.specs.declared.state_making.Uses.{Uses}
-use Rattle.t1_subset.specs.Users.{noted_at}
+use Rattle.t1_font.specs.{FontValue.{FontValue, name_cmp, declared_count, names_in}, IsFont.{IsFont}}
+use Rattle.t1_algebra.specs.{Interpreter.{same_bytes}, Profile.{profile}, Conflicts.{wants}, Lacks.{user_of}, StateTables.{StatesValue, states_of}}
+use Rattle.t1_subset.specs.{declared.callers.Callers.{Callers}, Differences.{smaller}, declared.state_making.Uses.{Uses}, Users.{noted_at}}
+use Rattle.std.specs.FinMap as maps
 
 -- the smallest glyph of the font that names this component, if the font lacks it
 abbrev pub seeker_of : FontValue → List ℕ → Option (List ℕ)

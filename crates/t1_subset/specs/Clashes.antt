@@ -1,14 +1,9 @@
 -- The callers and the states of two fonts.
 use Rattle.std.specs.Prelude.{◌≡◌, ℕ, true, List, None}
+use Rattle.t1_font.specs.{FontValue.{FontValue}, IsFont.{IsFont}}
+use Rattle.t1_algebra.specs.{Profile.{profile}, StateTables.{StatesValue, states_of}, Conflicts.{wanted_by, used_by, glyphs_of_both}, Searches.{smallest}}
+use Rattle.t1_subset.specs.{declared.callers.Callers.{Callers}, Callers.{user_from, seeker_from}}
 use Rattle.std.specs.FinMap as maps
-use Rattle.t1_font.specs.FontValue.{FontValue}
-use Rattle.t1_font.specs.IsFont.{IsFont}
-use Rattle.t1_algebra.specs.Profile.{profile}
-use Rattle.t1_algebra.specs.StateTables.{StatesValue, states_of}
-use Rattle.t1_algebra.specs.Conflicts.{wanted_by, used_by, glyphs_of_both}
-use Rattle.t1_algebra.specs.Searches.{smallest}
-use Rattle.t1_subset.specs.declared.callers.Callers.{Callers}
-use Rattle.t1_subset.specs.Callers.{user_from, seeker_from}
 
 -- the smallest callers in the list are the smallest of both fonts
 pub record AreCallers (cs : List Callers) (f g : FontValue) : Type 0 where

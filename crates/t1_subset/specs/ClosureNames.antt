@@ -1,7 +1,5 @@
 -- The names of a closure: a list of names without repeats.
-use Rattle.std.specs.Prelude.{ℕ, cond, List, [], ◌∷◌, ◌++◌}
-use Rattle.std.specs.Coded.{Coded, coded_list, coded_ℕ}
-use Rattle.std.specs.List.{list_any}
+use Rattle.std.specs.{Prelude.{ℕ, cond, List, [], ◌∷◌, ◌++◌}, Coded.{Coded, coded_list, coded_ℕ}, List.{list_any}}
 use Rattle.t1_algebra.specs.Interpreter.{same_bytes}
 
 -- the list with the name added at its end, unless it is there already

@@ -1,14 +1,9 @@
 -- What the code's values mean when it compares two fonts.
-use Rattle.std.specs.Prelude.{ℕ, Bool, not, ◌&&◌, cond, List, Option, Some, None}
-use Rattle.std.specs.Global.{Vec}
-use Rattle.std.specs.FinMap as maps
-use Rattle.std.specs.declared.cmp.Ordering.{Ordering}
-use Rattle.std.specs.Ordering.{is_lt}
-use Rattle.t1_join.specs.Meaning.{Meaning}
-use Rattle.t1_join.specs.TableMeaning.{TableMeaning}
-use Rattle.t1_algebra.specs.States.{is_stub}
-use Rattle.t1_algebra.specs.Shared.{ShellPart, Head, EncodingPart, ClearTail, Private, SubrsTable, SubrsWords, Middle, GlyphsWords, Tail}
+use Rattle.std.specs.{Prelude.{ℕ, Bool, not, ◌&&◌, cond, List, Option, Some, None}, Global.{Vec}, declared.cmp.Ordering.{Ordering}, Ordering.{is_lt}}
+use Rattle.t1_join.specs.{Meaning.{Meaning}, TableMeaning.{TableMeaning}}
+use Rattle.t1_algebra.specs.{States.{is_stub}, Shared.{ShellPart, Head, EncodingPart, ClearTail, Private, SubrsTable, SubrsWords, Middle, GlyphsWords, Tail}}
 use Rattle.t1_subset.specs.declared.conflict.ShellPart.{ShellPart as Part}
+use Rattle.std.specs.FinMap as maps
 use Rattle.t1_subset.specs.declared.conflict.ShellPart.TheVariants as part
 
 -- the part of the shell that a variant in code stands for

@@ -1,15 +1,10 @@
 -- The printed texts of the refusals.
-use Rattle.std.specs.Prelude.{ℕ, Option, Some, None, List, [], ◌++◌, codes}
-use Rattle.std.specs.Fmt.{decimal}
-use Rattle.std.specs.Global.{Vec}
+use Rattle.std.specs.{Prelude.{ℕ, Option, Some, None, List, [], ◌++◌, codes}, Fmt.{decimal}, Global.{Vec}}
 use Rattle.t1_join.specs.Shown.{shown}
-use Rattle.t1_subset.specs.declared.conflict.ShellPart.{ShellPart}
+use Rattle.t1_subset.specs.{declared.conflict.ShellPart.{ShellPart}, declared.conflict.Conflict.{Conflict}, declared.fault.SubsetFault.{SubsetFault}, declared.fault.RejoinFault.{RejoinFault}}
 use Rattle.t1_subset.specs.declared.conflict.ShellPart.TheVariants as part
-use Rattle.t1_subset.specs.declared.conflict.Conflict.{Conflict}
 use Rattle.t1_subset.specs.declared.conflict.Conflict.TheVariants as conflict
-use Rattle.t1_subset.specs.declared.fault.SubsetFault.{SubsetFault}
 use Rattle.t1_subset.specs.declared.fault.SubsetFault.TheVariants as fault
-use Rattle.t1_subset.specs.declared.fault.RejoinFault.{RejoinFault}
 use Rattle.t1_subset.specs.declared.fault.RejoinFault.TheVariants as rejoin
 
 -- what is printed of a part of a shell

@@ -1,11 +1,9 @@
 -- What the search for a lacking Subr says in code.
-use Rattle.std.specs.Prelude.{Bool, List}
-use Rattle.std.specs.List.{list_all}
-use Rattle.std.specs.FinMap as maps
+use Rattle.std.specs.{Prelude.{Bool, List}, List.{list_all}}
 use Rattle.t1_font.specs.FontValue.{FontValue}
-use Rattle.t1_algebra.specs.Interpreter.{same_bytes}
-use Rattle.t1_algebra.specs.Lacks.{Lack}
+use Rattle.t1_algebra.specs.{Interpreter.{same_bytes}, Lacks.{Lack}}
 use Rattle.t1_subset.specs.declared.lacks.Lack.{Lack as LackInCode}
+use Rattle.std.specs.FinMap as maps
 
 -- what it says
 abbrev pub lack_view : LackInCode → Lack

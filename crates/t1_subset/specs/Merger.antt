@@ -1,20 +1,11 @@
 -- What the calls that merge answer.
-use Rattle.std.specs.Prelude.{◌≡◌, ◌⊎◌, List, [], ◌∷◌, ◌++◌, map, None, Result, MatchResult, IsPermutation}
-use Rattle.std.specs.FinSet as sets
-use Rattle.std.specs.List.{AllByRecursion}
+use Rattle.std.specs.{Prelude.{◌≡◌, ◌⊎◌, List, [], ◌∷◌, ◌++◌, map, None, Result, MatchResult, IsPermutation}, List.{AllByRecursion}}
 use Rattle.t1_join.specs.Groupings.{Grouping, one, leaves, from_left}
-use Rattle.t1_font.specs.FontValue.{FontValue}
-use Rattle.t1_font.specs.IsFont.{IsFont}
-use Rattle.t1_algebra.specs.Interpreter.{Names}
-use Rattle.t1_algebra.specs.Keep.{subset, IsOf}
-use Rattle.t1_algebra.specs.Profile.{profile}
-use Rattle.t1_algebra.specs.States.{Join, joined_font}
-use Rattle.t1_algebra.specs.Conflicts.{shell_conflict, conflict}
-use Rattle.t1_algebra.specs.Groupings.{Merges, union_all}
+use Rattle.t1_font.specs.{FontValue.{FontValue}, IsFont.{IsFont}}
+use Rattle.t1_algebra.specs.{Interpreter.{Names}, Keep.{subset, IsOf}, Profile.{profile}, States.{Join, joined_font}, Conflicts.{shell_conflict, conflict}, Groupings.{Merges, union_all}}
 use Rattle.t1_algebra.specs.Merges.{AllJoin, MergesTo, MergesToNone}
-use Rattle.t1_subset.specs.declared.conflict.Conflict.{Conflict as Refusal}
-use Rattle.t1_subset.specs.declared.conflict.Conflict.TheVariants.{Memory, Empty}
-use Rattle.t1_subset.specs.Refusals.{Tells}
+use Rattle.t1_subset.specs.{declared.conflict.Conflict.{Conflict as Refusal}, declared.conflict.Conflict.TheVariants.{Memory, Empty}, Refusals.{Tells}}
+use Rattle.std.specs.FinSet as sets
 
 -- the fonts join and this is their join, or their lowest conflict is told, or a growth was refused
 abbrev pub IsMerger : FontValue → FontValue → Result FontValue Refusal → Type 0

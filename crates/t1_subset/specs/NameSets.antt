@@ -1,10 +1,7 @@
 -- Names in memory, as lists and as sets.
-use Rattle.std.specs.Prelude.{ℕ, List, map}
-use Rattle.std.specs.Borrow.{Bor}
-use Rattle.std.specs.Global.{Vec}
-use Rattle.std.specs.Coded.{Coded, coded_list, coded_ℕ}
-use Rattle.std.specs.FinSet as sets
+use Rattle.std.specs.{Prelude.{ℕ, List, map}, Borrow.{Bor}, Global.{Vec}, Coded.{Coded, coded_list, coded_ℕ}}
 use Rattle.t1_algebra.specs.Interpreter.{Names}
+use Rattle.std.specs.FinSet as sets
 
 -- the names of a list, as bytes
 abbrev pub listed_names : List (Vec ℕ) → List (List ℕ)

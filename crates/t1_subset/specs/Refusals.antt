@@ -1,12 +1,9 @@
 -- What the refusals say.
-use Rattle.std.specs.Prelude.{◌≡◌, ℕ, List, [], ◌∷◌, ◌++◌, Option, Some}
-use Rattle.std.specs.Option.{option_map}
+use Rattle.std.specs.{Prelude.{◌≡◌, ℕ, List, [], ◌∷◌, ◌++◌, Option, Some}, Option.{option_map}}
 use Rattle.t1_algebra.specs.Conflicts.{Conflict, ShellDiffers, CodeDiffers, GlyphDiffers, LacksComponent, SubrDiffers, OverLimit}
-use Rattle.t1_subset.specs.declared.fault.SubsetFault.{SubsetFault}
-use Rattle.t1_subset.specs.declared.fault.SubsetFault.TheVariants.{NoSuchGlyph, Memory}
-use Rattle.t1_subset.specs.declared.conflict.Conflict.{Conflict as Refusal}
-use Rattle.t1_subset.specs.declared.conflict.Conflict.TheVariants as refusal
+use Rattle.t1_subset.specs.{declared.fault.SubsetFault.{SubsetFault}, declared.fault.SubsetFault.TheVariants.{NoSuchGlyph, Memory}, declared.conflict.Conflict.{Conflict as Refusal}}
 use Rattle.t1_subset.specs.Differences.{shell_part, vector_bytes}
+use Rattle.t1_subset.specs.declared.conflict.Conflict.TheVariants as refusal
 
 -- the refusal names the first name that is absent; want of memory says nothing
 abbrev pub Absent : SubsetFault → Option (List ℕ) → Type 0

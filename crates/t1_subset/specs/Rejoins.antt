@@ -1,18 +1,9 @@
 -- What fonts rejoin to: each is filled with stubs where it lacks a Subr that another has, and they merge.
-use Rattle.std.specs.Prelude.{◌≡◌, ◌⊎◌, List, Option, Some, None}
-use Rattle.std.specs.Option.{option_map, unwrap_or}
-use Rattle.t1_font.specs.FontValue.{FontValue}
-use Rattle.t1_font.specs.Evening.{filled_all}
-use Rattle.t1_font.specs.Filling.{AreLight, AnyHeavy}
-use Rattle.t1_algebra.specs.Conflicts.{Conflict as FontConflict, ShellDiffers, OverLimit, shells_conflict}
-use Rattle.t1_algebra.specs.Lacks.{Lack, first_lack}
-use Rattle.t1_algebra.specs.Merges.{ComesTo}
-use Rattle.t1_subset.specs.declared.conflict.Conflict.{Conflict}
-use Rattle.t1_subset.specs.declared.conflict.Conflict.TheVariants.{Memory}
-use Rattle.t1_subset.specs.declared.fault.RejoinFault.{RejoinFault}
-use Rattle.t1_subset.specs.declared.fault.RejoinFault.TheVariants.{Lacks, Merge}
-use Rattle.t1_subset.specs.Refusals.{Tells}
-use Rattle.t1_subset.specs.Merger.{NotMerged}
+use Rattle.std.specs.{Prelude.{◌≡◌, ◌⊎◌, List, Option, Some, None}, Option.{option_map, unwrap_or}}
+use Rattle.t1_font.specs.{FontValue.{FontValue}, Evening.{filled_all}, Filling.{AreLight, AnyHeavy}}
+use Rattle.t1_algebra.specs.{Conflicts.{Conflict as FontConflict, ShellDiffers, OverLimit, shells_conflict}, Lacks.{Lack, first_lack}, Merges.{ComesTo}}
+use Rattle.t1_subset.specs.{declared.conflict.Conflict.{Conflict}, declared.conflict.Conflict.TheVariants.{Memory}, declared.fault.RejoinFault.{RejoinFault}}
+use Rattle.t1_subset.specs.{declared.fault.RejoinFault.TheVariants.{Lacks, Merge}, Refusals.{Tells}, Merger.{NotMerged}}
 
 -- why fonts of which one is too heavy once it has its stubs don't merge: their shells differ, or else one is over the limit
 abbrev pub heavy_conflict : List FontValue → FontConflict

@@ -1,7 +1,5 @@
 -- Which glyph executes each Subr of a font, in code.
-use Rattle.std.specs.Prelude.{ℕ, List, Option, None, get_or}
-use Rattle.std.specs.Borrow.{Bor}
-use Rattle.std.specs.Option.{option_map}
+use Rattle.std.specs.{Prelude.{ℕ, List, Option, None, get_or}, Borrow.{Bor}, Option.{option_map}}
 
 -- the name that is noted for the index
 abbrev pub noted_at : List (Option (Bor (List ℕ))) → ℕ → Option (List ℕ)

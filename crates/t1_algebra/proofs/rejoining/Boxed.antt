@@ -1,22 +1,18 @@
 -- Truncated subsets that differ in their boxes, too: with one box they are truncated subsets of the font with that box.
-use Rattle.std.proofs.Common.{◌≡◌, ◌≤◌, ℕ, max, true, List, [], ◌∷◌, map, refl, sym, ◌∙◌, ap, subst, Option, Some, None, option_map, arith, IsPermutation}
-use Rattle.std.specs.Prelude.{◌&&◌}
-use Rattle.std.specs.List.{list_all}
-use Rattle.std.proofs.lemmas.Bool.{and_parts, cond-true}
+use Rattle.std.proofs.{Common.{◌≡◌, ◌≤◌, ℕ, max, true, List, [], ◌∷◌, map, refl, sym, ◌∙◌, ap, subst, Option, Some, None, option_map, arith, IsPermutation}, lemmas.Bool.{and_parts, cond-true}}
 use Rattle.std.proofs.lemmas.Option.{none-some, same_Some}
-use Rattle.std.specs.FinSet as sets
+use Rattle.std.specs.{Prelude.{◌&&◌}, List.{list_all}}
 use Rattle.t1_font.specs.{FontValue.{FontValue, Shell, SubrsShell, declared_count, count_limit}, IsFont.{IsFont, SubrsFit}, EvenTexts.{even_texts}}
 use Rattle.t1_font.specs.Evening.{raised, even, largest_count, each_even, evened_shells, filled_all, evened}
 use Rattle.t1_font.specs.FontBoxes.{Box, Side, joined_box, box_at, side_in, clear_of, texts_with, with_texts, box_of, font_with, can_have, boxes_of, all_with, boxed_by, boxed}
-use Rattle.t1_font.proofs.even_fonts.{Evened.{even_is_font}, EvenTexts.{even_texts_stay}}
+use Rattle.t1_font.proofs.{even_fonts.Evened.{even_is_font}, even_fonts.EvenTexts.{even_texts_stay}}
 use Rattle.t1_font.proofs.even_fonts.Boxes.{BoxBytes, all_bytes, joined_bytes, all_fonts, own_font, even_still, have_it, one_box_stays}
 use Rattle.t1_join.specs.Groupings.{leaves}
-use Rattle.t1_algebra.specs.{Interpreter.{Names}, Keep.{keep, subset}, Profile.{profile}, Lacks.{first_lack}, Merges.{MergesTo}, Alike.{DrawsAlike}}
-use Rattle.t1_algebra.specs.Groupings.{union_all}
-use Rattle.t1_algebra.specs.Rejoins.{declares, cut_to, with_even_texts, SameButBox, Truncated, IsTruncated, truncated_fonts, sets_of, names_of_all, largest}
-use Rattle.t1_algebra.specs.Rejoins.{GetBox, shared_font, rejoined, Rejoins, TruncatedSubsetsRejoin}
-use Rattle.t1_algebra.proofs.Words.{AllByRecursion}
-use Rattle.t1_algebra.proofs.rejoining.{EvenCuts.{IsEvenCut, even_shared, even_rejoined, EvenCutsRejoin}, Rejoined.{rejoins}}
+use Rattle.t1_algebra.specs.{Interpreter.{Names}, Keep.{keep, subset}, Profile.{profile}, Lacks.{first_lack}, Merges.{MergesTo}, Alike.{DrawsAlike}, Groupings.{union_all}}
+use Rattle.t1_algebra.specs.Rejoins.{declares, cut_to, with_even_texts, SameButBox, Truncated, IsTruncated, truncated_fonts, sets_of, names_of_all, largest, GetBox, shared_font, rejoined, Rejoins}
+use Rattle.t1_algebra.specs.Rejoins.{TruncatedSubsetsRejoin}
+use Rattle.t1_algebra.proofs.{Words.{AllByRecursion}, rejoining.EvenCuts.{IsEvenCut, even_shared, even_rejoined, EvenCutsRejoin}, rejoining.Rejoined.{rejoins}}
+use Rattle.std.specs.FinSet as sets
 
 -- ---- the font's own box
 

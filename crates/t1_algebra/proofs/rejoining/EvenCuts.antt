@@ -1,11 +1,11 @@
 -- Truncated subsets that have the font's own box.
 use Rattle.std.specs.Prelude.{◌≡◌, ℕ, ◌≤◌, ◌<◌, true, List, map, None, IsPermutation}
-use Rattle.std.specs.FinMap as maps
-use Rattle.std.specs.FinSet as sets
 use Rattle.t1_join.specs.Groupings.{Grouping, leaves}
 use Rattle.t1_font.specs.{FontValue.{FontValue, declared_count}, IsFont.{IsFont}, Evening.{evened_shells, evened}}
 use Rattle.t1_algebra.specs.{Keep.{keep, kept, subset, IsOf}, Profile.{profile}, Lacks.{first_lack}, Merges.{MergesTo}, Alike.{DrawsAlike}}
 use Rattle.t1_algebra.specs.Rejoins.{cut_to, with_even_texts, Truncated, truncated_fonts, sets_of, names_of_all, largest}
+use Rattle.std.specs.FinMap as maps
+use Rattle.std.specs.FinSet as sets
 
 -- it is the subset of f over names of f, cut to its first Subrs, once the texts of both are made even
 pub record IsEvenCut (f : FontValue) (t : Truncated) : Type 0 where

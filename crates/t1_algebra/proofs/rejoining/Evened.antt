@@ -1,19 +1,16 @@
 -- Fonts that are made even have all the Subrs that they had, so their glyphs stay drawn; of fonts that merge only the texts are made even.
 use Rattle.std.proofs.{Common.{◌≡◌, ◌<◌, ℕ, arith, max, sym, List, [], ◌∷◌, map, refl, ◌∙◌, ap, Option, option_map}, lemmas.Bool.{ltb-true, lt-ltb}}
-use Rattle.std.specs.FinMap as maps
-use Rattle.t1_run.specs.{Run.{Subrs}, Growth.{Extends}}
-use Rattle.t1_run.proofs.Grown.{runs_with_more, draws_with_more}
-use Rattle.t1_join.specs.Groupings.{Grouping, one, two, leaves, map_grouping}
-use Rattle.t1_join.proofs.OrderLemmas.{all_leaves}
-use Rattle.t1_font.specs.{FontValue.{FontValue, SubrsShell, Numbered, declared_count, Shell}, FontModel.{subr_at}}
-use Rattle.t1_font.specs.{EvenTexts.{even_texts}, EveningLaws.{IsEvenWith}}
+use Rattle.t1_run.{specs.{Run.{Subrs}, Growth.{Extends}}, proofs.Grown.{runs_with_more, draws_with_more}}
+use Rattle.t1_join.{specs.Groupings.{Grouping, one, two, leaves, map_grouping}, proofs.OrderLemmas.{all_leaves}}
+use Rattle.t1_font.specs.{FontValue.{FontValue, SubrsShell, Numbered, declared_count, Shell}, FontModel.{subr_at}, EvenTexts.{even_texts}, EveningLaws.{IsEvenWith}}
 use Rattle.t1_font.specs.Evening.{raised, even, stubs_at, with_stubs, filled, largest_count, indices_of_all, each_even, evened_shells, filled_all, evened}
 use Rattle.t1_font.specs.FontBoxes.{Box, joined_box, box_of, font_with, boxed}
-use Rattle.t1_font.proofs.even_fonts.{EvenStays.{even_fonts_stay}, Boxes.{by_cases}, EvenTexts.{even_texts_stay, even_shorter}}
+use Rattle.t1_font.proofs.{even_fonts.EvenStays.{even_fonts_stay}, even_fonts.Boxes.{by_cases}, even_fonts.EvenTexts.{even_texts_stay, even_shorter}}
 use Rattle.t1_algebra.specs.{Evened.{StaysDrawn, map_subrs, AllStayDrawn, EachBeside, EvenedDraw}, Rejoins.{with_even_texts, MergingFontsAreEven}}
 use Rattle.t1_algebra.specs.{States.{Compatible, KeepsLimits, joined_option, joined_font}, Groupings.{Merges}, Profile.{profile}}
-use Rattle.t1_algebra.proofs.rejoining.Lacking.{even_lack_none}
-use Rattle.t1_algebra.proofs.{Words.{AllByRecursion, nat_cmp_total, nat_cmp-IsAntisymmetric}, Maps.{get-merged}, Orders.{Below, above}, Shares.{sharing}, Sets.{cases}}
+use Rattle.t1_algebra.proofs.{rejoining.Lacking.{even_lack_none}, Words.{AllByRecursion, nat_cmp_total, nat_cmp-IsAntisymmetric}, Maps.{get-merged}, Orders.{Below, above}, Shares.{sharing}}
+use Rattle.t1_algebra.proofs.Sets.{cases}
+use Rattle.std.specs.FinMap as maps
 
 -- if a font has the same glyphs and more Subrs, each glyph stays drawn
 stays_drawn : (subrs : FontValue → Subrs) (f j : FontValue) → Extends (subrs f) (subrs j) → j.glyphs ≡ f.glyphs → (n : List ℕ) → StaysDrawn subrs f j n

@@ -1,18 +1,14 @@
 -- A font that is filled has the states that it had, where its glyphs execute nothing that it lacks and gets.
-use Rattle.std.proofs.Common.{◌≡◌, ◌<◌, ℕ, zero, suc, nat_lt, arith, Bool, true, false, not, ◌&&◌, cond, List, [], ◌∷◌, ◌⊎◌, inl, inr, map, flat_map, refl, sym, ◌∙◌, ap, subst}
-use Rattle.std.proofs.Common.{Option, Some, None, is_some, option_map, nat_cmp}
-use Rattle.std.specs.Str.{bytes_eq}
-use Rattle.std.proofs.{lemmas.Bool.{ltb-true, ltb-false}, lemmas.List.Folds.{list_any-append}}
-use Rattle.std.specs.FinSet as sets
-use Rattle.std.specs.FinMap as maps
-use Rattle.std.specs.List.{find}
+use Rattle.std.proofs.Common.{◌≡◌, ◌<◌, ℕ, zero, suc, nat_lt, arith, Bool, true, false, not, ◌&&◌, cond, List, [], ◌∷◌, ◌⊎◌, inl, inr, map, flat_map, refl, sym, ◌∙◌, ap, subst, Option, Some, None}
+use Rattle.std.proofs.{Common.{is_some, option_map, nat_cmp}, lemmas.Bool.{ltb-true, ltb-false}, lemmas.List.Folds.{list_any-append}}
+use Rattle.std.specs.{Str.{bytes_eq}, List.{find}}
 use Rattle.t1_font.specs.{FontValue.{FontValue, declared_count, names_in}, Cut.{stub}, Evening.{stubs_at, below_count, with_stubs, filled, indices_of_all}}
-use Rattle.t1_algebra.specs.{Keep.{has}, Profile.{profile}, Shared.{shared_of}, Conflicts.{wants}}
-use Rattle.t1_algebra.specs.States.{executed_at, executes, named_at, is_called, subr_state, state_of_entry, joined_option}
-use Rattle.t1_algebra.specs.StateTables.{numbered, code_states, used_subrs, names_table, name_meaning, states_of}
-use Rattle.t1_algebra.specs.Lacks.{Lack, user_of, first_below, is_had, lack_at, lack_in}
+use Rattle.t1_algebra.specs.{Keep.{has}, Profile.{profile}, Shared.{shared_of}, Conflicts.{wants}, States.{executed_at, executes, named_at, is_called, subr_state, state_of_entry, joined_option}}
+use Rattle.t1_algebra.specs.{StateTables.{numbered, code_states, used_subrs, names_table, name_meaning, states_of}, Lacks.{Lack, user_of, first_below, is_had, lack_at, lack_in}}
 use Rattle.t1_algebra.proofs.{Words.{list_any, same_bytes, eq_by_cmp, nat_cmp_total, nat_list_cmp_total, nat_cmp-IsAntisymmetric}, Maps.{get-merged, get-valued}}
 use Rattle.t1_algebra.proofs.{Sets.{clash, any_filter, name_same, cases}, Searching.{none_at_all, found_none}, FontStates.{get-used}}
+use Rattle.std.specs.FinSet as sets
+use Rattle.std.specs.FinMap as maps
 
 -- a search finds something where some element passes
 found_any : {X : Type 0} (p : X → Bool) (xs : List X) → is_some (find p xs) ≡ list_any p xs

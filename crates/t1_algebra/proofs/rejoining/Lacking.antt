@@ -1,22 +1,13 @@
 -- Truncated subsets of one font lack no Subr that their glyphs execute and another of them has, and fonts that merge have the same indices.
-use Rattle.std.proofs.Common.{◌≡◌, ℕ, zero, suc, Bool, true, false, not, ◌&&◌, cond, List, [], ◌∷◌, map, refl, ◌∙◌, ap, Option, Some, None, option_map}
-use Rattle.std.proofs.Common.{unwrap_or}
-use Rattle.std.proofs.lemmas.Bool.{lt-ltb}
+use Rattle.std.proofs.{Common.{◌≡◌, ℕ, zero, suc, Bool, true, false, not, ◌&&◌, cond, List, [], ◌∷◌, map, refl, ◌∙◌, ap, Option, Some, None, option_map, unwrap_or}, lemmas.Bool.{lt-ltb}}
+use Rattle.std.specs.List.{find}
+use Rattle.t1_font.specs.{FontValue.{FontValue, declared_count, names_in}, Evening.{even, largest_count, each_even, evened_shells}, EveningLaws.{IsEvenWith}, IsFont.{IsFont}, FontBoxes.{box_of}}
+use Rattle.t1_font.proofs.{MapLemmas.{get-retain}, even_fonts.Boxes.{one_box_stays}}
+use Rattle.t1_algebra.specs.{Keep.{keep, kept}, Profile.{profile}, States.{executes, executed_at}, Searches.{found}, Lacks.{Lack, user_of, first_below, is_had, lack_at, lack_among, first_lack}}
+use Rattle.t1_algebra.specs.Rejoins.{Truncated, with_even_texts, truncated_fonts, largest}
+use Rattle.t1_algebra.proofs.{rejoining.EvenCuts.{IsEvenCut}, Words.{AllByRecursion, nat_list_cmp_total}, Kept.{kept_call}, Sets.{clash, cases, name_same}, rejoining.Truncated.{get_font, shells_are}}
 use Rattle.std.specs.FinMap as maps
 use Rattle.std.specs.FinSet as sets
-use Rattle.std.specs.List.{find}
-use Rattle.t1_font.specs.{FontValue.{FontValue, declared_count, names_in}, Evening.{even, largest_count, each_even, evened_shells}, EveningLaws.{IsEvenWith}}
-use Rattle.t1_font.proofs.MapLemmas.{get-retain}
-use Rattle.t1_algebra.specs.{Keep.{keep, kept}, Profile.{profile}, States.{executes, executed_at}, Searches.{found}}
-use Rattle.t1_algebra.specs.Lacks.{Lack, user_of, first_below, is_had, lack_at, lack_among, first_lack}
-use Rattle.t1_algebra.specs.Rejoins.{Truncated, with_even_texts, truncated_fonts, largest}
-use Rattle.t1_algebra.proofs.rejoining.EvenCuts.{IsEvenCut}
-use Rattle.t1_algebra.proofs.Words.{AllByRecursion, nat_list_cmp_total}
-use Rattle.t1_algebra.proofs.{Kept.{kept_call}, Sets.{clash, cases, name_same}}
-use Rattle.t1_algebra.proofs.rejoining.Truncated.{get_font, shells_are}
-use Rattle.t1_font.specs.IsFont.{IsFont}
-use Rattle.t1_font.specs.FontBoxes.{box_of}
-use Rattle.t1_font.proofs.even_fonts.Boxes.{one_box_stays}
 
 -- ---- where nothing is found
 

@@ -1,21 +1,18 @@
 -- Truncated subsets that are made even merge to the subset over all their names, cut to the largest count and with even texts.
 use Rattle.std.proofs.Common.{◌≡◌, ◌≤◌, ℕ, nat_lt, nat_cmp, true, cond, List, [], ◌∷◌, map, refl, sym, ◌∙◌, ap, subst, Option, Some, None, option_map, unwrap_or, arith, IsPermutation}
 use Rattle.std.proofs.lemmas.Bool.{ltb-true, lt-ltb}
+use Rattle.t1_join.{specs.Groupings.{Grouping, one, leaves, from_left}, proofs.OrderLemmas.{leaves_from_left}}
+use Rattle.t1_font.specs.{FontValue.{FontValue, SubrsShell, Numbered, name_cmp, total, subr_weight, declared_count}, IsFont.{IsFont, IsWord, IsPhrase, SubrsFit, SubrWords}, Evening.{evened}}
+use Rattle.t1_font.specs.EvenTexts.{even_texts}
+use Rattle.t1_font.proofs.{even_fonts.Evened.{even_is_font, even_fit}, MapLemmas.{get-retain, find_first, total-le, Some_None}}
+use Rattle.t1_algebra.specs.{Keep.{keep, kept, subset, IsOf}, Profile.{profile}, Merges.{MergesTo}, Alike.{DrawsAlike}, Rejoins.{declares, Truncated, truncated_fonts, sets_of, names_of_all, largest}}
+use Rattle.t1_algebra.proofs.{rejoining.EvenCuts.{IsEvenCut, even_shared, even_rejoined, EvenCutsRejoin}, Words.{AllByRecursion, nat_cmp_total, nat_list_cmp_total, nat_cmp-IsAntisymmetric, Names}}
+use Rattle.t1_algebra.proofs.{Drawings.{subset_alike, alike}, Fonts.{subset_is_font, any_order_of_fonts}, Kept.{keep_part, keep_more, kept_more, kept_union}}
+use Rattle.t1_algebra.proofs.{ManyMerges.{alike_trans, each_font, all_merge}, Sets.{clash, cases}}
+use Rattle.t1_algebra.proofs.rejoining.Truncated.{WordsOf, words_empty, get_nothing, get_font, largest_fits, all_fit, Fits, cut_subset, evened_is, KeepsBelow, keeps_same, subrs_below, runs_below}
+use Rattle.t1_algebra.proofs.{rejoining.Truncated.{first_of}, rejoining.Lacking.{nothing_lacks}}
 use Rattle.std.specs.FinSet as sets
 use Rattle.std.specs.FinMap as maps
-use Rattle.t1_join.specs.Groupings.{Grouping, one, leaves, from_left}
-use Rattle.t1_join.proofs.OrderLemmas.{leaves_from_left}
-use Rattle.t1_font.specs.{FontValue.{FontValue, SubrsShell, Numbered, name_cmp, total, subr_weight, declared_count}, IsFont.{IsFont, IsWord, IsPhrase, SubrsFit, SubrWords}}
-use Rattle.t1_font.specs.{Evening.{evened}, EvenTexts.{even_texts}}
-use Rattle.t1_font.proofs.{even_fonts.Evened.{even_is_font, even_fit}, MapLemmas.{get-retain, find_first, total-le, Some_None}}
-use Rattle.t1_algebra.specs.{Keep.{keep, kept, subset, IsOf}, Profile.{profile}, Merges.{MergesTo}, Alike.{DrawsAlike}}
-use Rattle.t1_algebra.specs.Rejoins.{declares, Truncated, truncated_fonts, sets_of, names_of_all, largest}
-use Rattle.t1_algebra.proofs.rejoining.EvenCuts.{IsEvenCut, even_shared, even_rejoined, EvenCutsRejoin}
-use Rattle.t1_algebra.proofs.{Words.{AllByRecursion, nat_cmp_total, nat_list_cmp_total, nat_cmp-IsAntisymmetric, Names}, Drawings.{subset_alike, alike}, Fonts.{subset_is_font, any_order_of_fonts}}
-use Rattle.t1_algebra.proofs.{Kept.{keep_part, keep_more, kept_more, kept_union}, ManyMerges.{alike_trans, each_font, all_merge}, Sets.{clash, cases}}
-use Rattle.t1_algebra.proofs.rejoining.Truncated.{WordsOf, words_empty, get_nothing, get_font, largest_fits, all_fit, Fits}
-use Rattle.t1_algebra.proofs.rejoining.Lacking.{nothing_lacks}
-use Rattle.t1_algebra.proofs.rejoining.Truncated.{cut_subset, evened_is, KeepsBelow, keeps_same, subrs_below, runs_below, first_of}
 
 -- ---- tables without entries
 

@@ -1,20 +1,15 @@
 -- Fonts cut to their first Subrs keep and draw what they did, and truncated subsets that are made even are subsets of one font.
-use Rattle.std.proofs.Common.{◌≡◌, ◌<◌, ℕ, nat_lt, true, false, ◌&&◌, cond, List, refl, sym, ◌∙◌, ap, Option, Some, None}
-use Rattle.std.proofs.Common.{is_some, filter, arith, ◌≤◌, max, nat_cmp, Bool, [], ◌∷◌, map, length, subst, option_map}
-use Rattle.std.proofs.{lemmas.Bool.{and_from, lt-ltb, ltb-true, ltb-false}, lemmas.List.Folds.{list_any-append}}
-use Rattle.std.specs.FinSet as sets
-use Rattle.std.specs.FinMap as maps
-use Rattle.t1_font.specs.FontValue.{FontValue, notdef, Shell, SubrsShell, Numbered, declared_count}
-use Rattle.t1_font.proofs.MapLemmas.{get-retain, get-map_values}
-use Rattle.t1_font.specs.{IsFont.{IsFont, SubrsFit, SubrWords}, EvenTexts.{even_texts}, Cut.{stub, restrict_encoding}}
-use Rattle.t1_font.specs.Evening.{raised, even_shell, even, stubs_at, below_count, with_stubs, filled, largest_count, indices_of_all, evened_shells, filled_all, evened}
-use Rattle.t1_font.specs.FontBoxes.{boxed}
-use Rattle.t1_font.proofs.even_fonts.Boxes.{one_shell_stays}
+use Rattle.std.proofs.Common.{◌≡◌, ◌<◌, ℕ, nat_lt, true, false, ◌&&◌, cond, List, refl, sym, ◌∙◌, ap, Option, Some, None, is_some, filter, arith, ◌≤◌, max, nat_cmp, Bool, [], ◌∷◌, map, length}
+use Rattle.std.proofs.{Common.{subst, option_map}, lemmas.Bool.{and_from, lt-ltb, ltb-true, ltb-false}, lemmas.List.Folds.{list_any-append}}
+use Rattle.t1_font.specs.{FontValue.{FontValue, notdef, Shell, SubrsShell, Numbered, declared_count}, IsFont.{IsFont, SubrsFit, SubrWords}, EvenTexts.{even_texts}, Cut.{stub, restrict_encoding}}
+use Rattle.t1_font.specs.{Evening.{raised, even_shell, even, stubs_at, below_count, with_stubs, filled, largest_count, indices_of_all, evened_shells, filled_all, evened}, FontBoxes.{boxed}}
+use Rattle.t1_font.proofs.{MapLemmas.{get-retain, get-map_values}, even_fonts.Boxes.{one_shell_stays}}
 use Rattle.t1_algebra.specs.{Keep.{keep, kept, has, charstring, subset, IsOf}, Profile.{profile}, States.{joined_option}}
 use Rattle.t1_algebra.specs.Rejoins.{cut_to, with_even_texts, declares, Truncated, truncated_fonts, sets_of, largest}
-use Rattle.t1_algebra.proofs.rejoining.EvenCuts.{IsEvenCut, even_shared}
-use Rattle.t1_algebra.proofs.{Words.{list_any, AllByRecursion, eq_by_cmp, nat_cmp_total, nat_cmp-IsAntisymmetric, Interpreter, Names}, Kept.{keep_has, kept_call, keeps_alike}}
-use Rattle.t1_algebra.proofs.{Sets.{clash, any_filtered, cases}, Maps.{get-merged, get-valued}}
+use Rattle.t1_algebra.proofs.{rejoining.EvenCuts.{IsEvenCut, even_shared}, Words.{list_any, AllByRecursion, eq_by_cmp, nat_cmp_total, nat_cmp-IsAntisymmetric, Interpreter, Names}}
+use Rattle.t1_algebra.proofs.{Kept.{keep_has, kept_call, keeps_alike}, Sets.{clash, any_filtered, cases}, Maps.{get-merged, get-valued}}
+use Rattle.std.specs.FinSet as sets
+use Rattle.std.specs.FinMap as maps
 
 -- the font with even texts, cut to its first Subrs
 abbrev pub first_of : ℕ → FontValue → FontValue

@@ -1,40 +1,21 @@
 -- Worked rows of what is kept, of the states of fonts and of conflicts: definitions over sets and maps, computed over lists.
-use Rattle.std.proofs.Common.{◌≡◌, ℕ, Bool, true, not, ◌&&◌, ◌||◌, T, List, [], ◌∷◌, ◌++◌, map, filter, flat_map, refl}
-use Rattle.std.proofs.Common.{sym, ◌∙◌, ap, Ordering, Option, None, is_some, unwrap_or, false, cond, Some, option_map}
-use Rattle.std.specs.Prelude.{codes}
-use Rattle.std.specs.List.{list_any, list_all}
-use Rattle.std.specs.Ordering.{eq_by_cmp, nat_cmp}
-use Rattle.std.specs.Cmp.{IsTotalOrder, both_ways, nat_cmp_total}
-use Rattle.std.specs.Cmp.Lexicographic.{nat_list_cmp_total}
-use Rattle.std.specs.FinMap.{find, is_sorted}
-use Rattle.std.specs.FinSet.{FinSet, IsAntisymmetric, nat_cmp-IsAntisymmetric}
-use Rattle.std.proofs.lemmas.List.Folds.{list_all-append, list_all-map}
+use Rattle.std.proofs.Common.{◌≡◌, ℕ, Bool, true, not, ◌&&◌, ◌||◌, T, List, [], ◌∷◌, ◌++◌, map, filter, flat_map, refl, sym, ◌∙◌, ap, Ordering, Option, None, is_some, unwrap_or, false, cond, Some}
+use Rattle.std.proofs.{Common.{option_map}, lemmas.List.Folds.{list_all-append, list_all-map}}
+use Rattle.std.specs.{Prelude.{codes}, List.{list_any, list_all}, Ordering.{eq_by_cmp, nat_cmp}, Cmp.{IsTotalOrder, both_ways, nat_cmp_total}, Cmp.Lexicographic.{nat_list_cmp_total}}
+use Rattle.std.specs.{FinMap.{find, is_sorted}, FinSet.{FinSet, IsAntisymmetric, nat_cmp-IsAntisymmetric}}
+use Rattle.t1_join.specs.{Join.{joined_state}, Meaning.{of_number}, TableLaws.{get_joined}}
+use Rattle.t1_font.specs.{Cut.{stub}, FontValue.{FontValue, Shell, Encoding, Word, name_cmp, notdef, Codes, names_in}, Maps.{map_values, merged}, Entries.{last_entries}, FontModel.{word_of}}
+use Rattle.t1_font.proofs.{MapLemmas.{get-map_values, entries-map_values}, CutEntries.{entries-merged}}
+use Rattle.t1_algebra.specs.{Interpreter.{Interpreter, Names, same_bytes}, Keep.{sets_of, charstring, has, components_here, is_closed, is_needed, keep, called_by, kept}}
+use Rattle.t1_algebra.specs.States.{named_at, is_stub, is_called, subr_state, state_of_entry, called_at, executed_at}
+use Rattle.t1_algebra.specs.StateTables.{states_of, all_components, used_subrs, subr_part, name_part, name_meaning}
+use Rattle.t1_algebra.specs.Conflicts.{Conflict, ShellDiffers, CodeDiffers, GlyphDiffers, LacksComponent, SubrDiffers, OverLimit, keys_of_both, agrees, codes_of_both, glyphs_of_both, code_clashes}
+use Rattle.t1_algebra.specs.Conflicts.{wanted_by, used_by, is_within, shell_conflict, code_conflict, glyph_conflict, component_conflict, subr_conflict, states_conflict, conflict, states_conflicts}
+use Rattle.t1_algebra.specs.{Conflicts.{conflicts}, Searches.{members, found, passing, or_else}, Shared.{ShellPart, Head, EncodingPart, Private, SubrsTable, same_word, shared_of, differing_parts}}
+use Rattle.t1_algebra.proofs.{Sets.{name_same, all_at, all_from, any_one, any_at, in_list, from_in_list, any_flat_map, cases}, FontStates.{get-used}, Searching.{passes_none}, Tables.{get-numbered}}
 use Rattle.std.specs.FinMap as maps
 use Rattle.std.specs.FinSet as sets
 use Rattle.std.specs.List as lists
-use Rattle.t1_join.specs.Join.{joined_state}
-use Rattle.t1_join.specs.Meaning.{of_number}
-use Rattle.t1_join.specs.TableLaws.{get_joined}
-use Rattle.t1_font.specs.Cut.{stub}
-use Rattle.t1_font.specs.FontValue.{FontValue, Shell, Encoding, Word, name_cmp, notdef, Codes, names_in}
-use Rattle.t1_font.specs.Maps.{map_values, merged}
-use Rattle.t1_font.specs.Entries.{last_entries}
-use Rattle.t1_font.specs.FontModel.{word_of}
-use Rattle.t1_font.proofs.MapLemmas.{get-map_values, entries-map_values}
-use Rattle.t1_font.proofs.CutEntries.{entries-merged}
-use Rattle.t1_algebra.specs.Interpreter.{Interpreter, Names, same_bytes}
-use Rattle.t1_algebra.specs.Keep.{sets_of, charstring, has, components_here, is_closed, is_needed, keep, called_by, kept}
-use Rattle.t1_algebra.specs.States.{named_at, is_stub, is_called, subr_state, state_of_entry, called_at, executed_at}
-use Rattle.t1_algebra.specs.StateTables.{states_of, all_components, used_subrs, subr_part, name_part, name_meaning}
-use Rattle.t1_algebra.specs.Conflicts.{Conflict, ShellDiffers, CodeDiffers, GlyphDiffers, LacksComponent, SubrDiffers, OverLimit, keys_of_both, agrees, codes_of_both, glyphs_of_both}
-use Rattle.t1_algebra.specs.Conflicts.{code_clashes, wanted_by, used_by, is_within, shell_conflict, code_conflict, glyph_conflict, component_conflict, subr_conflict, states_conflict, conflict}
-use Rattle.t1_algebra.specs.Conflicts.{states_conflicts, conflicts}
-use Rattle.t1_algebra.specs.Searches.{members, found, passing, or_else}
-use Rattle.t1_algebra.specs.Shared.{ShellPart, Head, EncodingPart, Private, SubrsTable, same_word, shared_of, differing_parts}
-use Rattle.t1_algebra.proofs.Sets.{name_same, all_at, all_from, any_one, any_at, in_list, from_in_list, any_flat_map, cases}
-use Rattle.t1_algebra.proofs.FontStates.{get-used}
-use Rattle.t1_algebra.proofs.Searching.{passes_none}
-use Rattle.t1_algebra.proofs.Tables.{get-numbered}
 
 -- ---- sets of lists
 

@@ -1,7 +1,6 @@
 use Rattle.std.proofs.Common.{List, ℕ}
 use Rattle.t1_subset.specs.NameSets.{lent}
-use Rattle.t1_cmd.specs.Documents.{text_input}
-use Rattle.t1_cmd.specs.Extracts.{ExtractsTo}
+use Rattle.t1_cmd.specs.{Documents.{text_input}, Extracts.{ExtractsTo}}
 use Rattle.t1_c.proofs.Given.{gives_files}
 use Rattle.t1_c.proofs.t1subset_extract.Goals as goal
 

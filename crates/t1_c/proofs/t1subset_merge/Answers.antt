@@ -1,11 +1,8 @@
 use Rattle.std.proofs.Common.{Option, subst}
 use Rattle.t1_bytes.specs.declared.form.Form.{Form}
 use Rattle.t1_subset.specs.NameSets.{lent}
-use Rattle.t1_cmd.specs.Fonts.{font_input}
-use Rattle.t1_cmd.specs.Mergers.{MergesToFile}
-use Rattle.t1_cmd.specs.WrittenSubsets.{OfUnion}
-use Rattle.t1_c.specs.Gives.{GivesFiles, In, IfForm, GivesText}
-use Rattle.t1_c.proofs.Given.{gives_files, gives_union}
+use Rattle.t1_cmd.specs.{Fonts.{font_input}, Mergers.{MergesToFile}, WrittenSubsets.{OfUnion}}
+use Rattle.t1_c.{specs.Gives.{GivesFiles, In, IfForm, GivesText}, proofs.Given.{gives_files, gives_union}}
 use Rattle.t1_c.proofs.t1subset_merge.Goals as goal
 
 pub returns-in-Some-clause-gives : goal.returns-in-Some-clause-gives

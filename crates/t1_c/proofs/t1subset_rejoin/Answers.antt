@@ -1,11 +1,8 @@
 use Rattle.std.proofs.Common.{Option, subst}
 use Rattle.t1_bytes.specs.declared.form.Form.{Form}
 use Rattle.t1_subset.specs.NameSets.{lent}
-use Rattle.t1_cmd.specs.Fonts.{mended_input}
-use Rattle.t1_cmd.specs.Rejoins.{RejoinsTo}
-use Rattle.t1_cmd.specs.Cuts.{OfRejoined}
-use Rattle.t1_c.specs.Gives.{GivesFiles, In, IfForm, GivesText}
-use Rattle.t1_c.proofs.Given.{gives_files, gives_rejoined}
+use Rattle.t1_cmd.specs.{Fonts.{mended_input}, Rejoins.{RejoinsTo}, Cuts.{OfRejoined}}
+use Rattle.t1_c.{specs.Gives.{GivesFiles, In, IfForm, GivesText}, proofs.Given.{gives_files, gives_rejoined}}
 use Rattle.t1_c.proofs.t1subset_rejoin.Goals as goal
 
 pub returns-in-Some-clause-gives : goal.returns-in-Some-clause-gives

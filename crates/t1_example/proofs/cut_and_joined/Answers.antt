@@ -1,18 +1,9 @@
-use Rattle.std.proofs.Common.{◌≡◌, ◌∙◌, ap, sym, subst, ℕ, Vec, Global, MatchResult}
-use Rattle.std.proofs.lemmas.Result.{err_from_is_err_and}
-use Rattle.t1_font.specs.Canon.{canon}
-use Rattle.t1_font.specs.FontValue.{FontValue}
-use Rattle.t1_font.specs.IsFont.{IsFont}
-use Rattle.t1_font.specs.ReadFont.{read_font}
-use Rattle.t1_font.proofs.AnswersRight.{bytes_of_slice}
-use Rattle.t1_font.proofs.read_fonts.ReadFontLaws.{spelled_font}
+use Rattle.std.proofs.{Common.{◌≡◌, ◌∙◌, ap, sym, subst, ℕ, Vec, Global, MatchResult}, lemmas.Result.{err_from_is_err_and}}
+use Rattle.t1_font.specs.{Canon.{canon}, FontValue.{FontValue}, IsFont.{IsFont}, ReadFont.{read_font}, Dialect.{strict}}
+use Rattle.t1_font.proofs.{AnswersRight.{bytes_of_slice}, read_fonts.ReadFontLaws.{spelled_font}}
 use Rattle.t1_subset.specs.NameSets.{lent, asked}
-use Rattle.t1_example.specs.Joining.{union_subset}
-use Rattle.t1_example.specs.Refusals.{IsMemory}
-use Rattle.t1_example.proofs.Callers.{readable, file_refused, drawn}
-use Rattle.t1_example.proofs.Outcomes.{file_unread, first_refused, second_refused, both_cut}
+use Rattle.t1_example.{specs.{Joining.{union_subset}, Refusals.{IsMemory}}, proofs.{Callers.{readable, file_refused, drawn}, Outcomes.{file_unread, first_refused, second_refused, both_cut}}}
 use Rattle.t1_example.proofs.cut_and_joined.Goals as goal
-use Rattle.t1_font.specs.Dialect.{strict}
 
 pub returns-in_err-source-clause-bytes : goal.returns-in_err-source-clause-bytes
 returns-in_err-source-clause-bytes c = let p = err_from_is_err_and c.from_residual.result c.from_residual.ensures.1 in rw (p.1, p.2) (λ f k.

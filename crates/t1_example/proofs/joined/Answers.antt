@@ -1,9 +1,7 @@
 use Rattle.std.proofs.lemmas.Result.{err_from_is_err_and}
 use Rattle.t1_font.specs.ReadFont.{read_font}
-use Rattle.t1_algebra.specs.Keep.{subset}
-use Rattle.t1_algebra.specs.Profile.{profile}
-use Rattle.t1_example.proofs.Callers.{only_memory, read_back}
-use Rattle.t1_example.proofs.Outcomes.{first_unread, second_unread, both_read}
+use Rattle.t1_algebra.specs.{Keep.{subset}, Profile.{profile}}
+use Rattle.t1_example.proofs.{Callers.{only_memory, read_back}, Outcomes.{first_unread, second_unread, both_read}}
 use Rattle.t1_example.proofs.joined.Goals as goal
 
 pub returns-in_err-one-clause-subsets : goal.returns-in_err-one-clause-subsets

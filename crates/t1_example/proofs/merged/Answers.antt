@@ -1,5 +1,4 @@
-use Rattle.t1_example.proofs.Callers.{turned}
-use Rattle.t1_example.proofs.Outcomes.{of_sides}
+use Rattle.t1_example.proofs.{Callers.{turned}, Outcomes.{of_sides}}
 use Rattle.t1_example.proofs.merged.Goals as goal
 
 pub returns-in-FirstIntoSecond-clause-subsets : goal.returns-in-FirstIntoSecond-clause-subsets

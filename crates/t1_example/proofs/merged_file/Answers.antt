@@ -1,10 +1,6 @@
-use Rattle.std.proofs.Common.{◌≡◌, ◌∙◌, ap, inr, subst}
-use Rattle.std.proofs.lemmas.Result.{err_from_is_err_and}
-use Rattle.t1_font.specs.Canon.{canon}
-use Rattle.t1_font.specs.FontValue.{FontValue}
-use Rattle.t1_algebra.specs.Conflicts.{conflict}
-use Rattle.t1_algebra.specs.Profile.{profile}
-use Rattle.t1_algebra.specs.States.{Join, joined_font}
+use Rattle.std.proofs.{Common.{◌≡◌, ◌∙◌, ap, inr, subst}, lemmas.Result.{err_from_is_err_and}}
+use Rattle.t1_font.specs.{Canon.{canon}, FontValue.{FontValue}}
+use Rattle.t1_algebra.specs.{Conflicts.{conflict}, Profile.{profile}, States.{Join, joined_font}}
 use Rattle.t1_subset.specs.Refusals.{Tells}
 use Rattle.t1_example.proofs.merged_file.Goals as goal
 

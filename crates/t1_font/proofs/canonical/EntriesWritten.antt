@@ -1,23 +1,12 @@
 -- The tables of Subrs and of glyphs are read as they are written.
-use Rattle.std.proofs.Common.{◌≡◌, ℕ, ◌≤◌, ◌<◌, ◌^◌, true, false, List, [], ◌∷◌, ◌++◌, length, Some, Ok, refl, ap, ◌∙◌, append_assoc, arith}
-use Rattle.std.specs.Prelude.{codes}
-use Rattle.std.specs.Fmt.{decimal as digits}
-use Rattle.std.specs.List.{AllByRecursion}
-use Rattle.std.proofs.lemmas.Slice.Eq.{bytes_eq-Decides}
+use Rattle.std.proofs.{Common.{◌≡◌, ℕ, ◌≤◌, ◌<◌, ◌^◌, true, false, List, [], ◌∷◌, ◌++◌, length, Some, Ok, refl, ap, ◌∙◌, append_assoc, arith}, lemmas.Slice.Eq.{bytes_eq-Decides}}
 use Rattle.std.proofs.lemmas.Bool.{le-leb, lt-ltb, and_from}
-use Rattle.t1_grammar.specs.Grammar.{Grammar, that, run, fixed, Stops}
-use Rattle.t1_grammar.specs.Tables.{with_front, table_at}
-use Rattle.t1_grammar.proofs.Grammars.{bind_read, that_read, run_read}
-use Rattle.t1_grammar.specs.TableLaws.{Apart, table_at-step}
+use Rattle.std.specs.{Prelude.{codes}, Fmt.{decimal as digits}, List.{AllByRecursion}}
+use Rattle.t1_grammar.{specs.{Grammar.{Grammar, that, run, fixed, Stops}, Tables.{with_front, table_at}, TableLaws.{Apart, table_at-step}}, proofs.Grammars.{bind_read, that_read, run_read}}
 use Rattle.t1_bytes.specs.White.{white}
-use Rattle.t1_font.specs.declared.dialect.Spacing.TheVariants.{White}
-use Rattle.t1_font.specs.Words.{is_regular, is_word, keyword, name, is_name, next_name}
-use Rattle.t1_font.specs.Entry.{Body, Entry, body, entry}
-use Rattle.t1_font.specs.Subrs.{Subr, subr_key, subr, subrs_end}
-use Rattle.t1_font.specs.Glyphs.{Glyph, glyph, glyphs_end}
-use Rattle.t1_font.specs.Writing.{body_text, entry_text, entries_text, index_text, subrs_text, name_text, glyphs_text}
-use Rattle.t1_font.specs.IsFont.{IsWord, IsPhrase}
-use Rattle.t1_font.specs.EntryLaws.{entry_eats, entry_apart, subr_key_apart, next_name_apart}
+use Rattle.t1_font.specs.{declared.dialect.Spacing.TheVariants.{White}, Words.{is_regular, is_word, keyword, name, is_name, next_name}, Entry.{Body, Entry, body, entry}}
+use Rattle.t1_font.specs.{Subrs.{Subr, subr_key, subr, subrs_end}, Glyphs.{Glyph, glyph, glyphs_end}, Writing.{body_text, entry_text, entries_text, index_text, subrs_text, name_text, glyphs_text}}
+use Rattle.t1_font.specs.{IsFont.{IsWord, IsPhrase}, EntryLaws.{entry_eats, entry_apart, subr_key_apart, next_name_apart}}
 use Rattle.t1_font.proofs.canonical.Written.{white_one, gap_one, word_read, keyword_read, decimal_read, dup_regular, black, black_digits, count_read, length_read, one_read, no_white}
 use Rattle.t1_font.proofs.canonical.Phrases.{phrase_behind, phrase_starts, closing_read}
 

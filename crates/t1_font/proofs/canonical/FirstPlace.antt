@@ -1,8 +1,6 @@
 -- The first place of a marker, byte by byte.
-use Rattle.std.proofs.Common.{◌≡◌, ℕ, List, [], ◌∷◌, Option, Some, None, refl}
-use Rattle.std.specs.Option.{option_and_then}
-use Rattle.t1_grammar.specs.Grammar.{Grammar, first_at}
-use Rattle.t1_grammar.specs.Places.{prepend}
+use Rattle.std.{proofs.Common.{◌≡◌, ℕ, List, [], ◌∷◌, Option, Some, None, refl}, specs.Option.{option_and_then}}
+use Rattle.t1_grammar.specs.{Grammar.{Grammar, first_at}, Places.{prepend}}
 
 same_front : {A : Type 0} (b : ℕ) (o : Option ((List ℕ × A) × List ℕ)) → option_and_then (λ x. Some ((b ∷ x.0.0, x.0.1), x.1)) o ≡ prepend (b ∷ []) o
 same_front b None = refl

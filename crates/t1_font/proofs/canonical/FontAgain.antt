@@ -1,25 +1,13 @@
 -- The pieces of a font can be written, and give the font again.
-use Rattle.std.proofs.Common.{◌≡◌, ℕ, ◌+◌, ◌<◌, Ordering, true, false, List, [], ◌∷◌, map, length, Option, Some, None, is_some, refl, sym, ap, ◌∙◌, arith, true≢false}
-use Rattle.std.specs.List.{AllByRecursion}
-use Rattle.std.specs.Option.{option_map}
-use Rattle.std.specs.Str.{bytes_eq}
-use Rattle.std.specs.Ordering.{nat_cmp}
-use Rattle.std.specs.Cmp.{IsTotalOrder, nat_cmp_total}
-use Rattle.std.specs.Cmp.Lexicographic.{nat_list_cmp_total}
+use Rattle.std.proofs.{Common.{◌≡◌, ℕ, ◌+◌, ◌<◌, Ordering, true, false, List, [], ◌∷◌, map, length, Option, Some, None, is_some, refl, sym, ap, ◌∙◌, arith, true≢false}, lemmas.List.{length-map}}
+use Rattle.std.specs.{List.{AllByRecursion}, Option.{option_map}, Str.{bytes_eq}, Ordering.{nat_cmp}, Cmp.{IsTotalOrder, nat_cmp_total}, Cmp.Lexicographic.{nat_list_cmp_total}}
 use Rattle.std.specs.FinMap.{FinMap, find, get, entries, entries_sorted, len-entries, contains_key, get-entries, same_map, IsAntisymmetric, nat_cmp-IsAntisymmetric, slice_cmp-IsAntisymmetric}
-use Rattle.std.proofs.lemmas.List.{length-map}
 use Rattle.t1_bytes.proofs.Ciphers.{opened-sealed, length-sealed}
-use Rattle.t1_font.specs.Charstrings.{plain_of}
-use Rattle.t1_font.specs.FontValue.{FontValue, Shell, SubrsShell, Encoding, Word, Codes, Numbered, Named, name_cmp, notdef}
-use Rattle.t1_font.specs.Entries.{map_of, names_of, last_value, unless_notdef}
-use Rattle.t1_font.specs.ReadFont.{encoding_value, of_first, subrs_shell, subr_entries, font_of}
-use Rattle.t1_font.specs.Entry.{plain_entries}
+use Rattle.t1_font.specs.{Charstrings.{plain_of}, FontValue.{FontValue, Shell, SubrsShell, Encoding, Word, Codes, Numbered, Named, name_cmp, notdef}}
+use Rattle.t1_font.specs.{Entries.{map_of, names_of, last_value, unless_notdef}, ReadFont.{encoding_value, of_first, subrs_shell, subr_entries, font_of}, Entry.{plain_entries}}
 use Rattle.t1_font.specs.Canon.{sealed_body, sealed_entry, subr_entry, glyph_entry, subrs_pieces, inside_of, outside_of, encoding_pieces}
 use Rattle.t1_font.specs.IsFont.{IsFont, IsWord, IsPhrase, IsCharstring, SubrsFit, SubrWords, IsCode, IsEncoding}
-use Rattle.t1_font.proofs.MapLaws.{get-map_of, get-names_of}
-use Rattle.t1_font.proofs.canonical.EntriesWritten.{IsEntry}
-use Rattle.t1_font.proofs.canonical.PrivateWritten.{AreOptional, IsWritable}
-use Rattle.t1_font.proofs.canonical.ClearWritten.{IsEncodingText}
+use Rattle.t1_font.proofs.{MapLaws.{get-map_of, get-names_of}, canonical.EntriesWritten.{IsEntry}, canonical.PrivateWritten.{AreOptional, IsWritable}, canonical.ClearWritten.{IsEncodingText}}
 use Rattle.t1_font.proofs.MapLemmas.{entries_all, T_true, last-sorted}
 
 -- numbers that tie are one

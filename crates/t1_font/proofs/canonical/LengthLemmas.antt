@@ -1,32 +1,15 @@
 -- How long a canonical file is.
-use Rattle.std.proofs.Common.{◌≡◌, ℕ, zero, suc, ◌+◌, ◌*◌, ◌≤◌, ◌<◌, Bool, true, false, leb, List, [], ◌∷◌, ◌++◌, map}
-use Rattle.std.proofs.Common.{length, Option, Some, None, refl, ap, arith, is_lt, Ordering, Less, Equal, Greater}
-use Rattle.std.specs.Prelude.{codes}
-use Rattle.std.specs.Fmt.{decimal as digits}
-use Rattle.std.specs.List.{AllByRecursion}
-use Rattle.std.specs.Option.{option_map}
-use Rattle.std.specs.Ordering.{nat_cmp}
-use Rattle.std.specs.Cmp.{nat_cmp_total, ranked}
-use Rattle.std.specs.FinMap.{entries, entries_sorted, len-entries, is_sorted, nat_cmp-IsAntisymmetric}
-use Rattle.std.specs.FinMap.Entries.{below_all}
-use Rattle.std.proofs.lemmas.Bool.{leb-true, and_parts}
-use Rattle.std.proofs.lemmas.Fmt.{length-decimal-le}
-use Rattle.std.proofs.lemmas.List.{length-append, length-map}
-use Rattle.t1_bytes.specs.declared.form.Form.{Form}
-use Rattle.t1_bytes.specs.declared.form.Form.TheVariants.{Pfa, Pfb}
-use Rattle.t1_bytes.specs.Cipher.{private_cipher}
+use Rattle.std.proofs.Common.{◌≡◌, ℕ, zero, suc, ◌+◌, ◌*◌, ◌≤◌, ◌<◌, Bool, true, false, leb, List, [], ◌∷◌, ◌++◌, map, length, Option, Some, None, refl, ap, arith, is_lt, Ordering, Less, Equal}
+use Rattle.std.proofs.{Common.{Greater}, lemmas.Bool.{leb-true, and_parts}, lemmas.Fmt.{length-decimal-le}, lemmas.List.{length-append, length-map}}
+use Rattle.std.specs.{Prelude.{codes}, Fmt.{decimal as digits}, List.{AllByRecursion}, Option.{option_map}, Ordering.{nat_cmp}, Cmp.{nat_cmp_total, ranked}}
+use Rattle.std.specs.{FinMap.{entries, entries_sorted, len-entries, is_sorted, nat_cmp-IsAntisymmetric}, FinMap.Entries.{below_all}, Cmp.Lexicographic.{nat_list_cmp_total}}
+use Rattle.t1_bytes.specs.{declared.form.Form.{Form}, declared.form.Form.TheVariants.{Pfa, Pfb}, Cipher.{private_cipher}, Limits.{file_limit}}
 use Rattle.t1_bytes.proofs.{Ciphers.{length-sealed}, FileLengths.{pfa_length, pfb_length}}
-use Rattle.t1_font.specs.Words.{word, phrase_of, phrase_after, is_access, passes}
-use Rattle.t1_font.specs.FontValue.{FontValue, Shell, SubrsShell, Encoding, Word, Codes, Numbered, total, subr_weight, glyph_weight, weight}
-use Rattle.t1_bytes.specs.Limits.{file_limit}
-use Rattle.t1_font.specs.Writing.{body_text, entry_text, entries_text, index_text, subrs_text, subrs_part, name_text, glyphs_text, glyphs_part, puts_text, encoding_text}
-use Rattle.t1_font.specs.Entry.{Body}
-use Rattle.t1_font.specs.Canon.{sealed_body, sealed_entry, subr_entry, glyph_entry, subrs_pieces, encoding_pieces, canon_clear, canon_private, canon}
-use Rattle.t1_font.specs.WriteLaws.{CanonLength}
+use Rattle.t1_font.specs.{Words.{word, phrase_of, phrase_after, is_access, passes}, FontValue.{FontValue, Shell, SubrsShell, Encoding, Word, Codes, Numbered, total, subr_weight, glyph_weight, weight}}
+use Rattle.t1_font.specs.{Writing.{body_text, entry_text, entries_text, index_text, subrs_text, subrs_part, name_text, glyphs_text, glyphs_part, puts_text, encoding_text}, Entry.{Body}}
+use Rattle.t1_font.specs.{Canon.{sealed_body, sealed_entry, subr_entry, glyph_entry, subrs_pieces, encoding_pieces, canon_clear, canon_private, canon}, WriteLaws.{CanonLength}}
 use Rattle.t1_font.specs.IsFont.{IsFont, IsWord, IsPhrase, IsCharstring, SubrsFit, SubrWords, IsCode, IsEncoding}
-use Rattle.std.specs.Cmp.Lexicographic.{nat_list_cmp_total}
-use Rattle.t1_font.proofs.canonical.FontAgain.{name_same, length-body}
-use Rattle.t1_font.proofs.MapLemmas.{entries_all, T_true}
+use Rattle.t1_font.proofs.{canonical.FontAgain.{name_same, length-body}, MapLemmas.{entries_all, T_true}}
 
 after_short : (test : List ℕ → Bool) (access : Bool) (first p text rest : List ℕ) →
     length first ≤ 32 → (phrase_after test access first).Spells p text rest → length p ≤ 32

@@ -1,19 +1,11 @@
 -- What is read within a text doesn't depend on what stands behind it, as long as that stops every part of the grammar.
 use Rattle.std.proofs.Common.{◌≡◌, ℕ, inl, inr, ◌⊎◌, Bool, true, false, cond, eqb, List, [], ◌∷◌, ◌++◌, take, drop, Option, Some, None, refl, sym, ap, ◌∙◌, append_assoc, one-add, subst}
-use Rattle.std.specs.Prelude.{codes}
-use Rattle.std.specs.List.{AllByRecursion, prefix_len}
-use Rattle.std.specs.Option.{option_and_then}
-use Rattle.std.proofs.lemmas.Option.{none-some, some_pair_parts, same_Some}
-use Rattle.std.proofs.lemmas.List.{append-nil}
-use Rattle.std.proofs.lemmas.Bool.{cases_Bool}
-use Rattle.t1_grammar.specs.Grammar.{Grammar, pure, ◌>>=◌, that, run, before, fixed, NotAtFront, NoneIn, Stops, first_at, first_here, unspelled, unread}
-use Rattle.t1_bytes.specs.White.{is_white, gap}
-use Rattle.t1_bytes.specs.Eexec.{eexec_marker, blank_comes}
-use Rattle.t1_font.specs.Words.{is_regular, keyword, decimal, digits_after, is_decimal}
-use Rattle.t1_font.specs.Markers.{subrs_marker, chars_marker, encoding_marker, white_comes, break_comes}
-use Rattle.t1_grammar.specs.Places.{prepend}
-use Rattle.t1_font.proofs.canonical.FirstPlace.{prepend-nil, prepend-prepend, one_place}
-use Rattle.t1_font.proofs.canonical.Borders.{strip, fixed_strip}
+use Rattle.std.proofs.{lemmas.Option.{none-some, some_pair_parts, same_Some}, lemmas.List.{append-nil}, lemmas.Bool.{cases_Bool}}
+use Rattle.std.specs.{Prelude.{codes}, List.{AllByRecursion, prefix_len}, Option.{option_and_then}}
+use Rattle.t1_grammar.specs.{Grammar.{Grammar, pure, ◌>>=◌, that, run, before, fixed, NotAtFront, NoneIn, Stops, first_at, first_here, unspelled, unread}, Places.{prepend}}
+use Rattle.t1_bytes.specs.{White.{is_white, gap}, Eexec.{eexec_marker, blank_comes}}
+use Rattle.t1_font.specs.{Words.{is_regular, keyword, decimal, digits_after, is_decimal}, Markers.{subrs_marker, chars_marker, encoding_marker, white_comes, break_comes}}
+use Rattle.t1_font.proofs.{canonical.FirstPlace.{prepend-nil, prepend-prepend, one_place}, canonical.Borders.{strip, fixed_strip}}
 
 module _ (u v : List ℕ) where
   -- both are none, or both are one value, before one text with u and v behind it

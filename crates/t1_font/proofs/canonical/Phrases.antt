@@ -1,14 +1,9 @@
 -- A whole phrase is read before whatever ends a word.
-use Rattle.std.proofs.Common.{◌≡◌, ℕ, Bool, true, false, ◌||◌, List, [], ◌∷◌, ◌++◌, Some, refl, sym, ap, subst, ◌∙◌}
+use Rattle.std.proofs.{Common.{◌≡◌, ℕ, Bool, true, false, ◌||◌, List, [], ◌∷◌, ◌++◌, Some, refl, sym, ap, subst, ◌∙◌}, lemmas.List.{append-nil}, lemmas.Bool.{or_parts, not-true}}
 use Rattle.std.specs.List.{AllByRecursion}
-use Rattle.std.proofs.lemmas.List.{append-nil}
-use Rattle.std.proofs.lemmas.Bool.{or_parts, not-true}
-use Rattle.t1_grammar.specs.Grammar.{Stops}
-use Rattle.t1_grammar.proofs.Grammars.{bind_read}
+use Rattle.t1_grammar.{specs.Grammar.{Stops}, proofs.Grammars.{bind_read}}
 use Rattle.t1_bytes.specs.White.{is_white, white, gap}
-use Rattle.t1_font.specs.declared.dialect.Spacing.TheVariants.{White}
-use Rattle.t1_font.specs.Words.{is_regular, word, is_word, phrase_of, phrase_after, is_access, passes, is_delimiter}
-use Rattle.t1_font.specs.Subrs.{subrs_end}
+use Rattle.t1_font.specs.{declared.dialect.Spacing.TheVariants.{White}, Words.{is_regular, word, is_word, phrase_of, phrase_after, is_access, passes, is_delimiter}, Subrs.{subrs_end}}
 use Rattle.t1_font.specs.IsFont.{IsPhrase}
 use Rattle.t1_font.proofs.canonical.Written.{white_one}
 

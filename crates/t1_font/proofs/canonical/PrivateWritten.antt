@@ -1,28 +1,12 @@
 -- The private text is read from its canonical text, whatever stands behind it.
 use Rattle.std.proofs.Common.{◌≡◌, ℕ, inl, inr, ◌⊎◌, ◌≤◌, ◌<◌, ◌^◌, true, false, ltb, List, [], ◌∷◌, ◌++◌, length, Option, Some, None, Result, Ok, refl, sym, ap, ◌∙◌, append_assoc, arith}
-use Rattle.std.specs.Prelude.{codes}
-use Rattle.std.specs.Fmt.{decimal as digits}
-use Rattle.std.specs.List.{AllByRecursion}
-use Rattle.std.specs.Option.{option_map}
-use Rattle.std.proofs.lemmas.List.{length-append, append-nil}
-use Rattle.std.proofs.lemmas.Option.{none-some, same_Some}
-use Rattle.std.proofs.lemmas.Bool.{lt-ltb, le-ltb}
-use Rattle.t1_grammar.specs.Grammar.{Grammar, Stops, first, first_at, Lacks, first_here}
-use Rattle.t1_grammar.specs.Tables.{table_at}
-use Rattle.t1_grammar.specs.Places.{prepend, occurs, absent_lacks, lacks_absent}
-use Rattle.t1_font.specs.declared.dialect.Spacing.TheVariants.{White}
-use Rattle.t1_font.specs.Words.{is_regular}
-use Rattle.t1_font.specs.Entry.{Entry}
-use Rattle.t1_font.specs.Subrs.{subr, subrs_end}
-use Rattle.t1_font.specs.Markers.{subrs_marker, chars_marker, closefile, white_comes}
-use Rattle.t1_font.specs.Glyphs.{Glyph}
-use Rattle.t1_font.specs.declared.fault.ReadFault.{ReadFault}
-use Rattle.t1_font.specs.Pieces.{SubrsPieces, PrivatePieces, private_pieces, tables_from, before_place, glyphs_from, tail_after, iv_of}
-use Rattle.t1_font.specs.Writing.{entries_text, index_text, subrs_text, subrs_part, name_text, glyphs_text, glyphs_part, private_written}
-use Rattle.t1_font.specs.IsFont.{IsWord, IsPhrase, NoMarker}
-use Rattle.t1_font.proofs.canonical.Written.{gap_one, keyword_read, decimal_read, black_digits}
-use Rattle.t1_font.proofs.canonical.FirstPlace.{one_place}
-use Rattle.t1_font.proofs.canonical.Borders.{fixed_strip}
+use Rattle.std.proofs.{lemmas.List.{length-append, append-nil}, lemmas.Option.{none-some, same_Some}, lemmas.Bool.{lt-ltb, le-ltb}}
+use Rattle.std.specs.{Prelude.{codes}, Fmt.{decimal as digits}, List.{AllByRecursion}, Option.{option_map}}
+use Rattle.t1_grammar.specs.{Grammar.{Grammar, Stops, first, first_at, Lacks, first_here}, Tables.{table_at}, Places.{prepend, occurs, absent_lacks, lacks_absent}}
+use Rattle.t1_font.specs.{declared.dialect.Spacing.TheVariants.{White}, Words.{is_regular}, Entry.{Entry}, Subrs.{subr, subrs_end}, Markers.{subrs_marker, chars_marker, closefile, white_comes}}
+use Rattle.t1_font.specs.{Glyphs.{Glyph}, declared.fault.ReadFault.{ReadFault}, Pieces.{SubrsPieces, PrivatePieces, private_pieces, tables_from, before_place, glyphs_from, tail_after, iv_of}}
+use Rattle.t1_font.specs.{Writing.{entries_text, index_text, subrs_text, subrs_part, name_text, glyphs_text, glyphs_part, private_written}, IsFont.{IsWord, IsPhrase, NoMarker}}
+use Rattle.t1_font.proofs.{canonical.Written.{gap_one, keyword_read, decimal_read, black_digits}, canonical.FirstPlace.{one_place}, canonical.Borders.{fixed_strip}}
 use Rattle.t1_font.proofs.canonical.Moves.{Within, fixed_within, first_grows, past_none, first_behind, subrs_moves, chars_moves}
 use Rattle.t1_font.proofs.canonical.EntriesWritten.{IsEntry, subrs_read, glyphs_read, fixed_read}
 

@@ -1,40 +1,19 @@
 -- The canonical file of a font is read as the font.
-use Rattle.std.proofs.Common.{◌≡◌, ℕ, ◌≤◌, ◌<◌, ◌^◌, true, false, leb, ◌&&◌, Bool, List, [], ◌∷◌, ◌++◌, length, drop}
-use Rattle.std.proofs.Common.{Option, Some, None, Result, Ok, Err, refl, sym, ap, subst, ◌∙◌, append_assoc, arith}
-use Rattle.std.specs.Prelude.{codes, replicate}
-use Rattle.std.proofs.lemmas.Bool.{le-leb}
-use Rattle.std.proofs.lemmas.List.{length-append}
-use Rattle.std.specs.FinMap as maps
-use Rattle.std.specs.FinMap.{entries}
-use Rattle.t1_bytes.specs.declared.form.Form.{Form}
-use Rattle.t1_bytes.specs.declared.form.Form.TheVariants.{Pfa, Pfb}
-use Rattle.t1_bytes.specs.Cipher.{private_cipher, private_text}
-use Rattle.t1_grammar.specs.Formats.{with_fault}
-use Rattle.t1_bytes.specs.FlatText.{starts_segment, flat_when}
-use Rattle.t1_font.specs.declared.fault.ReadFault.TheVariants.{BadSegment}
-use Rattle.t1_bytes.specs.Eexec.{eexec_marker, hex_or_white, hex_text, cipher_text}
-use Rattle.t1_bytes.specs.Laws.{AreBytes}
-use Rattle.t1_bytes.specs.Texts.{pfb_text, segment_text, hex_lines, trailer}
-use Rattle.t1_bytes.proofs.Ciphers.{decrypted_front, length-sealed}
-use Rattle.t1_grammar.specs.Grammar.{Stops, first_at, front_again}
-use Rattle.t1_bytes.proofs.HexLines.{lines_read, binary_read, hex_run, run_secret, run_digits}
-use Rattle.t1_bytes.proofs.PfbLemmas.{pfb_flat}
-use Rattle.t1_font.specs.declared.dialect.Spacing.TheVariants.{White}
-use Rattle.t1_font.specs.declared.fault.ReadFault.{ReadFault}
+use Rattle.std.proofs.Common.{◌≡◌, ℕ, ◌≤◌, ◌<◌, ◌^◌, true, false, leb, ◌&&◌, Bool, List, [], ◌∷◌, ◌++◌, length, drop, Option, Some, None, Result, Ok, Err, refl, sym, ap, subst, ◌∙◌, append_assoc}
+use Rattle.std.proofs.{Common.{arith}, lemmas.Bool.{le-leb}, lemmas.List.{length-append}}
+use Rattle.std.specs.{Prelude.{codes, replicate}, FinMap.{entries}}
+use Rattle.t1_bytes.specs.{declared.form.Form.{Form}, declared.form.Form.TheVariants.{Pfa, Pfb}, Cipher.{private_cipher, private_text}, FlatText.{starts_segment, flat_when}}
+use Rattle.t1_bytes.specs.{Eexec.{eexec_marker, hex_or_white, hex_text, cipher_text}, Laws.{AreBytes}, Texts.{pfb_text, segment_text, hex_lines, trailer}, Limits.{file_limit}}
+use Rattle.t1_bytes.proofs.{Ciphers.{decrypted_front, length-sealed}, HexLines.{lines_read, binary_read, hex_run, run_secret, run_digits}, PfbLemmas.{pfb_flat}}
+use Rattle.t1_grammar.specs.{Formats.{with_fault}, Grammar.{Stops, first_at, front_again}}
+use Rattle.t1_font.specs.{declared.fault.ReadFault.TheVariants.{BadSegment}, declared.dialect.Spacing.TheVariants.{White}, declared.fault.ReadFault.{ReadFault}}
 use Rattle.t1_font.specs.FontValue.{FontValue, SubrsShell, Numbered, notdef, count_limit, declared_count, IsWithin}
-use Rattle.t1_bytes.specs.Limits.{file_limit}
-use Rattle.t1_font.specs.Pieces.{EncodingText, OneWord, Puts, ClearPieces, PrivatePieces, flat_pieces, private_pieces}
-use Rattle.t1_font.specs.ReadFont.{font_of, has_notdef, flat_text, font_from, font_file, read_font}
-use Rattle.t1_font.specs.Writing.{encoding_text}
-use Rattle.t1_font.specs.Canon.{encoding_pieces, inside_of, outside_of, canon_clear, canon_private, canon, Fits}
-use Rattle.t1_font.specs.IsFont.{IsFont, SubrsFit}
-use Rattle.t1_font.proofs.ValueLaws.{notdef_is, within_again}
-use Rattle.t1_font.proofs.canonical.ClearWritten.{clear_again}
-use Rattle.t1_font.proofs.canonical.PrivateWritten.{private_again}
-use Rattle.t1_font.proofs.canonical.SplitWritten.{IsBorder, eexec_found, split_again}
-use Rattle.t1_font.proofs.canonical.FontAgain.{font_again, font_writable, encoding_writable}
-use Rattle.t1_font.proofs.ByteLemmas.{has_bytes, cipher_bytes}
+use Rattle.t1_font.specs.{Pieces.{EncodingText, OneWord, Puts, ClearPieces, PrivatePieces, flat_pieces, private_pieces}, ReadFont.{font_of, has_notdef, flat_text, font_from, font_file, read_font}}
+use Rattle.t1_font.specs.{Writing.{encoding_text}, Canon.{encoding_pieces, inside_of, outside_of, canon_clear, canon_private, canon, Fits}, IsFont.{IsFont, SubrsFit}}
+use Rattle.t1_font.proofs.{ValueLaws.{notdef_is, within_again}, canonical.ClearWritten.{clear_again}, canonical.PrivateWritten.{private_again}}
+use Rattle.t1_font.proofs.{canonical.SplitWritten.{IsBorder, eexec_found, split_again}, canonical.FontAgain.{font_again, font_writable, encoding_writable}, ByteLemmas.{has_bytes, cipher_bytes}}
 use Rattle.t1_font.proofs.canonical.LengthLemmas.{canon_short}
+use Rattle.std.specs.FinMap as maps
 
 -- ---- the cipher
 

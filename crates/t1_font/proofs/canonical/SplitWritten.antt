@@ -1,25 +1,11 @@
 -- The clear text ends where it was written to end.
-use Rattle.std.proofs.Common.{◌≡◌, ℕ, ◌≤◌, ◌<◌, ◌^◌, inl, inr, ◌⊎◌, Bool, true, false, leb, ◌||◌, eqb, ◌&&◌, cond, List, [], ◌∷◌, ◌++◌}
-use Rattle.std.proofs.Common.{length, take, ◌-◌, one-add, Option, Some, None, Ok, refl, sym, ap, subst, ◌∙◌, append_assoc, arith}
-use Rattle.std.specs.Prelude.{codes}
-use Rattle.std.specs.Fmt.{decimal as digits}
-use Rattle.std.specs.List.{AllByRecursion}
-use Rattle.std.specs.Option.{option_map, option_and_then}
-use Rattle.std.proofs.lemmas.Option.{none-some, same_Some}
-use Rattle.std.proofs.lemmas.Bool.{cases_Bool, leb-true, and_parts, or_parts, not-true, ne_eqb}
-use Rattle.t1_grammar.specs.Grammar.{Grammar, pure, ◌>>=◌, ◌>>◌, before, Stops, NoneIn, first, first_at, fixed, unspelled}
-use Rattle.t1_bytes.specs.White.{is_white, gap}
-use Rattle.t1_bytes.specs.Eexec.{eexec_marker, blank_comes, cipher_text}
-use Rattle.t1_bytes.specs.Split.{split}
-use Rattle.t1_grammar.specs.Places.{prepend}
-use Rattle.t1_font.specs.Words.{is_regular, is_delimiter, is_digit}
-use Rattle.t1_font.specs.Pieces.{EncodingText, OneWord, Puts, flat_pieces}
-use Rattle.t1_font.specs.Writing.{puts_text, encoding_text}
-use Rattle.t1_font.specs.IsFont.{IsCode, NoMarker}
-use Rattle.t1_font.proofs.FileParts.{before_last}
-use Rattle.t1_font.proofs.canonical.Written.{AllRegular, gap_one, digits_are}
-use Rattle.t1_font.proofs.canonical.ClearWritten.{IsEncodingText}
-use Rattle.t1_font.proofs.canonical.Borders.{strip, fixed_strip}
+use Rattle.std.proofs.Common.{◌≡◌, ℕ, ◌≤◌, ◌<◌, ◌^◌, inl, inr, ◌⊎◌, Bool, true, false, leb, ◌||◌, eqb, ◌&&◌, cond, List, [], ◌∷◌, ◌++◌, length, take, ◌-◌, one-add, Option, Some, None, Ok, refl, sym}
+use Rattle.std.proofs.{Common.{ap, subst, ◌∙◌, append_assoc, arith}, lemmas.Option.{none-some, same_Some}, lemmas.Bool.{cases_Bool, leb-true, and_parts, or_parts, not-true, ne_eqb}}
+use Rattle.std.specs.{Prelude.{codes}, Fmt.{decimal as digits}, List.{AllByRecursion}, Option.{option_map, option_and_then}}
+use Rattle.t1_grammar.specs.{Grammar.{Grammar, pure, ◌>>=◌, ◌>>◌, before, Stops, NoneIn, first, first_at, fixed, unspelled}, Places.{prepend}}
+use Rattle.t1_bytes.specs.{White.{is_white, gap}, Eexec.{eexec_marker, blank_comes, cipher_text}, Split.{split}}
+use Rattle.t1_font.specs.{Words.{is_regular, is_delimiter, is_digit}, Pieces.{EncodingText, OneWord, Puts, flat_pieces}, Writing.{puts_text, encoding_text}, IsFont.{IsCode, NoMarker}}
+use Rattle.t1_font.proofs.{FileParts.{before_last}, canonical.Written.{AllRegular, gap_one, digits_are}, canonical.ClearWritten.{IsEncodingText}, canonical.Borders.{strip, fixed_strip}}
 use Rattle.t1_font.proofs.canonical.Moves.{Foreign, eexec_within, eexec_moves, first_grows, past_none, NoneIn-append}
 
 -- the text w can't stand at the front of these bytes, whatever follows them

@@ -1,15 +1,7 @@
 -- The two texts of a canonical file fit its segments.
-use Rattle.std.proofs.Common.{ℕ, ◌≤◌, List, ◌++◌, [], ◌∷◌, length, arith}
-use Rattle.std.proofs.lemmas.List.{length-append}
-use Rattle.std.specs.Int.{bytes_low_first}
-use Rattle.t1_bytes.specs.declared.form.Form.TheVariants.{Pfb}
-use Rattle.t1_bytes.specs.Limits.{file_limit}
-use Rattle.t1_bytes.specs.Cipher.{private_cipher}
-use Rattle.t1_bytes.specs.Texts.{segment_text, trailer, pfb_text}
-use Rattle.t1_font.specs.FontValue.{FontValue}
-use Rattle.t1_font.specs.IsFont.{IsFont}
-use Rattle.t1_font.specs.Canon.{canon_clear, canon_private}
-use Rattle.t1_font.proofs.canonical.LengthLemmas.{canon_short}
+use Rattle.std.{proofs.{Common.{ℕ, ◌≤◌, List, ◌++◌, [], ◌∷◌, length, arith}, lemmas.List.{length-append}}, specs.Int.{bytes_low_first}}
+use Rattle.t1_bytes.specs.{declared.form.Form.TheVariants.{Pfb}, Limits.{file_limit}, Cipher.{private_cipher}, Texts.{segment_text, trailer, pfb_text}}
+use Rattle.t1_font.{specs.{FontValue.{FontValue}, IsFont.{IsFont}, Canon.{canon_clear, canon_private}}, proofs.canonical.LengthLemmas.{canon_short}}
 
 segment_long : (kind : ℕ) (bytes : List ℕ) → length bytes ≤ length (segment_text kind bytes)
 segment_long kind bytes = at_end (128 ∷ kind ∷ []) (bytes_low_first 0 4 (length bytes)) bytes

@@ -1,17 +1,10 @@
 -- Words are read as they are written.
-use Rattle.std.proofs.Common.{◌≡◌, ℕ, ◌+◌, ◌-◌, ◌*◌, ◌≤◌, ◌<◌, ◌^◌, ◌%◌, ◌||◌, true, false, leb, List, [], ◌∷◌, ◌++◌, length, Some, refl, ap, ◌∙◌, arith}
-use Rattle.std.specs.Prelude.{codes}
-use Rattle.std.specs.Fmt.{decimal as digits}
-use Rattle.std.specs.List.{AllByRecursion, prefix_len}
-use Rattle.std.specs.Str.{bytes_eq}
-use Rattle.std.proofs.lemmas.Slice.Eq.{bytes_eq-Decides}
-use Rattle.std.proofs.lemmas.Bool.{le-leb, leb-true, and_parts, and_from, or_parts, not-true, agree_below_at}
-use Rattle.std.proofs.lemmas.Fmt.{decimal_by_steps, length-decimal-le, decimal_nonempty}
-use Rattle.t1_grammar.specs.Grammar.{pure, that, Stops, run, count}
-use Rattle.t1_grammar.proofs.Grammars.{bind_read, that_read, run_read}
+use Rattle.std.proofs.{Common.{◌≡◌, ℕ, ◌+◌, ◌-◌, ◌*◌, ◌≤◌, ◌<◌, ◌^◌, ◌%◌, ◌||◌, true, false, leb, List, [], ◌∷◌, ◌++◌, length, Some, refl, ap, ◌∙◌, arith}, lemmas.Slice.Eq.{bytes_eq-Decides}}
+use Rattle.std.proofs.{lemmas.Bool.{le-leb, leb-true, and_parts, and_from, or_parts, not-true, agree_below_at}, lemmas.Fmt.{decimal_by_steps, length-decimal-le, decimal_nonempty}}
+use Rattle.std.specs.{Prelude.{codes}, Fmt.{decimal as digits}, List.{AllByRecursion, prefix_len}, Str.{bytes_eq}}
+use Rattle.t1_grammar.{specs.Grammar.{pure, that, Stops, run, count}, proofs.Grammars.{bind_read, that_read, run_read}}
 use Rattle.t1_bytes.specs.White.{is_white, white, has_bytes, gap}
-use Rattle.t1_font.specs.Words.{is_regular, one_white, word, is_word, keyword, decimal, is_delimiter, is_digit, starts_white, is_decimal, all_digits, digits_after}
-use Rattle.t1_font.specs.Entry.{length_from}
+use Rattle.t1_font.specs.{Words.{is_regular, one_white, word, is_word, keyword, decimal, is_delimiter, is_digit, starts_white, is_decimal, all_digits, digits_after}, Entry.{length_from}}
 
 -- one byte of white space is read
 pub white_one : (b : ℕ) (rest : List ℕ) → is_white b ≡ true → Stops is_white rest → white.read (b ∷ rest) ≡ Some (b ∷ [], rest)

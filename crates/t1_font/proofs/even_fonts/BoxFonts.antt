@@ -1,12 +1,8 @@
 -- A font with another box is a font.
-use Rattle.std.proofs.Common.{◌≡◌, ℕ, Bool, true, false, cond, List, Option, Some, None, sym, ap, ◌∙◌}
-use Rattle.std.specs.Prelude.{◌&&◌, nat_le}
-use Rattle.std.proofs.lemmas.Bool.{cond-true, cond-false, and_parts, leb-true}
+use Rattle.std.{proofs.{Common.{◌≡◌, ℕ, Bool, true, false, cond, List, Option, Some, None, sym, ap, ◌∙◌}, lemmas.Bool.{cond-true, cond-false, and_parts, leb-true}}, specs.Prelude.{◌&&◌, nat_le}}
 use Rattle.t1_bytes.specs.Laws.{AreBytes}
-use Rattle.t1_font.specs.declared.even_texts.KeptText.TheVariants.{Head, ClearTail}
-use Rattle.t1_font.specs.FontValue.{FontValue, Shell, SubrsShell, Numbered, weight, weight_limit}
-use Rattle.t1_font.specs.EvenTexts.{fits, same_both, both_fit, even_clear}
-use Rattle.t1_font.specs.IsFont.{IsFont, SubrsFit}
+use Rattle.t1_font.specs.{declared.even_texts.KeptText.TheVariants.{Head, ClearTail}, FontValue.{FontValue, Shell, SubrsShell, Numbered, weight, weight_limit}}
+use Rattle.t1_font.specs.{EvenTexts.{fits, same_both, both_fit, even_clear}, IsFont.{IsFont, SubrsFit}}
 use Rattle.t1_font.specs.FontBoxes.{Box, Side, side_in, texts_at, texts_with, stays_at, clear_of, with_clear, clear_with, with_texts, can_take, can_have_at, can_have}
 use Rattle.t1_font.proofs.even_fonts.EvenTexts.{fits_so}
 

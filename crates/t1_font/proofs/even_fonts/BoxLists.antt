@@ -1,20 +1,9 @@
 -- Lists of fonts with one box.
-use Rattle.std.proofs.Common.{◌≡◌, ℕ, ◌+◌, ◌<◌, Bool, true, false, cond, List, [], ◌∷◌, map, length, get_or, drop, Option, Some, None, is_some, Result, Ok, Err, refl, sym, ap, ◌∙◌}
-use Rattle.std.specs.Prelude.{◌&&◌}
-use Rattle.std.specs.Global.{Vec}
-use Rattle.std.specs.Result.{IfOk}
-use Rattle.std.specs.List.{AllByRecursion, list_all}
-use Rattle.std.specs.Option.{option_map, option_and_then}
-use Rattle.std.proofs.Common.{inl, inr}
-use Rattle.std.proofs.lemmas.Bool.{cond-true, cond-false, and_parts, cases_Bool}
-use Rattle.std.proofs.lemmas.List.{at_drop_more}
-use Rattle.std.proofs.lemmas.Slice.Eq.{bytes_eq-Decides}
-use Rattle.std.proofs.lemmas.Option.{none-some, same_Some}
-use Rattle.t1_font.specs.FontValue.{FontValue}
-use Rattle.t1_font.specs.FontBoxes.{Box, same_box, joined_box, box_of, font_with, can_have, if_can, boxes_of, all_with, boxed_by, boxed}
-use Rattle.t1_font.specs.BoxViews.{are_alike, wanted_box}
-use Rattle.t1_font.proofs.even_fonts.BoxPlaces.{box_same}
-use Rattle.t1_font.proofs.even_fonts.Boxes.{one_box_stays}
+use Rattle.std.proofs.Common.{◌≡◌, ℕ, ◌+◌, ◌<◌, Bool, true, false, cond, List, [], ◌∷◌, map, length, get_or, drop, Option, Some, None, is_some, Result, Ok, Err, refl, sym, ap, ◌∙◌, inl, inr}
+use Rattle.std.proofs.{lemmas.Bool.{cond-true, cond-false, and_parts, cases_Bool}, lemmas.List.{at_drop_more}, lemmas.Slice.Eq.{bytes_eq-Decides}, lemmas.Option.{none-some, same_Some}}
+use Rattle.std.specs.{Prelude.{◌&&◌}, Global.{Vec}, Result.{IfOk}, List.{AllByRecursion, list_all}, Option.{option_map, option_and_then}}
+use Rattle.t1_font.specs.{FontValue.{FontValue}, FontBoxes.{Box, same_box, joined_box, box_of, font_with, can_have, if_can, boxes_of, all_with, boxed_by, boxed}, BoxViews.{are_alike, wanted_box}}
+use Rattle.t1_font.proofs.{even_fonts.BoxPlaces.{box_same}, even_fonts.Boxes.{one_box_stays}}
 
 -- ---- what an answer tells of a test
 

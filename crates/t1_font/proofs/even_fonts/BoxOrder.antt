@@ -1,20 +1,11 @@
 -- The one box for some boxes is the same in any order.
 use Rattle.std.proofs.Common.{◌≡◌, ◌⊎◌, ℕ, Bool, true, false, cond, List, [], ◌∷◌, map, length, inl, inr, refl, sym, ap, subst, ◌∙◌}
-use Rattle.std.specs.Prelude.{◌||◌, filter}
-use Rattle.std.specs.declared.cmp.Ordering.{Ordering}
-use Rattle.std.specs.declared.cmp.Ordering.TheVariants.{Less, Equal, Greater}
-use Rattle.std.specs.Ordering.{is_gt, ordering_then, ordering_reverse}
-use Rattle.std.specs.Cmp.{IsTotalOrder}
-use Rattle.std.specs.List.{AllByRecursion, All, Contains, fold, list_any}
-use Rattle.std.specs.List.Sorted.{IsPermutation}
-use Rattle.std.specs.FinMap.{nat_cmp-IsAntisymmetric, slice_cmp-IsAntisymmetric}
-use Rattle.std.proofs.lemmas.Cmp.{nat_cmp_total, nat_list_cmp_total, on_total, then_total, back_total, tied_itself, upto}
-use Rattle.std.proofs.lemmas.Bool.{cond-true, cond-false, cond_both, cases_Bool, true≢false}
-use Rattle.std.proofs.lemmas.List.{nil_from_length}
-use Rattle.std.proofs.lemmas.List.Elements.{All-from_recursion, All-contains, Contains-push, Contains-append_left, Contains-append_right}
+use Rattle.std.proofs.{lemmas.Cmp.{nat_cmp_total, nat_list_cmp_total, on_total, then_total, back_total, tied_itself, upto}, lemmas.Bool.{cond-true, cond-false, cond_both, cases_Bool, true≢false}}
+use Rattle.std.proofs.{lemmas.List.{nil_from_length}, lemmas.List.Elements.{All-from_recursion, All-contains, Contains-push, Contains-append_left, Contains-append_right}}
 use Rattle.std.proofs.lemmas.List.Sorted.{All-permutation, Contains-permutation, list_any-IsPermutation, length_permutation}
-use Rattle.t1_font.specs.Numbers.{Size, size_cmp, below_zero, above_zero, value_cmp, spelling_cmp, least_first, greatest_first, sooner, soonest}
-use Rattle.t1_font.specs.FontBoxes.{Box, says_nothing, held, joined_box}
+use Rattle.std.specs.{Prelude.{◌||◌, filter}, declared.cmp.Ordering.{Ordering}, declared.cmp.Ordering.TheVariants.{Less, Equal, Greater}, Ordering.{is_gt, ordering_then, ordering_reverse}}
+use Rattle.std.specs.{Cmp.{IsTotalOrder}, List.{AllByRecursion, All, Contains, fold, list_any}, List.Sorted.{IsPermutation}, FinMap.{nat_cmp-IsAntisymmetric, slice_cmp-IsAntisymmetric}}
+use Rattle.t1_font.specs.{Numbers.{Size, size_cmp, below_zero, above_zero, value_cmp, spelling_cmp, least_first, greatest_first, sooner, soonest}, FontBoxes.{Box, says_nothing, held, joined_box}}
 use Rattle.t1_font.specs.EveningLaws.{BoxInAnyOrder, HoldsBox, HoldsEach, HeldByAll}
 
 -- ---- the orders of numbers are total

@@ -1,19 +1,12 @@
 -- A box that was put into a text is put in again at the same place.
-use Rattle.std.proofs.Common.{◌≡◌, ℕ, true, List, [], ◌++◌, Option, Some, None, refl, sym, ap, ◌∙◌, append_assoc}
-use Rattle.std.specs.Prelude.{◌&&◌}
-use Rattle.std.specs.Option.{option_map}
-use Rattle.std.specs.Str.{bytes_eq}
-use Rattle.std.proofs.lemmas.Bool.{and_parts, true≢false}
-use Rattle.std.proofs.lemmas.List.{append-nil}
-use Rattle.std.proofs.lemmas.Option.{none-some, same_Some}
-use Rattle.std.proofs.lemmas.Slice.Eq.{bytes_eq-Decides}
+use Rattle.std.proofs.{Common.{◌≡◌, ℕ, true, List, [], ◌++◌, Option, Some, None, refl, sym, ap, ◌∙◌, append_assoc}, lemmas.Bool.{and_parts, true≢false}, lemmas.List.{append-nil}}
+use Rattle.std.proofs.{lemmas.Option.{none-some, same_Some}, lemmas.Slice.Eq.{bytes_eq-Decides}}
+use Rattle.std.specs.{Prelude.{◌&&◌}, Option.{option_map}, Str.{bytes_eq}}
 use Rattle.t1_grammar.specs.Grammar.{first}
 use Rattle.t1_bytes.specs.White.{gap}
-use Rattle.t1_font.specs.FontValue.{Shell}
-use Rattle.t1_font.specs.Numbers.{number}
-use Rattle.t1_font.specs.FontBoxes.{Box, BoxNumbers, BoxPlace, spaced, box_numbers, font_box, place_in, at_place, box_place_text, Side, InHead, InTail, side_of, side_in, box_at}
-use Rattle.t1_font.specs.FontBoxes.{texts_at, texts_with, same_box, same_numbers, same_place, is_read, stays_at, stays_in, clear_of, with_clear, box_of, with_box}
-use Rattle.t1_font.specs.EveningLaws.{OneBoxForAnother}
+use Rattle.t1_font.specs.{FontValue.{Shell}, Numbers.{number}}
+use Rattle.t1_font.specs.FontBoxes.{Box, BoxNumbers, BoxPlace, spaced, box_numbers, font_box, place_in, at_place, box_place_text, Side, InHead, InTail, side_of, side_in, box_at, texts_at}
+use Rattle.t1_font.specs.{FontBoxes.{texts_with, same_box, same_numbers, same_place, is_read, stays_at, stays_in, clear_of, with_clear, box_of, with_box}, EveningLaws.{OneBoxForAnother}}
 use Rattle.t1_font.proofs.even_fonts.BoxTexts.{opening_spelled}
 
 -- ---- what the tests of places tell

@@ -1,8 +1,7 @@
 -- Boxes in texts: what is read is what the text spells.
-use Rattle.std.proofs.Common.{◌≡◌, ◌-◌, List, ℕ, [], ◌++◌, length, take, true, false, Option, Some, None, refl, sym, ap, ◌∙◌, append_assoc, arith}
-use Rattle.std.specs.Option.{option_map}
-use Rattle.std.proofs.lemmas.List.{append-nil, length-append, take_at}
+use Rattle.std.proofs.{Common.{◌≡◌, ◌-◌, List, ℕ, [], ◌++◌, length, take, true, false, Option, Some, None, refl, sym, ap, ◌∙◌, append_assoc, arith}, lemmas.List.{append-nil, length-append, take_at}}
 use Rattle.std.proofs.lemmas.Option.{none-some, same_Some}
+use Rattle.std.specs.Option.{option_map}
 use Rattle.t1_font.specs.FontBoxes.{BoxNumbers, opening, box_numbers, closes_box, font_box}
 
 -- ---- the bytes up to the numbers

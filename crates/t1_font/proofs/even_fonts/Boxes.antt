@@ -1,25 +1,13 @@
 -- The laws of fonts with one box.
 use Rattle.std.proofs.Common.{◌≡◌, ℕ, Bool, true, false, cond, List, [], ◌∷◌, ◌++◌, map, Option, Some, None, inl, inr, refl, sym, ap, subst, ◌∙◌}
-use Rattle.std.specs.Prelude.{◌||◌, filter}
-use Rattle.std.specs.List.{AllByRecursion, fold, list_any, list_all}
-use Rattle.std.specs.declared.cmp.Ordering.{Ordering}
-use Rattle.std.specs.Ordering.{is_gt}
-use Rattle.std.specs.Option.{option_map, option_and_then}
-use Rattle.std.specs.Str.{bytes_eq}
-use Rattle.std.proofs.lemmas.Bool.{cond-true, cond-false, cond_both, and_parts, cases_Bool, true≢false}
-use Rattle.std.proofs.lemmas.Option.{none-some, same_Some}
-use Rattle.std.proofs.lemmas.Slice.Eq.{bytes_eq-Decides}
+use Rattle.std.proofs.{lemmas.Bool.{cond-true, cond-false, cond_both, and_parts, cases_Bool, true≢false}, lemmas.Option.{none-some, same_Some}, lemmas.Slice.Eq.{bytes_eq-Decides}}
+use Rattle.std.specs.{Prelude.{◌||◌, filter}, List.{AllByRecursion, fold, list_any, list_all}, declared.cmp.Ordering.{Ordering}, Ordering.{is_gt}, Option.{option_map, option_and_then}, Str.{bytes_eq}}
 use Rattle.t1_bytes.specs.Laws.{AreBytes}
-use Rattle.t1_font.specs.FontValue.{FontValue, Shell}
-use Rattle.t1_font.specs.IsFont.{IsFont}
-use Rattle.t1_font.specs.EvenTexts.{same_both, even_clear, even_texts}
-use Rattle.t1_font.specs.Numbers.{least_first, greatest_first, sooner, soonest}
-use Rattle.t1_font.specs.FontBoxes.{Box, says_nothing, held, counting_boxes, joined_box, BoxPlace, place_in, at_place, box_place_text, Side, side_of, side_in, box_at}
-use Rattle.t1_font.specs.FontBoxes.{texts_at, texts_with, clear_of, with_clear, box_of, with_box, with_texts, font_with, can_have_at, can_have, boxes_of, all_with, boxed_by, boxed}
+use Rattle.t1_font.specs.{FontValue.{FontValue, Shell}, IsFont.{IsFont}, EvenTexts.{same_both, even_clear, even_texts}, Numbers.{least_first, greatest_first, sooner, soonest}}
+use Rattle.t1_font.specs.FontBoxes.{Box, says_nothing, held, counting_boxes, joined_box, BoxPlace, place_in, at_place, box_place_text, Side, side_of, side_in, box_at, texts_at, texts_with, clear_of}
+use Rattle.t1_font.specs.FontBoxes.{with_clear, box_of, with_box, with_texts, font_with, can_have_at, can_have, boxes_of, all_with, boxed_by, boxed}
 use Rattle.t1_font.specs.EveningLaws.{without_clear, BoxedTwice, BoxedKeeps, BoxedAreFonts, BoxedAreEven, OneShellStays}
-use Rattle.t1_font.proofs.ByteLemmas.{AreBytes-append}
-use Rattle.t1_font.proofs.even_fonts.BoxFonts.{taken_so, had_is_font}
-use Rattle.t1_font.proofs.even_fonts.BoxPlaces.{read_there, there_again, box_there, place_is, own_box}
+use Rattle.t1_font.proofs.{ByteLemmas.{AreBytes-append}, even_fonts.BoxFonts.{taken_so, had_is_font}, even_fonts.BoxPlaces.{read_there, there_again, box_there, place_is, own_box}}
 
 cond_same : {A : Type 0} (b : Bool) (x y z : A) → x ≡ z → y ≡ z → cond b x y ≡ z
 cond_same true x y z h k = h

@@ -1,17 +1,9 @@
 -- Fonts with one box stay as they are when they are filled and get one box again.
-use Rattle.std.proofs.Common.{◌≡◌, ℕ, ◌≤◌, arith, true, List, [], ◌∷◌, map, Option, Some, None, refl, sym, ap, ◌∙◌}
-use Rattle.std.specs.List.{AllByRecursion, list_all}
-use Rattle.std.specs.Option.{option_map, option_and_then}
-use Rattle.std.specs.Cmp.{nat_cmp_total}
-use Rattle.std.specs.FinMap.{get, entries, nat_cmp-IsAntisymmetric}
-use Rattle.std.proofs.lemmas.Bool.{cond-true, and_parts, and_from, leb-true, le-leb}
-use Rattle.t1_font.specs.FontValue.{FontValue, Numbered, declared_count, total, subr_weight, weight, weight_limit}
-use Rattle.t1_font.specs.Maps.{merged}
-use Rattle.t1_font.specs.Evening.{stubs_at, below_count, with_stubs, filled}
+use Rattle.std.proofs.{Common.{◌≡◌, ℕ, ◌≤◌, arith, true, List, [], ◌∷◌, map, Option, Some, None, refl, sym, ap, ◌∙◌}, lemmas.Bool.{cond-true, and_parts, and_from, leb-true, le-leb}}
+use Rattle.std.specs.{List.{AllByRecursion, list_all}, Option.{option_map, option_and_then}, Cmp.{nat_cmp_total}, FinMap.{get, entries, nat_cmp-IsAntisymmetric}}
+use Rattle.t1_font.specs.{FontValue.{FontValue, Numbered, declared_count, total, subr_weight, weight, weight_limit}, Maps.{merged}, Evening.{stubs_at, below_count, with_stubs, filled}}
 use Rattle.t1_font.specs.FontBoxes.{Box, Side, joined_box, side_in, texts_at, clear_of, with_texts, can_take, can_have_at, can_have, box_of, boxes_of, font_with, boxed_by, boxed}
-use Rattle.t1_font.proofs.MapLemmas.{joined, get-merged, total-le}
-use Rattle.t1_font.proofs.even_fonts.BoxFonts.{taken_so}
-use Rattle.t1_font.proofs.even_fonts.Boxes.{by_cases, same_box_stays, have_it, keep_it}
+use Rattle.t1_font.proofs.{MapLemmas.{joined, get-merged, total-le}, even_fonts.BoxFonts.{taken_so}, even_fonts.Boxes.{by_cases, same_box_stays, have_it, keep_it}}
 
 -- ---- a font that is filled
 

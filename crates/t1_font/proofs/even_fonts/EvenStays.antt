@@ -1,24 +1,12 @@
 -- A font that is even stays as it is, and so do fonts that are even with each other.
-use Rattle.std.proofs.Common.{◌≡◌, ℕ, ◌≤◌, arith, Bool, true, false, cond, ◌||◌, List, [], ◌∷◌, map, Option, Some, None, is_some, refl, sym, ap, ◌∙◌, true≢false}
-use Rattle.std.specs.Prelude.{max, nat_lt}
-use Rattle.std.specs.List.{AllByRecursion, list_all}
-use Rattle.std.proofs.lemmas.Bool.{and_parts}
-use Rattle.t1_font.specs.EvenTexts.{even_texts}
-use Rattle.t1_font.specs.FontBoxes.{Box, box_of, joined_box, can_have, font_with, boxed}
-use Rattle.std.specs.Option.{option_map}
-use Rattle.std.specs.Cmp.{nat_cmp_total}
+use Rattle.std.proofs.{Common.{◌≡◌, ℕ, ◌≤◌, arith, Bool, true, false, cond, ◌||◌, List, [], ◌∷◌, map, Option, Some, None, is_some, refl, sym, ap, ◌∙◌, true≢false}, lemmas.Bool.{and_parts}}
+use Rattle.std.specs.{Prelude.{max, nat_lt}, List.{AllByRecursion, list_all}, Option.{option_map}, Cmp.{nat_cmp_total}}
 use Rattle.std.specs.FinMap.{get, entries, keys, contains_key, contains_key-keys, get-from_entries, same_map, nat_cmp-IsAntisymmetric}
-use Rattle.t1_font.specs.FontValue.{FontValue, SubrsShell, Numbered, declared_count}
-use Rattle.t1_font.specs.Cut.{stub}
-use Rattle.t1_font.specs.Maps.{merged}
-use Rattle.t1_font.specs.Evening.{raised, even, stubs_at, below_count, with_stubs, filled, largest_count, indices_of_all, each_even, evened_shells, filled_all, evened}
+use Rattle.t1_font.specs.{EvenTexts.{even_texts}, FontBoxes.{Box, box_of, joined_box, can_have, font_with, boxed}, FontValue.{FontValue, SubrsShell, Numbered, declared_count}, Cut.{stub}}
+use Rattle.t1_font.specs.{Maps.{merged}, Evening.{raised, even, stubs_at, below_count, with_stubs, filled, largest_count, indices_of_all, each_even, evened_shells, filled_all, evened}}
 use Rattle.t1_font.specs.EveningLaws.{EvenStays, FilledStays, EvenedTwice, IsEvenWith, EvenFontsStay}
-use Rattle.t1_font.proofs.MapLemmas.{joined, get-merged, get-retain}
-use Rattle.t1_font.proofs.even_fonts.Evened.{stubs_below}
-use Rattle.t1_font.proofs.even_fonts.Filled.{is_one, find_stub, indices_next}
-use Rattle.t1_font.proofs.even_fonts.EvenTexts.{even_texts_stay}
-use Rattle.t1_font.proofs.even_fonts.Boxes.{by_cases, even_still, one_box_stays}
-use Rattle.t1_font.proofs.even_fonts.Boxing.{filled_boxed}
+use Rattle.t1_font.proofs.{MapLemmas.{joined, get-merged, get-retain}, even_fonts.Evened.{stubs_below}, even_fonts.Filled.{is_one, find_stub, indices_next}, even_fonts.EvenTexts.{even_texts_stay}}
+use Rattle.t1_font.proofs.{even_fonts.Boxes.{by_cases, even_still, one_box_stays}, even_fonts.Boxing.{filled_boxed}}
 
 max_small : (n m : ℕ) → n ≤ m → max n m ≡ m
 max_small n m h = omega (arith, h)
@@ -213,11 +201,13 @@ fills_once None false true false h = refl
 
 -- Subrs that are filled at some indices stay when they are filled at some of these
 filled_again : (m : Numbered) (n : ℕ) (indices more : List ℕ) → Among more indices → (es : List (ℕ × List ℕ)) → entries m ≡ es →
-    with_stubs (below_count n more) (with_stubs (below_count n indices) m es) (entries (with_stubs (below_count n indices) m es)) ≡ with_stubs (below_count n indices) m es
+    with_stubs (below_count n more) (with_stubs (below_count n indices) m es) (entries (with_stubs (below_count n indices) m es))
+    ≡ with_stubs (below_count n indices) m es
 filled_again m n indices more h [] none = ap (with_stubs (below_count n more) m) none
 filled_again m n indices more h (e ∷ es) is = by_entries (entries (merged m (stubs_at (below_count n indices))))
   where
-    by_entries : (ds : List (ℕ × List ℕ)) → with_stubs (below_count n more) (merged m (stubs_at (below_count n indices))) ds ≡ merged m (stubs_at (below_count n indices))
+    by_entries : (ds : List (ℕ × List ℕ)) → with_stubs (below_count n more) (merged m (stubs_at (below_count n indices))) ds
+        ≡ merged m (stubs_at (below_count n indices))
     by_entries [] = refl
     by_entries (d ∷ ds) = same_map nat_cmp_total nat_cmp-IsAntisymmetric _ _ (λ q.
         get_filled (merged m (stubs_at (below_count n indices))) n more q

@@ -1,32 +1,16 @@
 -- Kept texts that are made even stay when they are made even again, and are again texts of a font, no longer than before.
-use Rattle.std.proofs.Common.{◌≡◌, ℕ, ◌≤◌, arith, Bool, true, false, cond, List, [], ◌∷◌, ◌++◌, length, Option, Some, None, Result, Ok, Err}
-use Rattle.std.proofs.Common.{refl, sym, ap, ◌∙◌, true≢false}
-use Rattle.std.specs.Prelude.{◌&&◌, not}
-use Rattle.std.specs.Option.{option_map, option_and_then}
-use Rattle.std.specs.Str.{bytes_eq}
-use Rattle.std.proofs.lemmas.Bool.{eqb-true}
-use Rattle.std.proofs.lemmas.Option.{none-some}
-use Rattle.std.proofs.lemmas.Slice.Eq.{bytes_eq-Decides}
-use Rattle.t1_grammar.specs.Grammar.{Grammar, Stops, Lacks, first, first_at, choice}
-use Rattle.t1_grammar.specs.Places.{occurs, absent_lacks}
+use Rattle.std.proofs.{Common.{◌≡◌, ℕ, ◌≤◌, arith, Bool, true, false, cond, List, [], ◌∷◌, ◌++◌, length, Option, Some, None, Result, Ok, Err, refl, sym, ap, ◌∙◌, true≢false}, lemmas.Bool.{eqb-true}}
+use Rattle.std.proofs.{lemmas.Option.{none-some}, lemmas.Slice.Eq.{bytes_eq-Decides}}
+use Rattle.std.specs.{Prelude.{◌&&◌, not}, Option.{option_map, option_and_then}, Str.{bytes_eq}}
+use Rattle.t1_grammar.specs.{Grammar.{Grammar, Stops, Lacks, first, first_at, choice}, Places.{occurs, absent_lacks}}
 use Rattle.t1_bytes.specs.Eexec.{eexec_marker}
-use Rattle.t1_font.specs.declared.even_texts.KeptText.{KeptText}
-use Rattle.t1_font.specs.declared.even_texts.KeptText.TheVariants.{Head, ClearTail, Private, Middle, Tail}
-use Rattle.t1_font.specs.declared.fault.ReadFault.{ReadFault}
-use Rattle.t1_font.specs.Words.{is_regular, regular_comes}
-use Rattle.t1_font.specs.Markers.{encoding_marker, subrs_marker, chars_marker, closefile}
-use Rattle.t1_font.specs.Pieces.{iv_of}
-use Rattle.t1_font.specs.FontValue.{Shell, texts_weight}
-use Rattle.t1_font.specs.FontTest.{eexec_there, has_marker}
-use Rattle.t1_font.specs.IsFont.{NoMarker, IsClearShell, IsPrivateShell, AreTexts}
-use Rattle.t1_font.specs.Squeezing.{squeezed_piece, squeezed}
-use Rattle.t1_font.specs.Identity.{unnumbered_piece, unnumbered}
+use Rattle.t1_font.specs.{declared.even_texts.KeptText.{KeptText}, declared.even_texts.KeptText.TheVariants.{Head, ClearTail, Private, Middle, Tail}, declared.fault.ReadFault.{ReadFault}}
+use Rattle.t1_font.specs.{Words.{is_regular, regular_comes}, Markers.{encoding_marker, subrs_marker, chars_marker, closefile}, Pieces.{iv_of}, FontValue.{Shell, texts_weight}}
+use Rattle.t1_font.specs.{FontTest.{eexec_there, has_marker}, IsFont.{NoMarker, IsClearShell, IsPrivateShell, AreTexts}, Squeezing.{squeezed_piece, squeezed}, Identity.{unnumbered_piece, unnumbered}}
 use Rattle.t1_font.specs.Tags.{tagged_name, untagged_piece, both_untagged}
-use Rattle.t1_font.specs.EvenTexts.{is_left, ends_at, reads_number, own_fits, fits, taken, squeezed_text, even_text}
-use Rattle.t1_font.specs.EvenTexts.{same_both, both_even, without_tags, both_fit, even_clear, even_texts}
+use Rattle.t1_font.specs.EvenTexts.{is_left, ends_at, reads_number, own_fits, fits, taken, squeezed_text, even_text, same_both, both_even, without_tags, both_fit, even_clear, even_texts}
 use Rattle.t1_font.specs.EveningLaws.{EvenTextsStay}
-use Rattle.t1_font.proofs.Untested.{both_true, not_true, neither, lacks_none, no_eexec}
-use Rattle.t1_font.proofs.even_fonts.RewritingLemmas.{Shrinks, pieces_shrink, squeezed_takes, unnumbered_takes, untagged_takes}
+use Rattle.t1_font.proofs.{Untested.{both_true, not_true, neither, lacks_none, no_eexec}, even_fonts.RewritingLemmas.{Shrinks, pieces_shrink, squeezed_takes, unnumbered_takes, untagged_takes}}
 
 -- ---- steps that are taken
 

@@ -1,19 +1,10 @@
 -- A font made even is a font, and so is one that is filled.
-use Rattle.std.proofs.Common.{◌≡◌, ℕ, ◌≤◌, ◌<◌, arith, Bool, true, false, cond, List, [], ◌∷◌, map, Option, Some, None, inl, inr, refl, sym, ap, subst, ◌∙◌}
-use Rattle.std.specs.Prelude.{nat_lt}
-use Rattle.std.specs.Option.{option_map}
-use Rattle.std.specs.Ordering.{nat_cmp, eq_by_cmp}
-use Rattle.std.specs.Cmp.{nat_cmp_total, Equal-is}
+use Rattle.std.proofs.{Common.{◌≡◌, ℕ, ◌≤◌, ◌<◌, arith, Bool, true, false, cond, List, [], ◌∷◌, map, Option, Some, None, inl, inr, refl, sym, ap, subst, ◌∙◌}, lemmas.Bool.{ltb-true}}
+use Rattle.std.specs.{Prelude.{nat_lt}, Option.{option_map}, Ordering.{nat_cmp, eq_by_cmp}, Cmp.{nat_cmp_total, Equal-is}}
 use Rattle.std.specs.FinMap.{find, get, entries, get-entries, get-from_entries, retain_keys, same_map, nat_cmp-IsAntisymmetric}
-use Rattle.std.proofs.lemmas.Bool.{ltb-true}
-use Rattle.t1_font.specs.FontValue.{FontValue, Shell, SubrsShell, Numbered, declared_count, count_limit, weight_limit, weight}
-use Rattle.t1_font.specs.Cut.{stub}
-use Rattle.t1_font.specs.Maps.{merged}
-use Rattle.t1_font.specs.EvenTexts.{even_texts}
-use Rattle.t1_font.specs.Evening.{raised, even_shell, even, stubs_at, below_count, with_stubs, filled}
-use Rattle.t1_font.specs.IsFont.{IsFont, IsCharstring, SubrsFit, SubrWords, IsWord, IsPhrase}
-use Rattle.t1_font.proofs.MapLemmas.{is_or_not, joined, get-merged, get-retain, find_first, Some_None}
-use Rattle.t1_font.proofs.Kept.{iv_small, merged_has}
+use Rattle.t1_font.specs.{FontValue.{FontValue, Shell, SubrsShell, Numbered, declared_count, count_limit, weight_limit, weight}, Cut.{stub}, Maps.{merged}, EvenTexts.{even_texts}}
+use Rattle.t1_font.specs.{Evening.{raised, even_shell, even, stubs_at, below_count, with_stubs, filled}, IsFont.{IsFont, IsCharstring, SubrsFit, SubrWords, IsWord, IsPhrase}}
+use Rattle.t1_font.proofs.{MapLemmas.{is_or_not, joined, get-merged, get-retain, find_first, Some_None}, Kept.{iv_small, merged_has}}
 use Rattle.t1_font.proofs.even_fonts.EvenTexts.{even_shorter, empty_stays, even_clear_shell, even_private_shell, even_are_texts}
 
 -- ---- a font made even
@@ -85,7 +76,8 @@ none_either_way true = refl
 none_either_way false = refl
 
 -- an index below n has its stub, and any other none
-find_below : (n i : ℕ) (indices : List ℕ) → find nat_cmp i (stub_entries (below_count n indices)) ≡ cond (nat_lt i n) (find nat_cmp i (stub_entries indices)) None
+find_below : (n i : ℕ) (indices : List ℕ) → find nat_cmp i (stub_entries (below_count n indices))
+    ≡ cond (nat_lt i n) (find nat_cmp i (stub_entries indices)) None
 find_below n i [] = sym (none_either_way (nat_lt i n))
 find_below n i (j ∷ js) =
     let rest = find_below n i js in

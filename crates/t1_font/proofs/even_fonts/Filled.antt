@@ -1,28 +1,12 @@
 -- Fonts that are filled one by one, by one table of stubs.
-use Rattle.std.proofs.Common.{◌≡◌, ℕ, ◌+◌, ◌≤◌, ◌<◌, Bool, true, false, cond, ◌&&◌, ◌||◌, List, [], ◌∷◌, ◌++◌, map, length, drop}
-use Rattle.std.proofs.Common.{get_or, Option, Some, None, is_some, inl, inr, refl, sym, ap, subst, ◌∙◌, arith, true≢false}
-use Rattle.std.specs.Prelude.{nat_lt, max, ◌==◌}
-use Rattle.std.specs.List.{list_any}
-use Rattle.std.specs.Ordering.{nat_cmp, eq_by_cmp}
-use Rattle.std.specs.Option.{option_map}
-use Rattle.std.specs.Cmp.{nat_cmp_total, Equal-is}
-use Rattle.std.specs.BTreeSet.{contains}
-use Rattle.std.proofs.Common.{BTreeSet}
-use Rattle.std.specs.BTreeMap.{is_at}
+use Rattle.std.proofs.Common.{◌≡◌, ℕ, ◌+◌, ◌≤◌, ◌<◌, Bool, true, false, cond, ◌&&◌, ◌||◌, List, [], ◌∷◌, ◌++◌, map, length, drop, get_or, Option, Some, None, is_some, inl, inr, refl, sym, ap, subst}
+use Rattle.std.proofs.{Common.{◌∙◌, arith, true≢false, BTreeSet}, lemmas.List.{append_assoc, append-nil, drop_more, drop_all}, lemmas.Bool.{cases_Bool, eqb-true}, lemmas.List.Folds.{list_any-append}}
+use Rattle.std.specs.{Prelude.{nat_lt, max, ◌==◌}, List.{list_any}, Ordering.{nat_cmp, eq_by_cmp}, Option.{option_map}, Cmp.{nat_cmp_total, Equal-is}, BTreeSet.{contains}, BTreeMap.{is_at}}
 use Rattle.std.specs.FinMap.{find, get, entries, keys, empty, get-empty, get-from_entries, contains_key, contains_key-keys, retain_keys, same_map, nat_cmp-IsAntisymmetric}
-use Rattle.std.proofs.lemmas.List.{append_assoc, append-nil, drop_more, drop_all}
-use Rattle.std.proofs.lemmas.Bool.{cases_Bool, eqb-true}
-use Rattle.std.proofs.lemmas.List.Folds.{list_any-append}
-use Rattle.t1_font.specs.declared.parts.PartsFault.{PartsFault}
-use Rattle.t1_font.specs.declared.parts.PartsFault.TheVariants.{Limit, Memory}
-use Rattle.t1_font.specs.FontValue.{FontValue, Numbered, declared_count, weight, weight_limit}
-use Rattle.t1_font.specs.Cut.{stub}
-use Rattle.t1_font.specs.Maps.{map_values, merged}
-use Rattle.t1_font.specs.Evening.{stubs_at, below_count, with_stubs, filled, filled_all, indices_of_all, largest_count}
-use Rattle.t1_font.specs.Filling.{AreLight, AnyHeavy, Fills, FillRefuses, has_each, are_below, has_none, with_these, filled_by, FontRefused}
-use Rattle.t1_font.specs.IsFont.{IsFont}
-use Rattle.t1_font.proofs.MapLemmas.{joined, get-merged, get-map_values}
-use Rattle.t1_font.proofs.even_fonts.Evened.{stubs_below, filled_is_font}
+use Rattle.t1_font.specs.{declared.parts.PartsFault.{PartsFault}, declared.parts.PartsFault.TheVariants.{Limit, Memory}, FontValue.{FontValue, Numbered, declared_count, weight, weight_limit}}
+use Rattle.t1_font.specs.{Cut.{stub}, Maps.{map_values, merged}, Evening.{stubs_at, below_count, with_stubs, filled, filled_all, indices_of_all, largest_count}}
+use Rattle.t1_font.specs.{Filling.{AreLight, AnyHeavy, Fills, FillRefuses, has_each, are_below, has_none, with_these, filled_by, FontRefused}, IsFont.{IsFont}}
+use Rattle.t1_font.proofs.{MapLemmas.{joined, get-merged, get-map_values}, even_fonts.Evened.{stubs_below, filled_is_font}}
 
 -- ---- the largest count
 

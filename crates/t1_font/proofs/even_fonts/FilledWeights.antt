@@ -1,16 +1,9 @@
 -- What fonts weigh that are filled: each stub adds the same.
 use Rattle.std.proofs.Common.{◌≡◌, ℕ, ◌+◌, ◌-◌, ◌*◌, Bool, true, false, not, List, [], ◌∷◌, map, filter, length, refl, sym, ◌∙◌, ap, arith, Option, Some, None, cond, is_some}
-use Rattle.std.specs.List.{AllByRecursion}
-use Rattle.std.specs.Ordering.{nat_cmp, eq_by_cmp}
-use Rattle.std.specs.Cmp.{nat_cmp_total}
+use Rattle.std.specs.{List.{AllByRecursion}, Ordering.{nat_cmp, eq_by_cmp}, Cmp.{nat_cmp_total}}
 use Rattle.std.specs.FinMap.{find, get, get-from_entries, entries, contains_key, retain_keys, same_map, len, len-entries, nat_cmp-IsAntisymmetric}
-use Rattle.t1_font.specs.FontValue.{FontValue, Numbered, total, texts_weight, subr_weight, glyph_weight, weight}
-use Rattle.t1_font.specs.Cut.{stub}
-use Rattle.t1_font.specs.Evening.{stubs_at}
-use Rattle.t1_font.specs.Maps.{merged}
-use Rattle.t1_font.specs.Filling.{AreStubs, with_subrs}
-use Rattle.t1_font.proofs.MapLemmas.{get-merged, get-retain, entries_all, joined, Some_same, Some_None}
-use Rattle.t1_font.proofs.CutEntries.{entries-retain}
+use Rattle.t1_font.specs.{FontValue.{FontValue, Numbered, total, texts_weight, subr_weight, glyph_weight, weight}, Cut.{stub}, Evening.{stubs_at}, Maps.{merged}, Filling.{AreStubs, with_subrs}}
+use Rattle.t1_font.proofs.{MapLemmas.{get-merged, get-retain, entries_all, joined, Some_same, Some_None}, CutEntries.{entries-retain}}
 
 module _ {K X : Type 0} (w : K → X → ℕ) where
   -- entries that pass a test and those that fail it sum to what all do

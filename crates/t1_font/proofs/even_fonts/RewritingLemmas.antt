@@ -1,26 +1,14 @@
 -- Texts that are rewritten piece by piece: each piece has bytes, and what is put in its place is no longer.
-use Rattle.std.proofs.Common.{◌≡◌, is_some, ◌⊎◌, ◌&&◌, ◌||◌, ℕ, zero, suc, ◌≤◌, ◌<◌, arith, Bool, true, false, cond, List, [], ◌∷◌, ◌++◌, length, take, drop, Option, Some, None}
-use Rattle.std.proofs.Common.{inl, inr, refl, sym, ap, subst, ◌∙◌, append_assoc, one-add, true≢false}
-use Rattle.std.specs.Prelude.{◌==◌, not}
-use Rattle.std.specs.List.{prefix_len, list_any}
-use Rattle.std.proofs.lemmas.Bool.{eqb-true}
-use Rattle.std.proofs.lemmas.List.{length-append, append-nil, length-drop, take-append-drop}
-use Rattle.t1_bytes.specs.Laws.{AreBytes}
-use Rattle.t1_grammar.specs.Grammar.{Grammar, Lacks, fixed, unread}
-use Rattle.t1_grammar.specs.Places.{occurs, absent_lacks}
-use Rattle.t1_bytes.specs.Eexec.{is_blank, blank_comes}
-use Rattle.t1_font.specs.declared.rewriting.Step.{Step}
-use Rattle.t1_font.specs.declared.rewriting.Step.TheVariants.{Unnumbered, Untagged}
-use Rattle.t1_font.specs.Words.{is_regular}
-use Rattle.t1_font.specs.Rewriting.{Piece, pieces, rewritten, parted, TakesPiece, TakesPieces}
-use Rattle.t1_font.specs.Squeezing.{ends_line, one_space, is_solid, squeezed_piece, squeezed, stays, staying}
-use Rattle.t1_font.specs.Identity.{unique_id, extended_id, identity_line, is_in_line, with_end, first_line, without_line, unnumbered_piece, unnumbered}
-use Rattle.t1_font.specs.Tags.{untagged, renamed, untagged_piece}
+use Rattle.std.proofs.Common.{◌≡◌, is_some, ◌⊎◌, ◌&&◌, ◌||◌, ℕ, zero, suc, ◌≤◌, ◌<◌, arith, Bool, true, false, cond, List, [], ◌∷◌, ◌++◌, length, take, drop, Option, Some, None, inl, inr, refl, sym}
+use Rattle.std.proofs.{Common.{ap, subst, ◌∙◌, append_assoc, one-add, true≢false}, lemmas.Bool.{eqb-true}, lemmas.List.{length-append, append-nil, length-drop, take-append-drop}}
+use Rattle.std.specs.{Prelude.{◌==◌, not}, List.{prefix_len, list_any}}
+use Rattle.t1_bytes.specs.{Laws.{AreBytes}, Eexec.{is_blank, blank_comes}}
+use Rattle.t1_grammar.specs.{Grammar.{Grammar, Lacks, fixed, unread}, Places.{occurs, absent_lacks}}
+use Rattle.t1_font.specs.{declared.rewriting.Step.{Step}, declared.rewriting.Step.TheVariants.{Unnumbered, Untagged}, Words.{is_regular}}
+use Rattle.t1_font.specs.{Rewriting.{Piece, pieces, rewritten, parted, TakesPiece, TakesPieces}, Squeezing.{ends_line, one_space, is_solid, squeezed_piece, squeezed, stays, staying}}
+use Rattle.t1_font.specs.{Identity.{unique_id, extended_id, identity_line, is_in_line, with_end, first_line, without_line, unnumbered_piece, unnumbered}, Tags.{untagged, renamed, untagged_piece}}
 use Rattle.t1_font.specs.Steps.{piece_of}
-use Rattle.t1_font.proofs.ByteLemmas.{AreBytes-append}
-use Rattle.t1_font.proofs.read_fonts.ReadBytes.{bytes_left, bytes_right}
-use Rattle.t1_font.proofs.Untested.{both_true, not_true}
-use Rattle.t1_font.proofs.even_fonts.TagLemmas.{ends_untagged}
+use Rattle.t1_font.proofs.{ByteLemmas.{AreBytes-append}, read_fonts.ReadBytes.{bytes_left, bytes_right}, Untested.{both_true, not_true}, even_fonts.TagLemmas.{ends_untagged}}
 
 -- ---- a walk over pieces
 

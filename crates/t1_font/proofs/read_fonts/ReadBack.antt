@@ -1,19 +1,11 @@
 -- The end of the font, the phrases and the end of the clear text, read again from what was kept of them.
 use Rattle.std.proofs.Common.{◌≡◌, ℕ, ◌≤◌, inl, inr, Bool, true, false, cond, eqb, List, [], ◌∷◌, ◌++◌, length, take, drop, Option, Some, None, refl, sym, ap, ◌∙◌, append_assoc, arith}
-use Rattle.std.specs.Prelude.{codes}
-use Rattle.std.specs.List.{prefix_len}
-use Rattle.std.specs.Option.{option_map, option_and_then}
-use Rattle.std.proofs.lemmas.Option.{none-some}
-use Rattle.std.proofs.lemmas.Bool.{cases_Bool}
-use Rattle.std.proofs.lemmas.List.{append-nil, length-append}
+use Rattle.std.proofs.{lemmas.Option.{none-some}, lemmas.Bool.{cases_Bool}, lemmas.List.{append-nil, length-append}}
+use Rattle.std.specs.{Prelude.{codes}, List.{prefix_len}, Option.{option_map, option_and_then}}
 use Rattle.t1_grammar.specs.Grammar.{Grammar, pure, ◌>>=◌, ◌>>◌, before, NoneIn, Stops, first, first_at, fixed, unspelled, unread}
-use Rattle.t1_bytes.specs.White.{is_white, has_bytes, gap}
-use Rattle.t1_bytes.specs.Eexec.{eexec_marker, blank_comes}
-use Rattle.t1_font.specs.Words.{is_regular, word, phrase_of, phrase_after, is_access}
-use Rattle.t1_font.specs.Markers.{closefile}
-use Rattle.t1_font.proofs.canonical.Borders.{strip, fixed_strip}
-use Rattle.t1_font.proofs.canonical.Written.{black, word_has}
-use Rattle.t1_font.proofs.canonical.Moves.{first_behind, run_front}
+use Rattle.t1_bytes.specs.{White.{is_white, has_bytes, gap}, Eexec.{eexec_marker, blank_comes}}
+use Rattle.t1_font.specs.{Words.{is_regular, word, phrase_of, phrase_after, is_access}, Markers.{closefile}}
+use Rattle.t1_font.proofs.{canonical.Borders.{strip, fixed_strip}, canonical.Written.{black, word_has}, canonical.Moves.{first_behind, run_front}}
 
 -- a text that can't stand within bytes that are long enough for it can't stand there whatever follows
 strip_long : (w xs u v : List ℕ) → length w ≤ length xs → strip w (xs ++ u) ≡ None → strip w (xs ++ v) ≡ None

@@ -1,16 +1,9 @@
 -- What is read of bytes is bytes.
-use Rattle.std.proofs.Common.{◌≡◌, ℕ, zero, suc, ◌/◌, ◌<◌, ◌^◌, ◌≤◌, inl, inr, Bool, true, false, leb, List, [], ◌∷◌, ◌++◌, drop, refl, subst, arith}
-use Rattle.std.specs.Prelude.{filter}
-use Rattle.std.specs.List.{AllByRecursion, flat_map}
-use Rattle.std.proofs.lemmas.Nat.{xor_lt}
+use Rattle.std.proofs.{Common.{◌≡◌, ℕ, zero, suc, ◌/◌, ◌<◌, ◌^◌, ◌≤◌, inl, inr, Bool, true, false, leb, List, [], ◌∷◌, ◌++◌, drop, refl, subst, arith}, lemmas.Nat.{xor_lt}}
 use Rattle.std.proofs.lemmas.Bool.{cases_Bool, leb-true, agree_below_at}
-use Rattle.t1_bytes.specs.Cipher.{next_key, decrypted}
-use Rattle.t1_grammar.specs.Grammar.{Grammar}
-use Rattle.t1_grammar.specs.Tables.{Entries}
-use Rattle.t1_bytes.specs.Segments.{segment}
-use Rattle.t1_bytes.specs.FlatText.{starts_segment, flat_when, IsFlat}
-use Rattle.t1_bytes.specs.Eexec.{digit_value, paired, cipher_text}
-use Rattle.t1_bytes.specs.Laws.{AreBytes}
+use Rattle.std.specs.{Prelude.{filter}, List.{AllByRecursion, flat_map}}
+use Rattle.t1_bytes.specs.{Cipher.{next_key, decrypted}, Segments.{segment}, FlatText.{starts_segment, flat_when, IsFlat}, Eexec.{digit_value, paired, cipher_text}, Laws.{AreBytes}}
+use Rattle.t1_grammar.specs.{Grammar.{Grammar}, Tables.{Entries}}
 use Rattle.t1_font.proofs.ByteLemmas.{AreBytes-append}
 
 pub bytes_left : (a b : List ℕ) → AreBytes (a ++ b) → AreBytes a

@@ -1,40 +1,15 @@
 -- The clear text of a file that was read is that of a font.
-use Rattle.std.proofs.Common.{◌≡◌, ℕ, suc, ◌+◌, ◌≤◌, inl, inr, true, false, List, [], ◌∷◌, ◌++◌, length, take, ◌-◌}
-use Rattle.std.proofs.Common.{get_or, Option, Some, None, refl, sym, ap, subst, ◌∙◌, append_assoc, arith, true≢false}
-use Rattle.std.specs.Prelude.{codes}
-use Rattle.std.specs.List.{AllByRecursion}
-use Rattle.std.specs.Option.{option_map}
-use Rattle.std.specs.Str.{bytes_eq}
-use Rattle.std.specs.Ordering.{nat_cmp}
-use Rattle.std.specs.Cmp.{nat_cmp_total}
-use Rattle.std.specs.FinMap.{nat_cmp-IsAntisymmetric}
-use Rattle.std.proofs.lemmas.List.{append-nil, length-append}
-use Rattle.std.proofs.lemmas.Bool.{cases_Bool}
-use Rattle.t1_grammar.specs.Grammar.{NoneIn, Stops, first, first_at, AtFront, unspelled, unread}
-use Rattle.t1_grammar.proofs.Grammars.{that_read, run_read}
-use Rattle.t1_bytes.specs.White.{is_white, white, has_bytes, gap}
-use Rattle.t1_bytes.specs.Eexec.{eexec_marker, blank_comes}
-use Rattle.t1_bytes.specs.Split.{split, IsSplit}
-use Rattle.t1_bytes.specs.Laws.{AreBytes}
-use Rattle.t1_font.specs.declared.dialect.Spacing.{Spacing}
-use Rattle.t1_font.specs.declared.dialect.Dialect.{Dialect}
-use Rattle.t1_font.specs.Words.{is_regular, keyword, next_name}
-use Rattle.t1_font.specs.Markers.{encoding_marker}
+use Rattle.std.proofs.Common.{◌≡◌, ℕ, suc, ◌+◌, ◌≤◌, inl, inr, true, false, List, [], ◌∷◌, ◌++◌, length, take, ◌-◌, get_or, Option, Some, None, refl, sym, ap, subst, ◌∙◌, append_assoc, arith}
+use Rattle.std.proofs.{Common.{true≢false}, lemmas.List.{append-nil, length-append}, lemmas.Bool.{cases_Bool}}
+use Rattle.std.specs.{Prelude.{codes}, List.{AllByRecursion}, Option.{option_map}, Str.{bytes_eq}, Ordering.{nat_cmp}, Cmp.{nat_cmp_total}, FinMap.{nat_cmp-IsAntisymmetric}}
+use Rattle.t1_grammar.{specs.Grammar.{NoneIn, Stops, first, first_at, AtFront, unspelled, unread}, proofs.Grammars.{that_read, run_read}}
+use Rattle.t1_bytes.specs.{White.{is_white, white, has_bytes, gap}, Eexec.{eexec_marker, blank_comes}, Split.{split, IsSplit}, Laws.{AreBytes}}
+use Rattle.t1_font.specs.{declared.dialect.Spacing.{Spacing}, declared.dialect.Dialect.{Dialect}, Words.{is_regular, keyword, next_name}, Markers.{encoding_marker}}
 use Rattle.t1_font.specs.Encoding.{Opening, Whole, OpensPuts, OpensNames, encoding_start, encoding_word, code_entry, encoding_end, array_end, from_code}
-use Rattle.t1_font.specs.Pieces.{EncodingText, OneWord, Puts, ClearPieces, PrivatePieces}
-use Rattle.t1_font.specs.FontValue.{notdef}
-use Rattle.t1_font.specs.Entries.{last_value, unless_notdef}
-use Rattle.t1_font.specs.ReadFont.{encoding_value, shell_of}
-use Rattle.t1_font.specs.Spelling.{SpellsEncoding, IsClear}
-use Rattle.t1_font.specs.IsFont.{IsWord, IsClearShell, IsEncoding, NoMarker}
-use Rattle.t1_font.specs.EntryLaws.{keyword_text}
-use Rattle.t1_font.proofs.MapLaws.{get-names_of}
-use Rattle.t1_font.proofs.MapLemmas.{Some_same, Some_None}
-use Rattle.t1_font.proofs.canonical.EntriesWritten.{fixed_read}
-use Rattle.t1_font.proofs.FileParts.{before_last}
-use Rattle.t1_font.proofs.canonical.Moves.{first_behind, eexec_moves, encoding_moves}
-use Rattle.t1_font.proofs.read_fonts.ReadBack.{eexec_alike}
-use Rattle.t1_font.proofs.read_fonts.ReadBytes.{parts_bytes, entries_have}
+use Rattle.t1_font.specs.{Pieces.{EncodingText, OneWord, Puts, ClearPieces, PrivatePieces}, FontValue.{notdef}, Entries.{last_value, unless_notdef}, ReadFont.{encoding_value, shell_of}}
+use Rattle.t1_font.specs.{Spelling.{SpellsEncoding, IsClear}, IsFont.{IsWord, IsClearShell, IsEncoding, NoMarker}, EntryLaws.{keyword_text}}
+use Rattle.t1_font.proofs.{MapLaws.{get-names_of}, MapLemmas.{Some_same, Some_None}, canonical.EntriesWritten.{fixed_read}, FileParts.{before_last}}
+use Rattle.t1_font.proofs.{canonical.Moves.{first_behind, eexec_moves, encoding_moves}, read_fonts.ReadBack.{eexec_alike}, read_fonts.ReadBytes.{parts_bytes, entries_have}}
 use Rattle.t1_font.proofs.read_fonts.ReadEntries.{word_of, code_entry_of, next_name_of, IsReadPut, IsReadEntry, puts_are, last_has}
 use Rattle.t1_font.proofs.read_fonts.ReadMarkers.{meet, NoneIn-left, NoneIn-right, encoding_slash, IsMarker, marker_is, is_plain, marker_plain, plain_right}
 

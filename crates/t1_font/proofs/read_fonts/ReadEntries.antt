@@ -1,36 +1,16 @@
 -- What is known of the words and entries that were read of bytes.
 use Rattle.std.proofs.Common.{◌+◌, zero, suc, inl, inr, ◌≡◌, ℕ, ◌≤◌, ◌<◌, Ordering, Bool, true, false, leb, cond, List, [], ◌∷◌, ◌++◌, length, Option, Some, None, refl, sym, subst, ◌∙◌, arith}
-use Rattle.std.specs.Prelude.{codes, unwrap_or}
-use Rattle.std.specs.List.{AllByRecursion}
-use Rattle.std.specs.Ordering.{is_eq, nat_cmp}
-use Rattle.std.specs.FinSet.{nat_cmp-IsAntisymmetric}
-use Rattle.std.specs.Cmp.{IsTotalOrder, Equal-is}
-use Rattle.std.specs.FinMap.{get, IsAntisymmetric}
-use Rattle.std.proofs.lemmas.Bool.{leb-true, ltb-true, and_parts}
-use Rattle.std.proofs.lemmas.List.{length-drop}
+use Rattle.std.proofs.{lemmas.Bool.{leb-true, ltb-true, and_parts}, lemmas.List.{length-drop}}
+use Rattle.std.specs.{Prelude.{codes, unwrap_or}, List.{AllByRecursion}, Ordering.{is_eq, nat_cmp}, FinSet.{nat_cmp-IsAntisymmetric}, Cmp.{IsTotalOrder, Equal-is}, FinMap.{get, IsAntisymmetric}}
 use Rattle.t1_grammar.specs.Grammar.{Grammar, choice}
-use Rattle.t1_bytes.specs.Laws.{AreBytes}
-use Rattle.t1_bytes.specs.Cipher.{decrypted}
-use Rattle.t1_bytes.proofs.Ciphers.{length-decrypted}
-use Rattle.t1_font.specs.declared.dialect.Spacing.{Spacing}
-use Rattle.t1_font.specs.declared.dialect.Dialect.{Dialect}
-use Rattle.t1_font.specs.declared.dialect.Spacing.TheVariants.{White}
-use Rattle.t1_font.specs.Words.{word, name, phrase_of, phrase_after, is_access, passes, next_name}
-use Rattle.t1_font.specs.Entry.{Body, Entry, length_from, body, entry, plain_entries}
-use Rattle.t1_font.specs.Subrs.{Subr, subr_key, subr}
-use Rattle.t1_font.specs.Encoding.{code, CodeEntry, Put, Copy, put_entry, one_copy, within_codes, are_codes, copy_of_range, range_copy, name_after, copied, put_by, puts_after, entry_with, code_entry}
-use Rattle.t1_font.specs.Glyphs.{Glyph, glyph}
-use Rattle.t1_font.specs.Charstrings.{plain_of}
-use Rattle.t1_font.specs.FontValue.{notdef}
-use Rattle.t1_font.specs.Entries.{last_value, map_of}
-use Rattle.t1_font.specs.IsFont.{IsWord, IsPhrase, IsCharstring}
+use Rattle.t1_bytes.{specs.{Laws.{AreBytes}, Cipher.{decrypted}}, proofs.Ciphers.{length-decrypted}}
+use Rattle.t1_font.specs.{declared.dialect.Spacing.{Spacing}, declared.dialect.Dialect.{Dialect}, declared.dialect.Spacing.TheVariants.{White}}
+use Rattle.t1_font.specs.{Words.{word, name, phrase_of, phrase_after, is_access, passes, next_name}, Entry.{Body, Entry, length_from, body, entry, plain_entries}, Subrs.{Subr, subr_key, subr}}
+use Rattle.t1_font.specs.Encoding.{code, CodeEntry, Put, Copy, put_entry, one_copy, within_codes, are_codes, copy_of_range, range_copy, name_after, copied, put_by, puts_after, entry_with}
+use Rattle.t1_font.specs.{Encoding.{code_entry}, Glyphs.{Glyph, glyph}, Charstrings.{plain_of}, FontValue.{notdef}, Entries.{last_value, map_of}, IsFont.{IsWord, IsPhrase, IsCharstring}}
+use Rattle.t1_font.proofs.{MapLemmas.{Some_same, Some_None}, ByteLemmas.{AreBytes-append}, read_fonts.ReadBytes.{parts_bytes, drop_bytes, decrypted_bytes}, read_fonts.ReadBack.{whole_of}}
+use Rattle.t1_font.proofs.{MapLaws.{get-map_of}, canonical.EntriesWritten.{IsBody}}
 use Rattle.t1_join.proofs.OrderLemmas.{all_of_both}
-use Rattle.t1_font.proofs.MapLemmas.{Some_same, Some_None}
-use Rattle.t1_font.proofs.ByteLemmas.{AreBytes-append}
-use Rattle.t1_font.proofs.read_fonts.ReadBytes.{parts_bytes, drop_bytes, decrypted_bytes}
-use Rattle.t1_font.proofs.read_fonts.ReadBack.{whole_of}
-use Rattle.t1_font.proofs.MapLaws.{get-map_of}
-use Rattle.t1_font.proofs.canonical.EntriesWritten.{IsBody}
 
 -- ---- words
 

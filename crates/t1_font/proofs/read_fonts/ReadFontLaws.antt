@@ -1,51 +1,19 @@
 -- What is read of a file of bytes is a font.
 use Rattle.std.proofs.lemmas.List.{take-append-drop}
 use Rattle.std.proofs.Common.{◌≡◌, ℕ, ◌≤◌, ◌<◌, true, cond, List, [], ◌∷◌, ◌++◌, take, drop, Option, Some, None, is_some, Ok, refl, sym, ap, subst, ◌∙◌, append_assoc, arith, true≢false}
-use Rattle.std.specs.List.{AllByRecursion, list_any}
-use Rattle.std.specs.Option.{option_map}
-use Rattle.std.specs.Str.{bytes_eq}
-use Rattle.std.specs.Ordering.{nat_cmp, is_eq}
-use Rattle.std.specs.Cmp.{nat_cmp_total, tied_itself}
-use Rattle.std.specs.Cmp.Lexicographic.{nat_list_cmp_total}
+use Rattle.std.specs.{List.{AllByRecursion, list_any}, Option.{option_map}, Str.{bytes_eq}, Ordering.{nat_cmp, is_eq}, Cmp.{nat_cmp_total, tied_itself}, Cmp.Lexicographic.{nat_list_cmp_total}}
 use Rattle.std.specs.FinMap.{find, contains_key, nat_cmp-IsAntisymmetric}
-use Rattle.t1_bytes.specs.declared.form.Form.TheVariants.{Pfb}
-use Rattle.t1_bytes.specs.Cipher.{decrypted}
+use Rattle.t1_bytes.specs.{declared.form.Form.TheVariants.{Pfb}, Cipher.{decrypted}, Laws.{AreBytes}, FlatText.{starts_segment, IsFlat}, Split.{split, IsSplit}}
+use Rattle.t1_bytes.proofs.{ContainerLaws.{one_flat}, Ciphers.{decrypted-is}}
 use Rattle.t1_grammar.specs.Grammar.{Stops, first, choice, front_again}
-use Rattle.t1_bytes.specs.Laws.{AreBytes}
-use Rattle.t1_bytes.specs.FlatText.{starts_segment, IsFlat}
-use Rattle.t1_bytes.specs.Split.{split, IsSplit}
-use Rattle.t1_bytes.proofs.ContainerLaws.{one_flat}
-use Rattle.t1_bytes.proofs.Ciphers.{decrypted-is}
-use Rattle.t1_font.specs.declared.dialect.Spacing.{Spacing}
-use Rattle.t1_font.specs.declared.dialect.Dialect.{Dialect}
-use Rattle.t1_font.specs.Words.{is_regular}
-use Rattle.t1_font.specs.Entry.{plain_entries}
-use Rattle.t1_font.specs.Subrs.{Subr}
-use Rattle.t1_font.specs.Markers.{closefile}
-use Rattle.t1_font.specs.Glyphs.{Glyph, glyph}
-use Rattle.t1_font.specs.Charstrings.{plain_of}
-use Rattle.t1_font.specs.Pieces.{ClearPieces, SubrsPieces, PrivatePieces}
-use Rattle.t1_font.specs.FontValue.{FontValue, SubrsShell, notdef, declared_count, count_limit, IsWithin}
-use Rattle.t1_font.specs.Entries.{map_of, last_entries, last_value}
-use Rattle.t1_font.specs.ReadFont.{font_file, of_first, subrs_of, subrs_shell, glyph_entries, shell_of, font_of, read_font}
-use Rattle.t1_font.specs.Spelling.{IsPrivate, Texts, SpellsIn}
-use Rattle.t1_font.specs.Canon.{canon}
-use Rattle.t1_font.specs.IsFont.{IsWord, IsPhrase, IsPrivateShell, SubrWords, SubrsFit, AreGlyphs, IsFont, HasBytes}
-use Rattle.t1_font.proofs.MapLaws.{entries-map_of, find-last}
-use Rattle.t1_font.proofs.MarkerLemmas.{close_parts}
-use Rattle.t1_font.proofs.Spelled.{reads}
-use Rattle.t1_font.proofs.Spelled.{is_iv}
-use Rattle.t1_font.proofs.ValueLaws.{notdef_is}
-use Rattle.t1_font.proofs.canonical.FontAgain.{name_same}
-use Rattle.t1_font.proofs.ByteLemmas.{has_bytes, canon_bytes}
-use Rattle.t1_font.proofs.canonical.RoundTrip.{round_trip}
-use Rattle.t1_font.proofs.read_fonts.ReadBack.{tail_ends_of}
-use Rattle.t1_font.proofs.read_fonts.ReadBytes.{parts_bytes, flat_bytes, cipher_bytes_of, decrypted_bytes, entries_have}
-use Rattle.t1_font.proofs.read_fonts.ReadEntries.{IsRead, glyph_of, map_fits}
-use Rattle.t1_font.proofs.read_fonts.ReadMarkers.{encoding_slash}
-use Rattle.t1_font.proofs.read_fonts.ReadClear.{clear_of}
-use Rattle.t1_font.proofs.read_fonts.ReadPrivate.{stops_front, glyphs_stops, IsReadSubrs, middle_of}
-use Rattle.t1_font.specs.Dialect.{strict}
+use Rattle.t1_font.specs.{declared.dialect.Spacing.{Spacing}, declared.dialect.Dialect.{Dialect}, Words.{is_regular}, Entry.{plain_entries}, Subrs.{Subr}, Markers.{closefile}, Glyphs.{Glyph, glyph}}
+use Rattle.t1_font.specs.{Charstrings.{plain_of}, Pieces.{ClearPieces, SubrsPieces, PrivatePieces}, FontValue.{FontValue, SubrsShell, notdef, declared_count, count_limit, IsWithin}}
+use Rattle.t1_font.specs.{Entries.{map_of, last_entries, last_value}, ReadFont.{font_file, of_first, subrs_of, subrs_shell, glyph_entries, shell_of, font_of, read_font}}
+use Rattle.t1_font.specs.{Spelling.{IsPrivate, Texts, SpellsIn}, Canon.{canon}, IsFont.{IsWord, IsPhrase, IsPrivateShell, SubrWords, SubrsFit, AreGlyphs, IsFont, HasBytes}, Dialect.{strict}}
+use Rattle.t1_font.proofs.{MapLaws.{entries-map_of, find-last}, MarkerLemmas.{close_parts}, Spelled.{reads, is_iv}, ValueLaws.{notdef_is}, canonical.FontAgain.{name_same}}
+use Rattle.t1_font.proofs.{ByteLemmas.{has_bytes, canon_bytes}, canonical.RoundTrip.{round_trip}, read_fonts.ReadBack.{tail_ends_of}}
+use Rattle.t1_font.proofs.{read_fonts.ReadBytes.{parts_bytes, flat_bytes, cipher_bytes_of, decrypted_bytes, entries_have}, read_fonts.ReadEntries.{IsRead, glyph_of, map_fits}}
+use Rattle.t1_font.proofs.{read_fonts.ReadMarkers.{encoding_slash}, read_fonts.ReadClear.{clear_of}, read_fonts.ReadPrivate.{stops_front, glyphs_stops, IsReadSubrs, middle_of}}
 
 -- ---- Subrs
 

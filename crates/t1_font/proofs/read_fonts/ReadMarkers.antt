@@ -1,15 +1,10 @@
 -- The texts of markers that were read, and where no marker stands.
 use Rattle.std.proofs.Common.{◌≡◌, ℕ, suc, ◌≤◌, inl, inr, ◌⊎◌, Bool, true, eqb, not, ◌&&◌, List, [], ◌∷◌, ◌++◌, length, drop, get_or, refl, sym, ap, subst, ◌∙◌, append_assoc, arith, true≢false}
-use Rattle.std.specs.Prelude.{codes}
-use Rattle.std.specs.List.{AllByRecursion}
-use Rattle.std.proofs.lemmas.Slice.Eq.{bytes_eq-Decides}
-use Rattle.std.proofs.lemmas.Bool.{cases_Bool, eqb-true}
-use Rattle.std.proofs.lemmas.List.{append-nil, length-append}
+use Rattle.std.proofs.{lemmas.Slice.Eq.{bytes_eq-Decides}, lemmas.Bool.{cases_Bool, eqb-true}, lemmas.List.{append-nil, length-append}}
+use Rattle.std.specs.{Prelude.{codes}, List.{AllByRecursion}}
 use Rattle.t1_grammar.specs.Grammar.{Grammar, fixed, NotAtFront, NoneIn, Lacks}
-use Rattle.t1_bytes.specs.White.{is_white, has_bytes, gap}
-use Rattle.t1_bytes.specs.Eexec.{eexec_marker, blank_comes}
-use Rattle.t1_font.specs.Markers.{encoding_marker, subrs_marker, chars_marker}
-use Rattle.t1_font.specs.IsFont.{NoMarker}
+use Rattle.t1_bytes.specs.{White.{is_white, has_bytes, gap}, Eexec.{eexec_marker, blank_comes}}
+use Rattle.t1_font.specs.{Markers.{encoding_marker, subrs_marker, chars_marker}, IsFont.{NoMarker}}
 
 -- ---- two divisions of a text
 

@@ -1,21 +1,13 @@
 -- The private text of a file that was read is that of a font.
 use Rattle.std.proofs.Common.{◌≡◌, ℕ, ◌<◌, Bool, true, false, List, [], ◌∷◌, ◌++◌, length, Option, Some, None, refl, sym, ap, subst, ◌∙◌, append_assoc, arith}
-use Rattle.std.specs.List.{AllByRecursion}
 use Rattle.std.proofs.lemmas.List.{append-nil, length-append}
-use Rattle.t1_grammar.specs.Grammar.{NoneIn, Stops, first}
-use Rattle.t1_grammar.specs.Tables.{TableAt}
+use Rattle.std.specs.List.{AllByRecursion}
+use Rattle.t1_grammar.specs.{Grammar.{NoneIn, Stops, first}, Tables.{TableAt}}
 use Rattle.t1_bytes.specs.Laws.{AreBytes}
-use Rattle.t1_font.specs.declared.dialect.Spacing.{Spacing}
-use Rattle.t1_font.specs.Words.{is_regular, word, keyword, phrase_of, phrase_after, is_access, passes}
-use Rattle.t1_font.specs.Subrs.{Subr, subr, subrs_end}
-use Rattle.t1_font.specs.Markers.{subrs_marker, chars_marker}
-use Rattle.t1_font.specs.Glyphs.{glyphs_end}
-use Rattle.t1_font.specs.Pieces.{SubrsPieces, PrivatePieces}
-use Rattle.t1_font.specs.Spelling.{NotBefore, nowhere, later, Start, SpellsTables}
+use Rattle.t1_font.specs.{declared.dialect.Spacing.{Spacing}, Words.{is_regular, word, keyword, phrase_of, phrase_after, is_access, passes}, Subrs.{Subr, subr, subrs_end}}
+use Rattle.t1_font.specs.{Markers.{subrs_marker, chars_marker}, Glyphs.{glyphs_end}, Pieces.{SubrsPieces, PrivatePieces}, Spelling.{NotBefore, nowhere, later, Start, SpellsTables}}
 use Rattle.t1_font.specs.IsFont.{NoMarker, IsPhrase}
-use Rattle.t1_font.proofs.canonical.Moves.{subrs_moves, chars_moves}
-use Rattle.t1_font.proofs.read_fonts.ReadBytes.{parts_bytes, entries_have}
-use Rattle.t1_font.proofs.read_fonts.ReadEntries.{phrase_is, IsRead, subr_of}
+use Rattle.t1_font.proofs.{canonical.Moves.{subrs_moves, chars_moves}, read_fonts.ReadBytes.{parts_bytes, entries_have}, read_fonts.ReadEntries.{phrase_is, IsRead, subr_of}}
 use Rattle.t1_font.proofs.read_fonts.ReadMarkers.{lacks_none, before_slash, subrs_slash, chars_slash}
 
 -- ---- what stops a word

@@ -1,10 +1,8 @@
 -- Boxes of texts and shells, and the one box for several, computed on the definitions.
-use Rattle.std.proofs.Common.{◌≡◌, true, false, ℕ, List, [], ◌∷◌, ◌++◌, Option, Some, None, refl}
-use Rattle.std.specs.Prelude.{codes}
+use Rattle.std.{proofs.Common.{◌≡◌, true, false, ℕ, List, [], ◌∷◌, ◌++◌, Option, Some, None, refl}, specs.Prelude.{codes}}
 use Rattle.t1_grammar.specs.Grammar.{first_at}
 use Rattle.t1_bytes.specs.White.{gap}
-use Rattle.t1_font.specs.FontValue.{FontValue, Shell, Encoding, Numbered, Named}
-use Rattle.t1_font.specs.Numbers.{number, is_number}
+use Rattle.t1_font.specs.{FontValue.{FontValue, Shell, Encoding, Numbered, Named}, Numbers.{number, is_number}}
 use Rattle.t1_font.specs.FontBoxes.{Box, opening, spaced, box_numbers, font_box, joined_box, box_of, clear_with, box_stays, boxes_of}
 
 -- a shell with these two texts

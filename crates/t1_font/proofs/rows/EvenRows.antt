@@ -1,16 +1,9 @@
 -- White space that is squeezed, lines that number a font, and what is left of texts where a step is taken or not.
-use Rattle.std.proofs.Common.{◌≡◌, [], ◌∷◌, refl}
-use Rattle.std.specs.Prelude.{codes}
+use Rattle.std.{proofs.Common.{◌≡◌, [], ◌∷◌, refl}, specs.Prelude.{codes}}
 use Rattle.t1_grammar.specs.Grammar.{first_at}
-use Rattle.t1_bytes.specs.White.{gap}
-use Rattle.t1_bytes.specs.Eexec.{eexec_marker}
-use Rattle.t1_font.specs.declared.even_texts.KeptText.TheVariants.{Head}
-use Rattle.t1_font.specs.Words.{decimal, keyword}
-use Rattle.t1_font.specs.Markers.{encoding_marker}
-use Rattle.t1_font.specs.FontTest.{eexec_there}
-use Rattle.t1_font.specs.Squeezing.{squeezed_piece, squeezed}
-use Rattle.t1_font.specs.Identity.{one_blank, unique_id, extended_id, access, defining, identity_line, unnumbered_piece, unnumbered}
-use Rattle.t1_font.specs.Tags.{tag, name_marker, behind_tags}
+use Rattle.t1_bytes.specs.{White.{gap}, Eexec.{eexec_marker}}
+use Rattle.t1_font.specs.{declared.even_texts.KeptText.TheVariants.{Head}, Words.{decimal, keyword}, Markers.{encoding_marker}, FontTest.{eexec_there}, Squeezing.{squeezed_piece, squeezed}}
+use Rattle.t1_font.specs.{Identity.{one_blank, unique_id, extended_id, access, defining, identity_line, unnumbered_piece, unnumbered}, Tags.{tag, name_marker, behind_tags}}
 use Rattle.t1_font.specs.EvenTexts.{even_text, even_clear}
 
 -- ---- white space

@@ -1,11 +1,8 @@
 -- Heads with tests whether their fonts were loaded before, and what is left of them.
-use Rattle.std.proofs.Common.{◌≡◌, refl}
-use Rattle.std.specs.Prelude.{ℕ, List, [], ◌∷◌, ◌++◌, codes}
+use Rattle.std.{proofs.Common.{◌≡◌, refl}, specs.Prelude.{ℕ, List, [], ◌∷◌, ◌++◌, codes}}
 use Rattle.t1_grammar.specs.Grammar.{first_at}
-use Rattle.t1_bytes.specs.White.{gap}
-use Rattle.t1_bytes.specs.Eexec.{eexec_marker}
-use Rattle.t1_font.specs.Words.{keyword, decimal, name, next_name}
-use Rattle.t1_font.specs.Markers.{encoding_marker}
+use Rattle.t1_bytes.specs.{White.{gap}, Eexec.{eexec_marker}}
+use Rattle.t1_font.specs.{Words.{keyword, decimal, name, next_name}, Markers.{encoding_marker}}
 use Rattle.t1_font.specs.FontTest.{if_known, get_number, is_same, then_save, token, test_tokens, literal, known_name, known_number, font_test, apart_test, eexec_there, untested}
 
 -- tokens, each before this text

@@ -1,6 +1,5 @@
 -- The font Tiny, and the texts of its files.
-use Rattle.std.specs.Prelude.{ℕ, List, [], ◌∷◌, ◌++◌, Some, codes}
-use Rattle.std.specs.FinMap.{from_sorted}
+use Rattle.std.specs.{Prelude.{ℕ, List, [], ◌∷◌, ◌++◌, Some, codes}, FinMap.{from_sorted}}
 use Rattle.t1_bytes.specs.Cipher.{sealed}
 use Rattle.t1_font.specs.FontValue.{FontValue, Shell, Codes}
 

@@ -1,29 +1,14 @@
 -- Cuts of Tiny and their joins, computed.
 use Rattle.std.proofs.Common.{◌≡◌, ℕ, Bool, ◌||◌, ◌==◌, cond, leb, List, [], ◌∷◌, ◌++◌, map, length, take, unwrap_or, refl, sym, ap, ◌∙◌}
-use Rattle.std.specs.Prelude.{codes, filter}
-use Rattle.std.specs.Str.{bytes_eq}
-use Rattle.std.specs.Ordering.{nat_cmp}
-use Rattle.std.specs.Cmp.{nat_cmp_total}
-use Rattle.std.specs.Cmp.Lexicographic.{nat_list_cmp_total}
+use Rattle.std.specs.{Prelude.{codes, filter}, Str.{bytes_eq}, Ordering.{nat_cmp}, Cmp.{nat_cmp_total}, Cmp.Lexicographic.{nat_list_cmp_total}}
 use Rattle.std.specs.FinMap.{find, get, entries, from_sorted, retain_keys, get-entries, entries-from_sorted, same_entries_map, nat_cmp-IsAntisymmetric}
-use Rattle.t1_bytes.specs.declared.form.Form.{Form}
-use Rattle.t1_bytes.specs.declared.form.Form.TheVariants.{Pfa}
-use Rattle.t1_bytes.specs.Cipher.{private_cipher}
-use Rattle.t1_bytes.specs.Texts.{file_text}
-use Rattle.t1_font.specs.Pieces.{Puts}
-use Rattle.t1_font.specs.Writing.{clear_written, private_written}
-use Rattle.t1_font.specs.Canon.{outside_of, inside_of, canon}
-use Rattle.t1_font.specs.FontValue.{Numbered, Codes, name_cmp, notdef, weight, weight_of}
-use Rattle.t1_font.specs.Entries.{last_entries}
-use Rattle.t1_font.specs.Cut.{stub, restrict}
-use Rattle.t1_font.specs.Maps.{map_values, merged}
-use Rattle.t1_font.specs.Joins.{joined_subr, join_parts}
-use Rattle.t1_font.proofs.MapLemmas.{entries-map_values}
-use Rattle.t1_font.proofs.canonical.FontAgain.{name_same}
-use Rattle.t1_font.proofs.CutEntries.{entries-retain, entries-retain_values, entries-merged}
+use Rattle.t1_bytes.specs.{declared.form.Form.{Form}, declared.form.Form.TheVariants.{Pfa}, Cipher.{private_cipher}, Texts.{file_text}}
+use Rattle.t1_font.specs.{Pieces.{Puts}, Writing.{clear_written, private_written}, Canon.{outside_of, inside_of, canon}, FontValue.{Numbered, Codes, name_cmp, notdef, weight, weight_of}}
+use Rattle.t1_font.specs.{Entries.{last_entries}, Cut.{stub, restrict}, Maps.{map_values, merged}, Joins.{joined_subr, join_parts}}
+use Rattle.t1_font.proofs.{MapLemmas.{entries-map_values}, canonical.FontAgain.{name_same}, CutEntries.{entries-retain, entries-retain_values, entries-merged}}
 use Rattle.t1_font.proofs.rows.TinyNumbers.{n0, n1, n2, n3, n4, n5, n6, n7, n8, n9, n10, n15, n16, n19, n65, n66}
-use Rattle.t1_font.proofs.rows.Tiny.{lines, head, clear_tail, shell, puts, subrs, glyphs, tiny, glyph_X, glyph_Y, encoding_head}
-use Rattle.t1_font.proofs.rows.Tiny.{private_lines, subr_line, glyph_line, first_subr, more_subrs, first_glyph, private_with}
+use Rattle.t1_font.proofs.rows.Tiny.{lines, head, clear_tail, shell, puts, subrs, glyphs, tiny, glyph_X, glyph_Y, encoding_head, private_lines, subr_line, glyph_line, first_subr, more_subrs}
+use Rattle.t1_font.proofs.rows.Tiny.{first_glyph, private_with}
 
 -- ---- the entries of cuts
 

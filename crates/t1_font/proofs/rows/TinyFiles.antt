@@ -1,36 +1,17 @@
 -- The files of Tiny: its canonical ones, and that they are read as Tiny.
 use Rattle.std.proofs.Common.{◌≡◌, ℕ, List, [], ◌∷◌, ◌++◌, length, take, Ok, Err, refl, ◌∙◌}
-use Rattle.std.specs.Prelude.{codes, filter, not, ◌==◌, ◌-◌, nat_le, map, if◌then◌else◌}
-use Rattle.std.specs.Ordering.{nat_cmp}
-use Rattle.std.specs.FinMap.{entries-from_sorted}
-use Rattle.t1_bytes.specs.declared.form.Form.{Form}
-use Rattle.t1_bytes.specs.declared.form.Form.TheVariants.{Pfa, Pfb}
-use Rattle.t1_bytes.specs.Cipher.{private_cipher}
-use Rattle.t1_bytes.specs.Eexec.{paired, eexec_marker, cipher_text}
-use Rattle.t1_bytes.specs.Split.{split}
-use Rattle.t1_grammar.specs.Grammar.{first_at}
-use Rattle.t1_grammar.specs.Tables.{table_within}
-use Rattle.t1_bytes.specs.White.{gap}
+use Rattle.std.specs.{Prelude.{codes, filter, not, ◌==◌, ◌-◌, nat_le, map, if◌then◌else◌}, Ordering.{nat_cmp}, FinMap.{entries-from_sorted}}
+use Rattle.t1_bytes.specs.{declared.form.Form.{Form}, declared.form.Form.TheVariants.{Pfa, Pfb}, Cipher.{private_cipher}, Eexec.{paired, eexec_marker, cipher_text}, Split.{split}, White.{gap}}
 use Rattle.t1_bytes.specs.Texts.{file_text, zero_lines}
-use Rattle.t1_font.specs.declared.fault.ReadFault.TheVariants.{BadSegment, NoEexec, ShortCipher}
-use Rattle.t1_font.specs.FontValue.{name_cmp}
-use Rattle.t1_font.specs.Words.{one_white, word, keyword, decimal, name, phrase_of, next_name}
-use Rattle.t1_font.specs.Entry.{length_from, body, entry}
-use Rattle.t1_font.specs.Subrs.{subr_key, subrs_end}
-use Rattle.t1_font.specs.Markers.{encoding_marker, subrs_marker, chars_marker, len_iv_marker, len_iv, closefile}
-use Rattle.t1_font.specs.Encoding.{encoding_word, encoding_table, encoding_loop, encoding_start, octal, code, put_entry, encoding_end}
-use Rattle.t1_font.specs.Glyphs.{glyphs_end}
+use Rattle.t1_grammar.specs.{Grammar.{first_at}, Tables.{table_within}}
+use Rattle.t1_font.specs.{declared.fault.ReadFault.TheVariants.{BadSegment, NoEexec, ShortCipher}, FontValue.{name_cmp}, Words.{one_white, word, keyword, decimal, name, phrase_of, next_name}}
+use Rattle.t1_font.specs.{Entry.{length_from, body, entry}, Subrs.{subr_key, subrs_end}, Markers.{encoding_marker, subrs_marker, chars_marker, len_iv_marker, len_iv, closefile}}
+use Rattle.t1_font.specs.{Encoding.{encoding_word, encoding_table, encoding_loop, encoding_start, octal, code, put_entry, encoding_end}, Glyphs.{glyphs_end}}
 use Rattle.t1_font.specs.Pieces.{Puts, flat_pieces, encoding_from, clear_pieces, iv_at, iv_of, tail_after, glyphs_from, tables_from, private_pieces}
-use Rattle.t1_font.specs.ReadFont.{flat_text, font_from, font_file, read_font}
-use Rattle.t1_font.specs.Writing.{clear_written, private_written}
-use Rattle.t1_font.specs.Canon.{outside_of, inside_of, canon}
-use Rattle.t1_font.specs.IsFont.{IsFont}
-use Rattle.t1_font.proofs.ByteLemmas.{small_bytes}
-use Rattle.t1_font.proofs.canonical.RoundTrip.{round_trip}
-use Rattle.t1_font.proofs.read_fonts.ReadFontLaws.{read_is_font}
+use Rattle.t1_font.specs.{ReadFont.{flat_text, font_from, font_file, read_font}, Writing.{clear_written, private_written}, Canon.{outside_of, inside_of, canon}, IsFont.{IsFont}, Dialect.{strict}}
+use Rattle.t1_font.proofs.{ByteLemmas.{small_bytes}, canonical.RoundTrip.{round_trip}, read_fonts.ReadFontLaws.{read_is_font}}
 use Rattle.t1_font.proofs.rows.TinyNumbers.{n0, n1, n2, n3, n4, n5, n6, n7, n8, n9, n10, n11, n12, n14, n15, n16, n18, n19, n50, n65, n66, n194}
 use Rattle.t1_font.proofs.rows.Tiny.{lines, puts, shell, subrs, glyphs, tiny, clear, private_text}
-use Rattle.t1_font.specs.Dialect.{strict}
 
 -- ---- the vectors
 

@@ -1,7 +1,5 @@
 -- The numbers of Tiny's files, as they are written.
-use Rattle.std.proofs.Common.{◌≡◌, arith}
-use Rattle.std.specs.Prelude.{codes}
-use Rattle.std.specs.Fmt.{decimal as digits}
+use Rattle.std.{proofs.Common.{◌≡◌, arith}, specs.{Prelude.{codes}, Fmt.{decimal as digits}}}
 use Rattle.t1_font.proofs.canonical.Decimals.{shown}
 
 pub n0 : digits 0 ≡ codes "0"

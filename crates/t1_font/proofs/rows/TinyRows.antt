@@ -1,29 +1,16 @@
 -- Rows of the reader on texts of Tiny, computed.
-use Rattle.std.proofs.Common.{◌≡◌, ℕ, ◌+◌, true, false, List, [], ◌∷◌, ◌++◌, map, length, drop, Some, Ok, Err, refl, arith}
-use Rattle.std.proofs.lemmas.Bool.{le-leb, lt-leb}
-use Rattle.std.specs.Prelude.{codes}
-use Rattle.std.specs.Ordering.{nat_cmp}
-use Rattle.std.specs.FinMap.{find}
-use Rattle.t1_grammar.specs.Grammar.{first_at}
-use Rattle.t1_grammar.specs.Tables.{table_within}
-use Rattle.t1_bytes.specs.White.{gap}
-use Rattle.t1_font.specs.declared.dialect.Spacing.TheVariants.{White}
-use Rattle.t1_font.specs.declared.fault.ReadFault.TheVariants.{BadEncoding, BadLenIV, BadSubrs, BadGlyphs, Hybrid, NoNotdef, Limit}
-use Rattle.t1_font.specs.Words.{one_white, word, keyword, decimal, name, phrase_of, next_name}
-use Rattle.t1_font.specs.Entry.{length_from, body, entry}
-use Rattle.t1_font.specs.Subrs.{subr_key, subrs_end}
+use Rattle.std.proofs.{Common.{◌≡◌, ℕ, ◌+◌, true, false, List, [], ◌∷◌, ◌++◌, map, length, drop, Some, Ok, Err, refl, arith}, lemmas.Bool.{le-leb, lt-leb}}
+use Rattle.std.specs.{Prelude.{codes}, Ordering.{nat_cmp}, FinMap.{find}}
+use Rattle.t1_grammar.specs.{Grammar.{first_at}, Tables.{table_within}}
+use Rattle.t1_bytes.specs.{White.{gap}, Cipher.{sealed}}
+use Rattle.t1_font.specs.{declared.dialect.Spacing.TheVariants.{White}, declared.fault.ReadFault.TheVariants.{BadEncoding, BadLenIV, BadSubrs, BadGlyphs, Hybrid, NoNotdef, Limit}}
+use Rattle.t1_font.specs.{Words.{one_white, word, keyword, decimal, name, phrase_of, next_name}, Entry.{length_from, body, entry}, Subrs.{subr_key, subrs_end}}
 use Rattle.t1_font.specs.Markers.{encoding_marker, subrs_marker, chars_marker, len_iv_marker, len_iv, closefile}
-use Rattle.t1_font.specs.Encoding.{encoding_word, encoding_table, encoding_loop, encoding_start, octal, code, put_entry, encoding_end}
-use Rattle.t1_font.specs.Glyphs.{glyphs_end}
-use Rattle.t1_font.specs.Pieces.{Puts, SubrsPieces, encoding_from, clear_pieces, iv_at, iv_of, tail_after, glyphs_from, tables_from, private_pieces}
-use Rattle.t1_bytes.specs.Cipher.{sealed}
-use Rattle.t1_font.specs.FontValue.{Shell, name_cmp, notdef, weight_of}
-use Rattle.t1_font.specs.Entries.{last_entries, last_names}
-use Rattle.t1_font.specs.ReadFont.{subrs_shell, is_within, font_from}
-use Rattle.t1_font.specs.Canon.{inside_of, outside_of}
-use Rattle.t1_font.proofs.rows.Tiny.{lines, glyph_notdef, head, clear_tail, puts, shell, subrs, glyphs, glyph_Y, tiny, private_lines, clear_with}
-use Rattle.t1_font.proofs.rows.Tiny.{clear, glyph_line, first_subr, more_subrs, first_glyph, more_glyphs, private_with, private_text}
-use Rattle.t1_font.specs.Dialect.{strict}
+use Rattle.t1_font.specs.{Encoding.{encoding_word, encoding_table, encoding_loop, encoding_start, octal, code, put_entry, encoding_end}, Glyphs.{glyphs_end}}
+use Rattle.t1_font.specs.{Pieces.{Puts, SubrsPieces, encoding_from, clear_pieces, iv_at, iv_of, tail_after, glyphs_from, tables_from, private_pieces}, FontValue.{Shell, name_cmp, notdef, weight_of}}
+use Rattle.t1_font.specs.{Entries.{last_entries, last_names}, ReadFont.{subrs_shell, is_within, font_from}, Canon.{inside_of, outside_of}, Dialect.{strict}}
+use Rattle.t1_font.proofs.rows.Tiny.{lines, glyph_notdef, head, clear_tail, puts, shell, subrs, glyphs, glyph_Y, tiny, private_lines, clear_with, clear, glyph_line, first_subr, more_subrs}
+use Rattle.t1_font.proofs.rows.Tiny.{first_glyph, more_glyphs, private_with, private_text}
 
 -- ---- the clear text
 

@@ -1,22 +1,19 @@
 -- The names of a closure: a list to which names are added at the end, until it is closed; and the cut of a font to it.
 use Rattle.std.proofs.{lemmas.Bool.{or_cases, or_left, or_right, not-false}, lemmas.Map.Keys.{IsDistinct-push}, lemmas.List.{take-append-le, map-append, append-nil, length-map}}
 use Rattle.std.proofs.{lemmas.Map.Made.{length-le_from_is_member}, lemmas.List.Folds.{list_any_more, list_any_at, list_any-append}, lemmas.Option.{slice_get_cases}}
-use Rattle.std.proofs.Common.{◌≡◌, ℕ, ◌+◌, ◌<◌, ◌≤◌, Bool, true, false, List, [], ◌∷◌, ◌++◌, refl, sym, ◌∙◌, ap, inl, inr, length, take, cond, arith}
-use Rattle.std.proofs.Common.{length-append, true≢false, get_or, ◌||◌, Some, None, slice_get, not, subst, take_all, filter, nat_cmp, append_assoc}
-use Rattle.std.specs.{List.{list_any, IsDistinct}, Cmp.{eq_by_cmp_equiv, nat_cmp_total}}
-use Rattle.std.specs.{Cmp.Lexicographic.{nat_list_cmp_total, pointwise, texts_ties}, Prelude.{nat_eq}, Borrow.{Bor}, BTreeSet.{BTreeSet, contains}}
-use Rattle.std.specs.Global.{Vec}
-use Rattle.std.specs.FinSet as sets
-use Rattle.std.specs.FinMap as maps
-use Rattle.std.specs.List.{find}
+use Rattle.std.proofs.Common.{◌≡◌, ℕ, ◌+◌, ◌<◌, ◌≤◌, Bool, true, false, List, [], ◌∷◌, ◌++◌, refl, sym, ◌∙◌, ap, inl, inr, length, take, cond, arith, length-append, true≢false, get_or, ◌||◌, Some}
+use Rattle.std.proofs.Common.{None, slice_get, not, subst, take_all, filter, nat_cmp, append_assoc}
+use Rattle.std.specs.{List.{list_any, IsDistinct, find}, Cmp.{eq_by_cmp_equiv, nat_cmp_total}, Cmp.Lexicographic.{nat_list_cmp_total, pointwise, texts_ties}, Prelude.{nat_eq}, Borrow.{Bor}}
+use Rattle.std.specs.{BTreeSet.{BTreeSet, contains}, Global.{Vec}}
 use Rattle.t1_font.specs.{FontValue.{FontValue, notdef}, IsFont.{IsFont}, Cut.{set_of_names, restrict}}
-use Rattle.t1_algebra.specs.Interpreter.{same_bytes, Interpreter, Names, Numbers}
-use Rattle.t1_algebra.specs.{Keep.{has, Closed, keep, components, components_here, charstring, kept, subset, IsOf}, Alike.{DrawsAlike}}
+use Rattle.t1_algebra.specs.{Interpreter.{same_bytes, Interpreter, Names, Numbers}, Keep.{has, Closed, keep, components, components_here, charstring, kept, subset, IsOf}, Alike.{DrawsAlike}}
 use Rattle.t1_algebra.specs.Profile.{profile}
-use Rattle.t1_algebra.proofs.{Sets.{cases, name_same, tied, itself, in_list, any_filter, from_in_list, same_members}}
-use Rattle.t1_algebra.proofs.{Searching.{none_at_all}, Kept.{keep_least, keep_from, keep_has, keep_closed}, Drawings.{subset_alike}}
+use Rattle.t1_algebra.proofs.{Sets.{cases, name_same, tied, itself, in_list, any_filter, from_in_list, same_members}, Searching.{none_at_all}, Kept.{keep_least, keep_from, keep_has, keep_closed}}
+use Rattle.t1_algebra.proofs.Drawings.{subset_alike}
 use Rattle.t1_subset.specs.{ClosureNames.{push_new, push_all}, NameSets.{lent}, Calls.{number_set}}
 use Rattle.indexmap.specs.IndexSet.{insert_key}
+use Rattle.std.specs.FinSet as sets
+use Rattle.std.specs.FinMap as maps
 
 -- ---- names that are added to a list
 

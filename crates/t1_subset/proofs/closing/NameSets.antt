@@ -1,14 +1,12 @@
 -- Names as finite sets: in the order of their bytes, and added to a set one after another.
 use Rattle.std.proofs.Common.{◌≡◌, ℕ, Bool, ◌||◌, List, [], ◌∷◌, ◌++◌, refl, sym, ◌∙◌, ap, Ordering, Less, Equal, Greater, ◌<◌, ◌+◌, length, take, get_or, arith, Bor}
 use Rattle.std.proofs.{lemmas.List.{map-append, take_more}, lemmas.Grind.{common_steps}}
-use Rattle.std.specs.{Global.{Vec}, List.{list_any, AllByRecursion}, List.Sorted.{IsStrictlySortedBy}}
-use Rattle.std.specs.{Ordering.{eq_by_cmp, match_ordering}, Cmp.Lexicographic.{nat_list_cmp_total}, BTreeSet.{insert_key}}
-use Rattle.std.specs.FinSet.{IsAntisymmetric}
-use Rattle.std.specs.FinSet as sets
+use Rattle.std.specs.{Global.{Vec}, List.{list_any, AllByRecursion}, List.Sorted.{IsStrictlySortedBy}, Ordering.{eq_by_cmp, match_ordering}, Cmp.Lexicographic.{nat_list_cmp_total}}
+use Rattle.std.specs.{BTreeSet.{insert_key}, FinSet.{IsAntisymmetric}}
 use Rattle.t1_font.specs.FontValue.{name_cmp}
-use Rattle.t1_algebra.specs.Interpreter.{Names}
-use Rattle.t1_algebra.proofs.Sets.{cases, name_same}
+use Rattle.t1_algebra.{specs.Interpreter.{Names}, proofs.Sets.{cases, name_same}}
 use Rattle.t1_subset.specs.NameSets.{listed_names, set_by, lent}
+use Rattle.std.specs.FinSet as sets
 
 -- ---- names in memory
 

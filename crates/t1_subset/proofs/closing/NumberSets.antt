@@ -1,13 +1,12 @@
 -- Indices as finite sets, and those of the Subrs that the glyphs of a closure execute, as the closure is walked.
-use Rattle.std.proofs.Common.{◌≡◌, ℕ, Bool, ◌||◌, List, [], ◌∷◌, ◌++◌, sym, ◌∙◌, ap, ◌+◌, ◌<◌, ◌≤◌, length, take, take_all, get_or}
+use Rattle.std.proofs.{Common.{◌≡◌, ℕ, Bool, ◌||◌, List, [], ◌∷◌, ◌++◌, sym, ◌∙◌, ap, ◌+◌, ◌<◌, ◌≤◌, length, take, take_all, get_or}, lemmas.List.Folds.{list_any_more, list_any-append}}
 use Rattle.std.specs.{List.{list_any}, Ordering.{nat_cmp, eq_by_cmp}, Cmp.{nat_cmp_total, both_ways}, Cmp.Lexicographic.{nat_list_cmp_total}, BTreeSet.{insert_key}, FinSet.{nat_cmp-IsAntisymmetric}}
-use Rattle.std.specs.FinSet as sets
-use Rattle.std.proofs.lemmas.List.Folds.{list_any_more, list_any-append}
 use Rattle.t1_run.specs.Run.{Subrs, calls, calls3, with_indices, with_executed, exec}
 use Rattle.t1_font.specs.FontValue.{name_cmp, FontValue}
 use Rattle.t1_algebra.specs.{Interpreter.{Numbers, Names}, Keep.{called_by}, Profile.{profile, set_of}}
 use Rattle.t1_algebra.proofs.Sets.{cases, name_same, any_at, any_one, any_flat_map, in_list, from_in_list, in_items, from_in_items}
 use Rattle.t1_subset.proofs.{closing.NameSets.{any_insert}, closing.Runs.{calls_by, calls_of}}
+use Rattle.std.specs.FinSet as sets
 
 -- a set to which indices are added has these and those that it had
 pub any_with : (q : ℕ) (set is : List ℕ) →

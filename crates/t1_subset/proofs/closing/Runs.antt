@@ -1,11 +1,10 @@
 -- What the runs of charstrings in code name and execute is what they do by the interpreter of the laws.
 use Rattle.std.proofs.Common.{◌≡◌, ℕ, List, [], sym, ap, ◌∙◌, Some, None, unwrap_or, flat_map}
+use Rattle.t1_run.specs.Run.{Subrs, direct, direct3, exec}
+use Rattle.t1_font.{specs.{FontValue.{FontValue}, FontModel.{subr_at}, IsFont.{IsFont}}, proofs.FontReaders.{all_seen}}
+use Rattle.t1_algebra.specs.{Keep.{components, charstring}, Profile.{profile, names_of_both, set_of}, Interpreter.{Numbers}}
 use Rattle.std.specs.FinMap as maps
 use Rattle.std.specs.FinSet as sets
-use Rattle.t1_run.specs.Run.{Subrs, direct, direct3, exec}
-use Rattle.t1_font.specs.{FontValue.{FontValue}, FontModel.{subr_at}, IsFont.{IsFont}}
-use Rattle.t1_font.proofs.FontReaders.{all_seen}
-use Rattle.t1_algebra.specs.{Keep.{components, charstring}, Profile.{profile, names_of_both, set_of}, Interpreter.{Numbers}}
 
 -- ---- components
 

@@ -2,16 +2,13 @@
 use Rattle.std.proofs.lemmas.Bool.Decides.{nat_tests}
 use Rattle.std.proofs.Common.{◌≡◌, ℕ, ◌<◌, ◌≤◌, ◌+◌, Bool, true, false, cond, List, [], ◌∷◌, map, refl, sym, ◌∙◌, ap, Option, Some, None, is_some, nat_cmp, nat_lt, arith, Less}
 use Rattle.std.proofs.lemmas.Bool.{ltb-true, ltb-false}
-use Rattle.std.specs.FinMap.Entries.{below_all}
-use Rattle.t1_font.proofs.MapLemmas.{T_true, find_first, Some_None}
-use Rattle.t1_algebra.proofs.{Words.{list_any, eq_by_cmp, first_so, second_so}, Searching.{below_later}, Sets.{cases}}
-use Rattle.std.specs.{Cmp.{nat_cmp_total}, FinSet.{nat_cmp-IsAntisymmetric}}
-use Rattle.std.specs.FinMap as maps
-use Rattle.t1_join.specs.{Meaning.{of_number}, TableMeaning.{TableMeaning}}
-use Rattle.t1_font.specs.FontValue.{FontValue, Encoding, Word, Codes, Numbered}
+use Rattle.std.specs.{FinMap.Entries.{below_all}, Cmp.{nat_cmp_total}, FinSet.{nat_cmp-IsAntisymmetric}}
+use Rattle.t1_font.{proofs.MapLemmas.{T_true, find_first, Some_None}, specs.FontValue.{FontValue, Encoding, Word, Codes, Numbered}}
+use Rattle.t1_algebra.proofs.{Words.{list_any, eq_by_cmp, first_so, second_so}, Searching.{below_later}, Sets.{cases}, Tables.{get-numbered, numbered-empty, numbered-insert}}
 use Rattle.t1_algebra.specs.{Profile.{profile}, States.{code_state, is_called, state_of_entry}, StateTables.{numbered, code_states}}
-use Rattle.t1_algebra.proofs.Tables.{get-numbered, numbered-empty, numbered-insert}
+use Rattle.t1_join.specs.{Meaning.{of_number}, TableMeaning.{TableMeaning}}
 use Rattle.t1_subset.specs.Differences.{with_state, entry_state}
+use Rattle.std.specs.FinMap as maps
 
 -- the table has what x gives for the numbers below n, and nothing else
 pub record HasBelow (t : TableMeaning) (x : ℕ → Option (List ℕ)) (n : ℕ) : Type 0 where

@@ -1,20 +1,16 @@
 -- The smallest glyphs that execute a Subr or seek a component, as the code notes them, and in a join.
-use Rattle.std.proofs.lemmas.Simd.{map-map}
-use Rattle.std.proofs.Common.{arith, ◌≡◌, ℕ, Bool, true, false, not, cond, ◌&&◌, ◌||◌, List, [], ◌∷◌, ◌++◌, map, refl, sym, ◌∙◌, ap, Option, Some, None, is_some}
-use Rattle.std.specs.{List.{list_any}, Cmp.{nat_cmp_total, second_so}, Cmp.Lexicographic.{nat_list_cmp_total}}
+use Rattle.std.proofs.{lemmas.Simd.{map-map}, Common.{arith, ◌≡◌, ℕ, Bool, true, false, not, cond, ◌&&◌, ◌||◌, List, [], ◌∷◌, ◌++◌, map, refl, sym, ◌∙◌, ap, Option, Some, None, is_some}}
+use Rattle.std.specs.{List.{list_any, find}, Cmp.{nat_cmp_total, second_so}, Cmp.Lexicographic.{nat_list_cmp_total}}
+use Rattle.t1_join.specs.Meaning.{of_number}
+use Rattle.t1_font.{specs.{Maps.{merged}, FontValue.{FontValue, Named, name_cmp, names_in}}, proofs.MapLemmas.{entries-map_values}}
+use Rattle.t1_algebra.specs.{Interpreter.{same_bytes}, Keep.{has, components, charstring}, Profile.{profile}}
+use Rattle.t1_algebra.specs.{States.{joined_option, is_called, is_sought, joined_font, Compatible, executes, calls_for}, Lacks.{user_of}}
+use Rattle.t1_algebra.specs.{Conflicts.{keys_of_both, wants, wanted_by, used_by, glyphs_of_both}, Searches.{smallest, members}}
+use Rattle.t1_algebra.proofs.{Subsets.{glyph_in_join}, JoinedStates.{present_joined, executes_join, calls_join}, Uses.{executing_there, naming_there, sought}, Sets.{name_same, clash, tied, cases}}
+use Rattle.t1_subset.specs.{declared.callers.Callers.{Callers}, Differences.{smaller}, Callers.{same_charstring, seeker_of, smallest_from, user_from, seeker_from, AreCallersOf}, Clashes.{AreCallers}}
+use Rattle.t1_subset.proofs.{closing.Runs.{calls_by, no_calls, no_components}, state_tables.LowestKeys.{smaller_first}}
 use Rattle.std.specs.FinMap as maps
 use Rattle.std.specs.FinSet as sets
-use Rattle.std.specs.List.{find}
-use Rattle.t1_join.specs.Meaning.{of_number}
-use Rattle.t1_font.specs.{Maps.{merged}, FontValue.{FontValue, Named, name_cmp, names_in}}
-use Rattle.t1_font.proofs.MapLemmas.{entries-map_values}
-use Rattle.t1_algebra.specs.{Interpreter.{same_bytes}, Keep.{has, components, charstring}, Profile.{profile}}
-use Rattle.t1_algebra.specs.States.{joined_option, is_called, is_sought, joined_font, Compatible, executes, calls_for}
-use Rattle.t1_algebra.specs.{Lacks.{user_of}, Conflicts.{keys_of_both, wants, wanted_by, used_by, glyphs_of_both}, Searches.{smallest, members}}
-use Rattle.t1_algebra.proofs.{Subsets.{glyph_in_join}, JoinedStates.{present_joined, executes_join, calls_join}, Uses.{executing_there, naming_there, sought}, Sets.{name_same, clash, tied, cases}}
-use Rattle.t1_subset.specs.{declared.callers.Callers.{Callers}, Differences.{smaller}}
-use Rattle.t1_subset.specs.{Callers.{same_charstring, seeker_of, smallest_from, user_from, seeker_from, AreCallersOf}, Clashes.{AreCallers}}
-use Rattle.t1_subset.proofs.{closing.Runs.{calls_by, no_calls, no_components}, state_tables.LowestKeys.{smaller_first}}
 
 -- ---- the first of some names
 

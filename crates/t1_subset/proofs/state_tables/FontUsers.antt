@@ -1,9 +1,7 @@
 -- The users of a font's Subrs, as the code notes them.
-use Rattle.std.proofs.lemmas.Bool.Decides.{nat_tests}
-use Rattle.std.proofs.Common.{◌≡◌, ◌<◌, ℕ, true, None, ◌≤◌, arith}
+use Rattle.std.proofs.{lemmas.Bool.Decides.{nat_tests}, Common.{◌≡◌, ◌<◌, ℕ, true, None, ◌≤◌, arith}}
+use Rattle.t1_font.{specs.{FontValue.{FontValue, declared_count}, IsFont.{IsFont}}, proofs.FontReaders.{subrs_seen}}
 use Rattle.std.specs.FinMap as maps
-use Rattle.t1_font.specs.{FontValue.{FontValue, declared_count}, IsFont.{IsFont}}
-use Rattle.t1_font.proofs.FontReaders.{subrs_seen}
 
 -- a font has no Subr at its declared count or above it
 pub absent_beyond : (f : FontValue) → IsFont f → (q : ℕ) → declared_count f.shell.subrs ≤ q → maps.get f.subrs q ≡ None

@@ -1,13 +1,13 @@
 -- The lowest key that passes a test, as a search of a map finds it, and the lower of two.
 use Rattle.std.proofs.lemmas.Bool.{or_left, or_right, false_from_ne_true}
 use Rattle.std.proofs.Common.{arith, ◌≡◌, ℕ, Bool, true, false, cond, ◌||◌, List, [], ◌∷◌, map, option_map, refl, sym, ◌∙◌, ap, true≢false, Option, Some, None, Ordering, Less, Equal, Greater, is_lt}
-use Rattle.std.specs.{List.{list_any, AllByRecursion}, Ordering.{eq_by_cmp, ordering_reverse}, Cmp.{IsTotalOrder, first_so, second_so}, FinSet.{IsAntisymmetric}, FinMap.Entries.{below_all, is_sorted}}
-use Rattle.std.specs.FinMap as maps
-use Rattle.std.specs.List.{find}
+use Rattle.std.specs.{List.{list_any, AllByRecursion, find}, Ordering.{eq_by_cmp, ordering_reverse}, Cmp.{IsTotalOrder, first_so, second_so}, FinSet.{IsAntisymmetric}}
+use Rattle.std.specs.FinMap.Entries.{below_all, is_sorted}
 use Rattle.t1_font.proofs.MapLemmas.{T_true}
 use Rattle.t1_algebra.specs.{Conflicts.{keys_of_both}, Searches.{smallest, members, IsLowest}}
 use Rattle.t1_algebra.proofs.{Maps.{in_both}, Searching.{passes_none, none_at_all, first_passes, smallest_is, below_later}, Sets.{tied, cases}}
 use Rattle.t1_subset.specs.Differences.{smaller}
+use Rattle.std.specs.FinMap as maps
 
 module _ {K : Type 0} {R : K → K → Ordering} (o : IsTotalOrder R) (same : IsAntisymmetric R) where
   -- no key is both below and above another

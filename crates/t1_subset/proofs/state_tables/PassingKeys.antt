@@ -1,12 +1,11 @@
 -- The keys that pass a test: two sets of keys that have each of these have the same of them, upwards.
 use Rattle.std.proofs.lemmas.Bool.{cases_Bool, and_from}
-use Rattle.std.proofs.Common.{arith, ◌≡◌, ◌<◌, ◌≤◌, ◌+◌, ℕ, zero, suc, Bool, true, false, cond, ◌&&◌, ◌||◌, T, List, [], ◌∷◌, map, filter, inl, inr, refl, sym, ◌∙◌, ap, subst}
-use Rattle.std.proofs.Common.{Some, None, Ordering, is_lt, nat_cmp}
+use Rattle.std.proofs.Common.{arith, ◌≡◌, ◌<◌, ◌≤◌, ◌+◌, ℕ, zero, suc, Bool, true, false, cond, ◌&&◌, ◌||◌, T, List, [], ◌∷◌, map, filter, inl, inr, refl, sym, ◌∙◌, ap, subst, Some, None, Ordering}
+use Rattle.std.proofs.Common.{is_lt, nat_cmp}
 use Rattle.std.specs.{List.{list_any}, Ordering.{eq_by_cmp}, Cmp.{IsTotalOrder, first_so, second_so}, FinSet.{IsAntisymmetric}, FinMap.Entries.{below_all, is_sorted}}
-use Rattle.std.specs.FinMap as maps
-use Rattle.t1_font.specs.{Maps.{map_values}}
-use Rattle.t1_font.proofs.MapLemmas.{T_true, entries-map_values}
+use Rattle.t1_font.{specs.Maps.{map_values}, proofs.MapLemmas.{T_true, entries-map_values}}
 use Rattle.t1_algebra.proofs.Sets.{tied, cases}
+use Rattle.std.specs.FinMap as maps
 
 abbrev zero_value : ℕ
 zero_value = 0

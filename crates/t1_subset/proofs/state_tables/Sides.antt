@@ -1,19 +1,18 @@
 -- What the callers and the states of two fonts show of their conflicts.
 use Rattle.std.proofs.Common.{arith, ◌≡◌, ◌↔◌, ◌<◌, ℕ, Bool, true, false, cond, ◌&&◌, ◌||◌, List, [], ◌∷◌, filter, refl, sym, ◌∙◌, ap, Option, Some, None, is_some}
 use Rattle.std.specs.{Cmp.{nat_cmp_total}, FinSet.{nat_cmp-IsAntisymmetric}, Cmp.Lexicographic.{nat_list_cmp_total}}
-use Rattle.std.specs.FinMap as maps
 use Rattle.t1_join.specs.{TableMeaning.{TableMeaning, joined_table}, Meaning.{of_number}, TableLaws.{get_joined}}
 use Rattle.t1_font.specs.{FontValue.{FontValue, name_cmp, names_in}, IsFont.{IsFont}}
 use Rattle.t1_algebra.specs.Conflicts.{Conflict, SubrDiffers, keys_of_both, OverLimit, is_within, codes_of_both, glyphs_of_both, code_clashes, glyph_clashes, component_clashes, subr_clashes}
-use Rattle.t1_algebra.specs.Conflicts.{wanted_by, subr_differs, states_conflict, conflict, states_conflicts, conflicts}
-use Rattle.t1_algebra.specs.{Keep.{has}, Profile.{profile}, Searches.{members, smallest, passing, first_of, or_else}, States.{Join, code_state, subr_state}}
-use Rattle.t1_algebra.specs.StateTables.{StatesValue, FontStatesAgree, code_part, subr_part}
+use Rattle.t1_algebra.specs.{Conflicts.{wanted_by, subr_differs, states_conflict, conflict, states_conflicts, conflicts}, Keep.{has}, Profile.{profile}}
+use Rattle.t1_algebra.specs.{Searches.{members, smallest, passing, first_of, or_else}, States.{Join, code_state, subr_state}, StateTables.{StatesValue, FontStatesAgree, code_part, subr_part}}
 use Rattle.t1_algebra.specs.StateLaws.{states_laws}
 use Rattle.t1_algebra.proofs.{Maps.{in_both}, Sets.{name_same, cases}, Tables.{codes_shown}, FontStates.{subrs_shown}, AllConflicts.{first_of_states, all_conflicts}}
 use Rattle.t1_subset.specs.{declared.callers.Callers.{Callers}, declared.conflict.Conflict.{Conflict as Refusal}, Callers.{IsNoted}, Clashes.{AreStatesOf}, Differences.{smaller}, Refusals.{TellEach}}
-use Rattle.t1_subset.proofs.{Telling.{none_tells, tells_none}, state_tables.Walks.{joins_to, limits_refuse}}
-use Rattle.t1_subset.proofs.state_tables.{Conflicts.{clash_there, code_there, no_name}, FontCallers.{any_first, smallest_user, smallest_seeker}}
+use Rattle.t1_subset.proofs.{Telling.{none_tells, tells_none}, state_tables.Walks.{joins_to, limits_refuse}, state_tables.Conflicts.{clash_there, code_there, no_name}}
+use Rattle.t1_subset.proofs.state_tables.FontCallers.{any_first, smallest_user, smallest_seeker}
 use Rattle.t1_subset.proofs.state_tables.PassingKeys.{passing_same, passing_keys, keys_rise, numbers_from, numbers_rise, number_among}
+use Rattle.std.specs.FinMap as maps
 
 -- ---- one font
 

@@ -2,22 +2,20 @@
 use Rattle.std.proofs.Common.{◌≡◌, ◌<◌, ◌+◌, ℕ, zero, suc, List, [], ◌∷◌, map, length, take, get_or, refl, sym, ◌∙◌, ap, subst, arith, inl, Option, Some, option_map, Result, Ok, Err, IfErr}
 use Rattle.std.proofs.lemmas.List.{map-id, length-map, take-map}
 use Rattle.std.specs.List.{AllByRecursion}
-use Rattle.t1_join.specs.Groupings.{one, from_left, IsJoinOf}
-use Rattle.t1_join.proofs.OrderLemmas.{leaves_mapped, leaves_from_left, uses_its}
+use Rattle.t1_join.{specs.Groupings.{one, from_left, IsJoinOf}, proofs.OrderLemmas.{leaves_mapped, leaves_from_left, uses_its}}
 use Rattle.t1_font.specs.{FontValue.{FontValue}, IsFont.{IsFont}}
-use Rattle.t1_algebra.specs.{Profile.{profile}, StateTables.{StatesValue, FontStatesJoin, states_of}, Merges.{ComesTo, ComesToStates, AreOfFont}}
+use Rattle.t1_algebra.specs.{Profile.{profile}, StateTables.{StatesValue, FontStatesJoin, states_of}, Merges.{ComesTo, ComesToStates, AreOfFont}, Conflicts.{conflict}}
 use Rattle.t1_algebra.proofs.{Fonts.{fonts_within, merges_are_fonts}, FontStates.{font_known}, ManyMerges.{each_font}, Orders.{grouped, merges_by_states}}
-use Rattle.t1_subset.specs.{declared.conflict.Conflict.{Conflict as Refusal}, declared.conflict.Conflict.TheVariants.{Memory}}
-use Rattle.t1_subset.specs.{Merger.{NotMerged}, declared.callers.Callers.{Callers}, Callers.{AreNoted, fonts_of}}
-use Rattle.t1_subset.specs.{Refusals.{Tells}, Clashes.{AreStatesOf, AreCallers}}
-use Rattle.t1_algebra.specs.Conflicts.{conflict}
+use Rattle.t1_subset.specs.{declared.conflict.Conflict.{Conflict as Refusal}, declared.conflict.Conflict.TheVariants.{Memory}, Merger.{NotMerged}, declared.callers.Callers.{Callers}}
+use Rattle.t1_subset.specs.{Callers.{AreNoted, fonts_of}, Refusals.{Tells}, Clashes.{AreStatesOf, AreCallers}}
 use Rattle.t1_subset.proofs.state_tables.Walks.{JoinedSoFar, all_fonts, far_by, turn, stops, next_states, next_callers}
 
 -- if the code answers a join of the states of fonts, they come to a font of these states
 pub joined_come : (cs : List Callers) → AreNoted cs → (ss : List StatesValue) → ss ≡ map (states_of profile) (fonts_of cs) →
     (o : Option StatesValue) (v : StatesValue) → o ≡ Some v → IsJoinOf FontStatesJoin (map (λ s. s) ss) (option_map (λ s. s) o) → ComesToStates (fonts_of cs) v
 joined_come [] n ss is o v e h =
-    absurd (let some = (subst (λ o. IsJoinOf FontStatesJoin (map (λ s. s) ss) (option_map (λ s. s) o)) e h).0 in omega (arith, some, ap length is, ap length (map-id ss)))
+    let some = (subst (λ o. IsJoinOf FontStatesJoin (map (λ s. s) ss) (option_map (λ s. s) o)) e h).0 in
+    absurd (omega (arith, some, ap length is, ap length (map-id ss)))
 joined_come (c ∷ cs) n ss is o v e h =
     let f = c.font.now in let fs = fonts_of cs in let t = from_left (one f) fs in
     let uses = uses_its (grouped profile t) (map (λ s. s) ss)

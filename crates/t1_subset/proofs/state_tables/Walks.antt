@@ -1,18 +1,14 @@
 -- Merging fonts from left to right, by their states and callers.
-use Rattle.std.proofs.Common.{◌≡◌, ◌<◌, ◌≤◌, ◌+◌, ℕ, zero, suc, inl, inr, cond, List, [], ◌∷◌, ◌++◌, map, length, take, drop, get_or}
-use Rattle.std.proofs.Common.{Bor, refl, sym, ◌∙◌, ap, subst, arith, add-one, Some, None}
+use Rattle.std.proofs.Common.{◌≡◌, ◌<◌, ◌≤◌, ◌+◌, ℕ, zero, suc, inl, inr, cond, List, [], ◌∷◌, ◌++◌, map, length, take, drop, get_or, Bor, refl, sym, ◌∙◌, ap, subst, arith, add-one, Some, None}
 use Rattle.std.proofs.lemmas.List.{length-map, length-append, map-append, take_more}
 use Rattle.std.specs.List.{AllByRecursion}
-use Rattle.t1_join.specs.Groupings.{Grouping, one, from_left}
-use Rattle.t1_join.proofs.OrderLemmas.{all_of_both}
+use Rattle.t1_join.{specs.Groupings.{Grouping, one, from_left}, proofs.OrderLemmas.{all_of_both}}
 use Rattle.t1_font.specs.{FontValue.{FontValue}, IsFont.{IsFont}}
-use Rattle.t1_algebra.specs.{Profile.{profile}, States.{Join, joined_font}, StateTables.{StatesValue, FontStatesAgree, FontStatesJoin, states_of}}
-use Rattle.t1_algebra.specs.{StateLaws.{states_laws}, Conflicts.{OverLimit, states_conflict, conflict}}
-use Rattle.t1_algebra.specs.{Searches.{found}, Groupings.{Merges}, Merges.{ComesTo}}
+use Rattle.t1_algebra.specs.{Profile.{profile}, States.{Join, joined_font}, StateTables.{StatesValue, FontStatesAgree, FontStatesJoin, states_of}, StateLaws.{states_laws}}
+use Rattle.t1_algebra.specs.{Conflicts.{OverLimit, states_conflict, conflict}, Searches.{found}, Groupings.{Merges}, Merges.{ComesTo}}
 use Rattle.t1_algebra.proofs.{Conflicts.{no_conflict}, FontStates.{join_exactly, states_join}, Fonts.{font_within, joined_is_font}, ManyMerges.{left_snoc}}
-use Rattle.t1_subset.specs.{declared.callers.Callers.{Callers}, declared.conflict.Conflict.{Conflict as Refusal}}
-use Rattle.t1_subset.specs.{Refusals.{Tells}, Callers.{AreCallersOf, AreNoted, fonts_of}, Clashes.{AreStatesOf, AreCallers}}
-use Rattle.t1_subset.specs.Merger.{NotMerged}
+use Rattle.t1_subset.specs.{declared.callers.Callers.{Callers}, declared.conflict.Conflict.{Conflict as Refusal}, Refusals.{Tells}, Callers.{AreCallersOf, AreNoted, fonts_of}}
+use Rattle.t1_subset.specs.{Clashes.{AreStatesOf, AreCallers}, Merger.{NotMerged}}
 use Rattle.t1_subset.proofs.{state_tables.Conflicts.{over}, state_tables.FontCallers.{CallersSoFar, first_callers, both_callers, more_callers}}
 
 -- ---- two fonts

@@ -1,5 +1,4 @@
-use Rattle.std.proofs.Common.{◌≤◌, ◌+◌, length, ◌∙◌, arith}
-use Rattle.std.proofs.lemmas.Simd.{length-put_chunk}
+use Rattle.std.proofs.{Common.{◌≤◌, ◌+◌, length, ◌∙◌, arith}, lemmas.Simd.{length-put_chunk}}
 use Rattle.t1_bytes.proofs.Lanes.{block_decrypted}
 use Rattle.t1_bytes.proofs.blocks.decrypt_blocks.Goals as goal
 

@@ -1,8 +1,5 @@
-use Rattle.std.proofs.Common.{◌≡◌, ◌++◌, length, sym, ap, ◌∙◌, arith}
-use Rattle.std.specs.Prelude.{replicate}
-use Rattle.std.proofs.lemmas.Grind.{common_steps}
-use Rattle.t1_bytes.specs.Cipher.{encrypted}
-use Rattle.t1_bytes.proofs.Ciphers.{encrypted_whole}
+use Rattle.std.{proofs.{Common.{◌≡◌, ◌++◌, length, sym, ap, ◌∙◌, arith}, lemmas.Grind.{common_steps}}, specs.Prelude.{replicate}}
+use Rattle.t1_bytes.{specs.Cipher.{encrypted}, proofs.Ciphers.{encrypted_whole}}
 use Rattle.t1_bytes.proofs.cipher.seal.Goals as goal
 
 pub returns-clause-text : goal.returns-clause-text

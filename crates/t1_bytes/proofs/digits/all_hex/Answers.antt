@@ -1,6 +1,5 @@
 use Rattle.std.proofs.Common.{Bool, ◌&&◌, take, sym, ap, ◌∙◌}
-use Rattle.t1_bytes.specs.Eexec.{all_hex}
-use Rattle.t1_bytes.proofs.DigitsAhead.{one_more_hex}
+use Rattle.t1_bytes.{specs.Eexec.{all_hex}, proofs.DigitsAhead.{one_more_hex}}
 use Rattle.t1_bytes.proofs.digits.all_hex.Goals as goal
 
 pub bytes-preserved : goal.bytes-preserved

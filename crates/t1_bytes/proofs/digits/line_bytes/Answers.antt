@@ -1,6 +1,4 @@
-use Rattle.std.proofs.Common.{ℕ, ◌+◌, ◌*◌, ◌<◌, List, [], ◌∷◌, ◌++◌, length, sym, ap, ◌∙◌, arith}
-use Rattle.std.proofs.Math.ListN.{length-set}
-use Rattle.std.proofs.lemmas.List.{take_more_set}
+use Rattle.std.proofs.{Common.{ℕ, ◌+◌, ◌*◌, ◌<◌, List, [], ◌∷◌, ◌++◌, length, sym, ap, ◌∙◌, arith}, Math.ListN.{length-set}, lemmas.List.{take_more_set}}
 use Rattle.t1_bytes.proofs.DigitsAhead.{one_more_pair}
 use Rattle.t1_bytes.proofs.digits.line_bytes.Goals as goal
 

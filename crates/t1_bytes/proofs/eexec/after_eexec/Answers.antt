@@ -1,9 +1,5 @@
-use Rattle.std.proofs.Common.{sym, ap, ◌∙◌, arith}
-use Rattle.std.specs.Prelude.{codes}
-use Rattle.std.specs.Option.{option_map}
-use Rattle.t1_bytes.specs.Eexec.{eexec_marker}
-use Rattle.t1_bytes.proofs.EexecLemmas.{eexec_begins, marker_found, marker_absent}
-use Rattle.t1_bytes.proofs.Places.{found_at, passed_at, nowhere_at}
+use Rattle.std.{proofs.Common.{sym, ap, ◌∙◌, arith}, specs.{Prelude.{codes}, Option.{option_map}}}
+use Rattle.t1_bytes.{specs.Eexec.{eexec_marker}, proofs.{EexecLemmas.{eexec_begins, marker_found, marker_absent}, Places.{found_at, passed_at, nowhere_at}}}
 use Rattle.t1_bytes.proofs.eexec.after_eexec.Goals as goal
 
 pub returns-in-Some-eexec_marker_at : goal.returns-in-Some-eexec_marker_at

@@ -1,6 +1,5 @@
 use Rattle.std.proofs.Common.{sym, ap, subst, ◌∙◌, ◌-◌, Ok, arith, length, ℕ, List}
-use Rattle.t1_bytes.specs.Faults.{Refused}
-use Rattle.t1_bytes.proofs.EexecLemmas.{placed, cipher_of, split_within, split_absent, split_found, err_placed, cipher_stays}
+use Rattle.t1_bytes.{specs.Faults.{Refused}, proofs.EexecLemmas.{placed, cipher_of, split_within, split_absent, split_found, err_placed, cipher_stays}}
 use Rattle.t1_bytes.proofs.eexec.find.Goals as goal
 
 pub overflow_sub-result : goal.overflow_sub-result

@@ -1,5 +1,4 @@
-use Rattle.t1_bytes.specs.Split.{cipher_in}
-use Rattle.t1_bytes.proofs.EexecLemmas.{split_answers}
+use Rattle.t1_bytes.{specs.Split.{cipher_in}, proofs.EexecLemmas.{split_answers}}
 use Rattle.t1_bytes.proofs.eexec.find_cipher.Goals as goal
 
 pub returns-clause-right : goal.returns-clause-right

@@ -1,7 +1,5 @@
 use Rattle.std.proofs.Common.{subst}
-use Rattle.t1_bytes.specs.Faults.{Answers}
-use Rattle.t1_bytes.specs.Split.{split, split_view}
-use Rattle.t1_bytes.proofs.EexecLemmas.{split_answers}
+use Rattle.t1_bytes.{specs.{Faults.{Answers}, Split.{split, split_view}}, proofs.EexecLemmas.{split_answers}}
 use Rattle.t1_bytes.proofs.eexec.split_eexec.Goals as goal
 
 pub returns-clause-right : goal.returns-clause-right

@@ -1,9 +1,6 @@
 use Rattle.std.proofs.Common.{drop, arith, refl, inl}
-use Rattle.t1_bytes.specs.Eexec.{eexec_marker}
-use Rattle.t1_bytes.specs.Split.{split}
-use Rattle.t1_grammar.specs.Grammar.{unread}
-use Rattle.t1_grammar.specs.Places.{first_nowhere, unread_lacks}
-use Rattle.t1_bytes.proofs.EexecLemmas.{split_lacks}
+use Rattle.t1_bytes.{specs.{Eexec.{eexec_marker}, Split.{split}}, proofs.EexecLemmas.{split_lacks}}
+use Rattle.t1_grammar.specs.{Grammar.{unread}, Places.{first_nowhere, unread_lacks}}
 use Rattle.t1_bytes.proofs.laws.lacks_everywhere.Goals as goal
 
 pub returns : goal.returns

@@ -1,8 +1,6 @@
 use Rattle.t1_bytes.proofs.laws.reads_as_spelled.Goals as goal
-use Rattle.t1_bytes.specs.Eexec.{cipher_text, eexec_marker, hex_cipher, hex_text}
+use Rattle.t1_bytes.specs.{Eexec.{cipher_text, eexec_marker, hex_cipher, hex_text}, Segments.{end, segment}, White.{gap, white}}
 use Rattle.t1_grammar.specs.Grammar.{exact, count, first, fixed}
-use Rattle.t1_bytes.specs.Segments.{end, segment}
-use Rattle.t1_bytes.specs.White.{gap, white}
 
 pub returns : goal.returns
 returns c = record {

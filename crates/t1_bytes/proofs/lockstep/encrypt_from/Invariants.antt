@@ -1,6 +1,5 @@
 use Rattle.std.proofs.Common.{◌≡◌, ◌++◌, ◌≤◌, ◌-◌, length, take, drop}
-use Rattle.t1_bytes.specs.Cipher.{encrypted}
-use Rattle.t1_bytes.specs.Keys.{key_behind}
+use Rattle.t1_bytes.specs.{Cipher.{encrypted}, Keys.{key_behind}}
 use Rattle.t1_bytes.proofs.lockstep.encrypt_from.Given as goal
 
 abbrev pub invariant-bytes : goal.invariant-bytes

@@ -1,7 +1,5 @@
 use Rattle.std.proofs.Common.{subst}
-use Rattle.t1_bytes.specs.Faults.{Gives}
-use Rattle.t1_bytes.specs.FlatText.{flat_text}
-use Rattle.t1_bytes.proofs.SegmentLemmas.{answers}
+use Rattle.t1_bytes.{specs.{Faults.{Gives}, FlatText.{flat_text}}, proofs.SegmentLemmas.{answers}}
 use Rattle.t1_bytes.proofs.pfb.flatten.Goals as goal
 
 pub returns-clause-right : goal.returns-clause-right

@@ -1,8 +1,5 @@
-use Rattle.std.proofs.Common.{◌≡◌, ℕ, ◌+◌, ◌-◌, List, refl, sym, ap, subst, ◌∙◌, arith, length, drop, true, Ok}
-use Rattle.std.proofs.lemmas.List.{length-drop}
-use Rattle.t1_bytes.specs.Segments.{segment, end, segment_eats}
-use Rattle.t1_bytes.specs.FlatText.{starts_segment}
-use Rattle.t1_bytes.proofs.SegmentMoves.{Joins, none_moved, joined_end, joined_bad, moved}
+use Rattle.std.proofs.{Common.{◌≡◌, ℕ, ◌+◌, ◌-◌, List, refl, sym, ap, subst, ◌∙◌, arith, length, drop, true, Ok}, lemmas.List.{length-drop}}
+use Rattle.t1_bytes.{specs.{Segments.{segment, end, segment_eats}, FlatText.{starts_segment}}, proofs.SegmentMoves.{Joins, none_moved, joined_end, joined_bad, moved}}
 use Rattle.t1_bytes.proofs.pfb.join.Goals as goal
 
 pub segments-init : goal.segments-init

@@ -1,5 +1,4 @@
-use Rattle.std.proofs.Common.{arith, drop, length, ◌+◌, ◌≤◌}
-use Rattle.std.proofs.lemmas.List.{length-drop}
+use Rattle.std.proofs.{Common.{arith, drop, length, ◌+◌, ◌≤◌}, lemmas.List.{length-drop}}
 use Rattle.t1_bytes.proofs.Places.{nowhere_later, occurs_sooner}
 use Rattle.t1_bytes.proofs.texts.find_from.Goals as goal
 

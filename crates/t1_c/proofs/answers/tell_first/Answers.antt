@@ -1,5 +1,4 @@
-use Rattle.std.proofs.Common.{◌<◌, length, arith}
-use Rattle.std.proofs.lemmas.Grind.{common_steps}
+use Rattle.std.proofs.{Common.{◌<◌, length, arith}, lemmas.Grind.{common_steps}}
 use Rattle.t1_c.proofs.Given.{first_gives}
 use Rattle.t1_c.proofs.answers.tell_first.Goals as goal
 

@@ -1,6 +1,5 @@
 use Rattle.std.proofs.Common.{◌∙◌, ◌++◌, ◌∷◌, [], sym, ap}
-use Rattle.t1_c.specs.Gives.{place_labels}
-use Rattle.t1_c.proofs.LabelLemmas.{one_label_more}
+use Rattle.t1_c.{specs.Gives.{place_labels}, proofs.LabelLemmas.{one_label_more}}
 use Rattle.t1_c.proofs.labels.place_labels.Goals as goal
 
 pub labels-preserved : goal.labels-preserved

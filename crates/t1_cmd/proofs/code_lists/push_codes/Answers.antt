@@ -1,6 +1,5 @@
 use Rattle.std.proofs.Common.{◌≡◌, ◌<◌, ◌∙◌, ap, ◌+◌, ◌-◌, ◌++◌, ◌∷◌, [], List, ℕ, arith, rules}
-use Rattle.t1_cmd.specs.CodeLists.{codes_from}
-use Rattle.t1_cmd.proofs.CodeLemmas.{code_more}
+use Rattle.t1_cmd.{specs.CodeLists.{codes_from}, proofs.CodeLemmas.{code_more}}
 use Rattle.t1_cmd.proofs.code_lists.push_codes.Goals as goal
 
 pub codes-preserved : goal.codes-preserved

@@ -1,6 +1,5 @@
 use Rattle.std.proofs.Common.{◌∙◌, ap, sym, List, ℕ, Option, Some}
-use Rattle.t1_cmd.specs.CodeLists.{codes_listed}
-use Rattle.t1_cmd.proofs.CodeLemmas.{with_codes, shorter, word_more, word_last, word_bad, last_bad}
+use Rattle.t1_cmd.{specs.CodeLists.{codes_listed}, proofs.CodeLemmas.{with_codes, shorter, word_more, word_last, word_bad, last_bad}}
 use Rattle.t1_cmd.proofs.code_lists.read_codes.Goals as goal
 
 pub returns-in_default-ends : goal.returns-in_default-ends

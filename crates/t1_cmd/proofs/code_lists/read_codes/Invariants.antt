@@ -1,6 +1,5 @@
 use Rattle.std.proofs.Common.{◌≡◌, length}
-use Rattle.t1_cmd.specs.CodeLists.{codes_listed}
-use Rattle.t1_cmd.proofs.CodeLemmas.{with_codes}
+use Rattle.t1_cmd.{specs.CodeLists.{codes_listed}, proofs.CodeLemmas.{with_codes}}
 use Rattle.t1_cmd.proofs.code_lists.read_codes.Given as goal
 
 abbrev pub invariant-words : goal.invariant-words

@@ -1,7 +1,5 @@
-use Rattle.std.proofs.Common.{◌≡◌, sym, ◌∙◌, ap, arith, Some}
-use Rattle.t1_join.specs.ListingText.{split_at}
-use Rattle.t1_join.proofs.SplitLemmas.{split_position, as_parts}
-use Rattle.std.proofs.lemmas.Grind.{common_steps}
+use Rattle.std.proofs.{Common.{◌≡◌, sym, ◌∙◌, ap, arith, Some}, lemmas.Grind.{common_steps}}
+use Rattle.t1_join.{specs.ListingText.{split_at}, proofs.SplitLemmas.{split_position, as_parts}}
 use Rattle.t1_cmd.proofs.code_lists.split_at_byte.Goals as goal
 
 pub returns-in-Some : goal.returns-in-Some

@@ -1,7 +1,6 @@
 use Rattle.std.proofs.Common.{◌++◌, ◌∙◌, ap, arith}
 use Rattle.t1_subset.specs.declared.conflict.Conflict.{Conflict}
-use Rattle.t1_cmd.specs.Diffs.{conflict_line}
-use Rattle.t1_cmd.proofs.Lines.{one_line_more, all_lines}
+use Rattle.t1_cmd.{specs.Diffs.{conflict_line}, proofs.Lines.{one_line_more, all_lines}}
 use Rattle.t1_cmd.proofs.diffs.conflict_lines.Goals as goal
 
 pub conflicts-preserved : goal.conflicts-preserved

@@ -1,5 +1,4 @@
-use Rattle.std.proofs.Common.{◌≡◌, ◌++◌, drop}
-use Rattle.std.specs.List.{flat_map}
+use Rattle.std.{proofs.Common.{◌≡◌, ◌++◌, drop}, specs.List.{flat_map}}
 use Rattle.t1_cmd.specs.Diffs.{conflict_line}
 use Rattle.t1_cmd.proofs.diffs.conflict_lines.Given as goal
 

@@ -1,11 +1,8 @@
-use Rattle.std.proofs.Common.{◌≡◌, ◌↔◌, ◌∙◌, ap, subst, []}
-use Rattle.std.proofs.lemmas.Result.{IfOk-weaker}
-use Rattle.std.specs.List.{flat_map}
+use Rattle.std.{proofs.{Common.{◌≡◌, ◌↔◌, ◌∙◌, ap, subst, []}, lemmas.Result.{IfOk-weaker}}, specs.List.{flat_map}}
 use Rattle.t1_font.specs.FontValue.{FontValue}
 use Rattle.t1_algebra.specs.{Profile.{profile}, States.{Join}, Conflicts.{conflicts}}
 use Rattle.t1_subset.specs.Refusals.{TellEach}
-use Rattle.t1_cmd.specs.Diffs.{conflict_line}
-use Rattle.t1_cmd.proofs.DiffLemmas.{no_text}
+use Rattle.t1_cmd.{specs.Diffs.{conflict_line}, proofs.DiffLemmas.{no_text}}
 use Rattle.t1_cmd.proofs.diffs.diff_text.Goals as goal
 
 pub returns-clause-text : goal.returns-clause-text

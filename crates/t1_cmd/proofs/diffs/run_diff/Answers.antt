@@ -1,10 +1,5 @@
 use Rattle.std.proofs.Common.{◌≡◌, ◌↔◌, ℕ, List, [], ◌∷◌, true, subst, sym}
-use Rattle.t1_cmd.specs.Inputs.{input_of}
-use Rattle.t1_cmd.specs.Fonts.{font_input}
-use Rattle.t1_cmd.specs.Runs.{RunEnds}
-use Rattle.t1_cmd.specs.Diffs.{ListsConflicts, DiffersBy}
-use Rattle.t1_cmd.proofs.RunLemmas.{write_ends}
-use Rattle.t1_cmd.proofs.DiffLemmas.{says_join}
+use Rattle.t1_cmd.{specs.{Inputs.{input_of}, Fonts.{font_input}, Runs.{RunEnds}, Diffs.{ListsConflicts, DiffersBy}}, proofs.{RunLemmas.{write_ends}, DiffLemmas.{says_join}}}
 use Rattle.t1_cmd.proofs.diffs.run_diff.Goals as goal
 
 pub returns-in-Ok-write_text-clause-ends : goal.returns-in-Ok-write_text-clause-ends

@@ -1,10 +1,6 @@
 use Rattle.std.proofs.Common.{ℕ, List, map, Bor, Vec, Ok, sym, ap, subst, ◌∙◌}
-use Rattle.t1_cmd.specs.declared.faults.RunFault.TheVariants.{Refused}
-use Rattle.t1_cmd.specs.Answers.{MayRefuse}
-use Rattle.t1_cmd.specs.Mergers.{inputs_of}
-use Rattle.t1_cmd.specs.Documents.{text_input}
-use Rattle.t1_cmd.proofs.RunLemmas.{stopped, write_ends}
-use Rattle.t1_cmd.proofs.Refusals.{answer_stops}
+use Rattle.t1_cmd.specs.{declared.faults.RunFault.TheVariants.{Refused}, Answers.{MayRefuse}, Mergers.{inputs_of}, Documents.{text_input}}
+use Rattle.t1_cmd.proofs.{RunLemmas.{stopped, write_ends}, Refusals.{answer_stops}}
 use Rattle.t1_cmd.proofs.document_words.run_documents.Goals as goal
 
 -- documents that were lent

@@ -1,5 +1,4 @@
-use Rattle.std.proofs.Common.{◌≡◌, ◌++◌, map, drop}
-use Rattle.std.specs.List.{flat_map}
+use Rattle.std.{proofs.Common.{◌≡◌, ◌++◌, map, drop}, specs.List.{flat_map}}
 use Rattle.t1_document.specs.Groups.{outcome_in}
 use Rattle.t1_cmd.specs.Documents.{kept_line}
 use Rattle.t1_cmd.proofs.documents.kept_lines.Given as goal

@@ -1,5 +1,4 @@
-use Rattle.std.proofs.Common.{◌+◌, ℕ, List, length, map, drop, Bor, arith, sym, ap, ◌∙◌}
-use Rattle.std.proofs.lemmas.List.{drop_more}
+use Rattle.std.proofs.{Common.{◌+◌, ℕ, List, length, map, drop, Bor, arith, sym, ap, ◌∙◌}, lemmas.List.{drop_more}}
 use Rattle.t1_document.specs.Lines.{behind_documents}
 use Rattle.t1_cmd.proofs.DocumentLemmas.{documents_longer}
 use Rattle.t1_cmd.proofs.documents.one_text.Goals as goal

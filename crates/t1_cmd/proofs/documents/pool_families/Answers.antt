@@ -1,10 +1,6 @@
 use Rattle.std.proofs.Common.{◌≡◌, ℕ, List, map, ap, sym, subst, ◌∙◌}
-use Rattle.t1_document.specs.declared.documents.Place.{Place as CodePlace}
-use Rattle.t1_document.specs.Documents.{Place, Document, document_bytes}
-use Rattle.t1_document.specs.Families.{family_members, aliased}
-use Rattle.t1_document.specs.Groups.{outcome_in}
-use Rattle.t1_document.specs.Joins.{AreOutcomes, new_texts}
-use Rattle.t1_document.specs.Views.{place_view, document_view}
+use Rattle.t1_document.specs.{declared.documents.Place.{Place as CodePlace}, Documents.{Place, Document, document_bytes}, Families.{family_members, aliased}, Groups.{outcome_in}}
+use Rattle.t1_document.specs.{Joins.{AreOutcomes, new_texts}, Views.{place_view, document_view}}
 use Rattle.t1_cmd.specs.Documents.{kept_lines}
 use Rattle.t1_cmd.proofs.documents.pool_families.Goals as goal
 

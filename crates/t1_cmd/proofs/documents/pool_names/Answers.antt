@@ -1,12 +1,7 @@
 use Rattle.std.proofs.Common.{List, map, ap, subst, ◌∙◌}
-use Rattle.t1_document.specs.declared.documents.Place.{Place as CodePlace}
-use Rattle.t1_document.specs.Documents.{Document}
-use Rattle.t1_document.specs.Groups.{outcome_in}
-use Rattle.t1_document.specs.Joins.{AreOutcomes}
-use Rattle.t1_document.specs.Texts.{text_in}
-use Rattle.t1_document.specs.Views.{place_view, document_view}
-use Rattle.t1_cmd.specs.Documents.{kept_lines}
+use Rattle.t1_document.specs.{declared.documents.Place.{Place as CodePlace}, Documents.{Document}, Groups.{outcome_in}, Joins.{AreOutcomes}, Texts.{text_in}, Views.{place_view, document_view}}
 use Rattle.t1_document.proofs.NewTexts.{pooled_so}
+use Rattle.t1_cmd.specs.Documents.{kept_lines}
 use Rattle.t1_cmd.proofs.documents.pool_names.Goals as goal
 
 pub returns-clause-text : goal.returns-clause-text

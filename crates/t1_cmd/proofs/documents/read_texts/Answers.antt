@@ -1,6 +1,5 @@
 use Rattle.std.proofs.Common.{◌+◌, set, get_or, map, ap, refl, arith, subst, sym}
-use Rattle.t1_cmd.specs.Documents.{text_input}
-use Rattle.t1_cmd.proofs.ReaderLoops.{SoFar, goes_on, stops, turns_at, all_said, all_turns}
+use Rattle.t1_cmd.{specs.Documents.{text_input}, proofs.ReaderLoops.{SoFar, goes_on, stops, turns_at, all_said, all_turns}}
 use Rattle.t1_cmd.proofs.documents.read_texts.Goals as goal
 
 pub readers-init : goal.readers-init

@@ -1,6 +1,5 @@
 use Rattle.std.proofs.Common.{map}
-use Rattle.t1_cmd.specs.Documents.{text_input}
-use Rattle.t1_cmd.proofs.ReaderLoops.{SoFar}
+use Rattle.t1_cmd.{specs.Documents.{text_input}, proofs.ReaderLoops.{SoFar}}
 use Rattle.t1_cmd.proofs.documents.read_texts.Given as goal
 
 abbrev pub invariant-readers : goal.invariant-readers

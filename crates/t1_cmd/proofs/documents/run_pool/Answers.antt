@@ -1,8 +1,4 @@
-use Rattle.t1_cmd.specs.Runs.{ended}
-use Rattle.t1_cmd.specs.Mergers.{inputs_of}
-use Rattle.t1_cmd.specs.Documents.{text_input, PoolsTo}
-use Rattle.t1_cmd.proofs.RunLemmas.{ends_succeeds}
-use Rattle.t1_cmd.proofs.DocumentWords.{pools_apart}
+use Rattle.t1_cmd.{specs.{Runs.{ended}, Mergers.{inputs_of}, Documents.{text_input, PoolsTo}}, proofs.{RunLemmas.{ends_succeeds}, DocumentWords.{pools_apart}}}
 use Rattle.t1_cmd.proofs.documents.run_pool.Goals as goal
 
 pub returns-clause-succeeds : goal.returns-clause-succeeds

@@ -1,12 +1,7 @@
 use Rattle.std.proofs.Common.{ℕ, List, map, Bor, Vec, Ok, sym, ap, subst, ◌∙◌}
 use Rattle.t1_document.specs.Lines.{one_text}
-use Rattle.t1_cmd.specs.declared.faults.RunFault.TheVariants.{Refused}
-use Rattle.t1_cmd.specs.Answers.{MayRefuse}
-use Rattle.t1_cmd.specs.Mergers.{inputs_of}
-use Rattle.t1_cmd.specs.Runs.{RunEnds}
-use Rattle.t1_cmd.specs.Documents.{text_input, PoolsTo, TellsPooled}
-use Rattle.t1_cmd.proofs.RunLemmas.{stopped, write_ends, values_have}
-use Rattle.t1_cmd.proofs.Refusals.{answer_stops}
+use Rattle.t1_cmd.specs.{declared.faults.RunFault.TheVariants.{Refused}, Answers.{MayRefuse}, Mergers.{inputs_of}, Runs.{RunEnds}, Documents.{text_input, PoolsTo, TellsPooled}}
+use Rattle.t1_cmd.proofs.{RunLemmas.{stopped, write_ends, values_have}, Refusals.{answer_stops}}
 use Rattle.t1_cmd.proofs.documents.write_pooled.Goals as goal
 
 -- documents that were lent are these

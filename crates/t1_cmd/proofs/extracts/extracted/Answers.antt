@@ -1,6 +1,4 @@
-use Rattle.std.proofs.Common.{sym, ap, ◌∙◌}
-use Rattle.std.specs.Option.{option_map}
-use Rattle.std.proofs.lemmas.Result.{IfErr-weaker}
+use Rattle.std.{proofs.{Common.{sym, ap, ◌∙◌}, lemmas.Result.{IfErr-weaker}}, specs.Option.{option_map}}
 use Rattle.t1_subset.specs.NameSets.{lent}
 use Rattle.t1_document.specs.Views.{place_view}
 use Rattle.t1_cmd.proofs.ExtractLemmas.{read_or_memory}

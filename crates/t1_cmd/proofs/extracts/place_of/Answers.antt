@@ -1,11 +1,6 @@
-use Rattle.std.proofs.Common.{◌+◌, ℕ, List, map, drop, get_or, Bor, sym, ap, ◌∙◌}
-use Rattle.std.proofs.lemmas.List.{drop_more}
-use Rattle.t1_document.specs.declared.documents.Place.{Place as CodePlace}
-use Rattle.t1_document.specs.Documents.{Place, Document, document_of}
-use Rattle.t1_document.specs.Views.{place_view}
-use Rattle.t1_document.specs.Joins.{places_of_all}
-use Rattle.t1_cmd.specs.Extracts.{first_named}
-use Rattle.t1_cmd.proofs.ExtractLemmas.{first_before, first_behind}
+use Rattle.std.proofs.{Common.{◌+◌, ℕ, List, map, drop, get_or, Bor, sym, ap, ◌∙◌}, lemmas.List.{drop_more}}
+use Rattle.t1_document.specs.{declared.documents.Place.{Place as CodePlace}, Documents.{Place, Document, document_of}, Views.{place_view}, Joins.{places_of_all}}
+use Rattle.t1_cmd.{specs.Extracts.{first_named}, proofs.ExtractLemmas.{first_before, first_behind}}
 use Rattle.t1_cmd.proofs.extracts.place_of.Goals as goal
 
 -- the places of documents that are lent

@@ -1,8 +1,4 @@
-use Rattle.t1_cmd.specs.Mergers.{inputs_of}
-use Rattle.t1_cmd.specs.Documents.{text_input}
-use Rattle.t1_cmd.specs.Extracts.{ExtractsTo}
-use Rattle.t1_cmd.proofs.RunLemmas.{ends_succeeds}
-use Rattle.t1_cmd.proofs.DocumentWords.{extracts_apart}
+use Rattle.t1_cmd.{specs.{Mergers.{inputs_of}, Documents.{text_input}, Extracts.{ExtractsTo}}, proofs.{RunLemmas.{ends_succeeds}, DocumentWords.{extracts_apart}}}
 use Rattle.t1_cmd.proofs.extracts.run_extract.Goals as goal
 
 pub returns-clause-succeeds : goal.returns-clause-succeeds

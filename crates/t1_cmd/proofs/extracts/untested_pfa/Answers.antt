@@ -1,8 +1,6 @@
-use Rattle.std.proofs.Common.{◌≡◌, ◌∙◌, subst}
-use Rattle.std.specs.Prelude.{IfOk}
+use Rattle.std.{proofs.Common.{◌≡◌, ◌∙◌, subst}, specs.Prelude.{IfOk}}
 use Rattle.t1_bytes.specs.declared.form.Form.TheVariants.{Pfa}
-use Rattle.t1_font.specs.FontValue.{FontValue}
-use Rattle.t1_font.specs.Canon.{canon}
+use Rattle.t1_font.specs.{FontValue.{FontValue}, Canon.{canon}}
 use Rattle.t1_cmd.proofs.extracts.untested_pfa.Goals as goal
 
 pub returns : goal.returns

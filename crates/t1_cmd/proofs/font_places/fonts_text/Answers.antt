@@ -1,15 +1,8 @@
-use Rattle.std.proofs.Common.{◌≡◌, ◌++◌, ℕ, List, map, ap, subst, ◌∙◌}
-use Rattle.std.specs.List.{flat_map}
+use Rattle.std.{proofs.Common.{◌≡◌, ◌++◌, ℕ, List, map, ap, subst, ◌∙◌}, specs.List.{flat_map}}
 use Rattle.t1_subset.specs.NameSets.{lent}
-use Rattle.t1_document.specs.declared.documents.Place.{Place as CodePlace}
-use Rattle.t1_document.specs.declared.documents.Document.{Document as CodeDocument}
-use Rattle.t1_document.specs.Documents.{Place, Document, document_of}
-use Rattle.t1_document.specs.Groups.{outcome_in}
-use Rattle.t1_document.specs.Joins.{Outcomes, AreOutcomes}
-use Rattle.t1_document.specs.Views.{place_view, document_view}
-use Rattle.t1_document.specs.Joins.{places_of_all}
-use Rattle.t1_cmd.specs.FontPlaces.{document_lines, count_line}
-use Rattle.t1_cmd.proofs.LevelLemmas.{places_all}
+use Rattle.t1_document.specs.{declared.documents.Place.{Place as CodePlace}, declared.documents.Document.{Document as CodeDocument}, Documents.{Place, Document, document_of}, Groups.{outcome_in}}
+use Rattle.t1_document.specs.{Joins.{Outcomes, AreOutcomes, places_of_all}, Views.{place_view, document_view}}
+use Rattle.t1_cmd.{specs.FontPlaces.{document_lines, count_line}, proofs.LevelLemmas.{places_all}}
 use Rattle.t1_cmd.proofs.font_places.fonts_text.Goals as goal
 
 pub returns : goal.returns

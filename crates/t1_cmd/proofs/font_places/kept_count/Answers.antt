@@ -1,9 +1,7 @@
 use Rattle.std.proofs.Common.{◌∙◌, sym, ap}
 use Rattle.t1_document.specs.Groups.{outcome_in}
-use Rattle.t1_cmd.specs.FontPlaces.{is_kept}
-use Rattle.t1_cmd.proofs.FontPlaceLemmas.{one_passes, one_fails}
+use Rattle.t1_cmd.{specs.FontPlaces.{is_kept}, proofs.{FontPlaceLemmas.{one_passes, one_fails}, font_places.kept_count.Goals.{then-is_kept, else-is_kept}}}
 use Rattle.t1_cmd.proofs.font_places.kept_count.Goals as goal
-use Rattle.t1_cmd.proofs.font_places.kept_count.Goals.{then-is_kept, else-is_kept}
 
 pub names-preserved : goal.names-preserved
 names-preserved c =

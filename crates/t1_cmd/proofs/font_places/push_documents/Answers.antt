@@ -1,11 +1,7 @@
-use Rattle.std.proofs.Common.{◌<◌, ℕ, List, length, get_or, Bor, arith, sym, ap, ◌∙◌}
-use Rattle.std.proofs.lemmas.List.{get_or-map, length-map}
+use Rattle.std.proofs.{Common.{◌<◌, ℕ, List, length, get_or, Bor, arith, sym, ap, ◌∙◌}, lemmas.List.{get_or-map, length-map}}
 use Rattle.t1_subset.specs.NameSets.{lent}
-use Rattle.t1_document.specs.Documents.{document_of}
-use Rattle.t1_document.specs.Groups.{outcome_in}
-use Rattle.t1_document.specs.Views.{document_view}
-use Rattle.t1_cmd.proofs.LevelLemmas.{map_twice}
-use Rattle.t1_cmd.proofs.FontPlaceLemmas.{same_at, same_lengths, document_on}
+use Rattle.t1_document.specs.{Documents.{document_of}, Groups.{outcome_in}, Views.{document_view}}
+use Rattle.t1_cmd.proofs.{LevelLemmas.{map_twice}, FontPlaceLemmas.{same_at, same_lengths, document_on}}
 use Rattle.t1_cmd.proofs.font_places.push_documents.Goals as goal
 
 pub push_places-requires : goal.push_places-requires

@@ -1,10 +1,5 @@
-use Rattle.std.proofs.Common.{◌<◌, ◌^◌, refl, ap, arith, rules, List, length, map}
-use Rattle.std.specs.List.{flat_map}
-use Rattle.std.proofs.lemmas.List.{drop_more}
-use Rattle.t1_document.specs.declared.documents.Place.{Place as CodePlace}
-use Rattle.t1_document.specs.Documents.{place_bytes}
-use Rattle.t1_document.specs.Groups.{outcome_in}
-use Rattle.t1_document.specs.Views.{place_view, document_view}
+use Rattle.std.{proofs.{Common.{◌<◌, ◌^◌, refl, ap, arith, rules, List, length, map}, lemmas.List.{drop_more}}, specs.List.{flat_map}}
+use Rattle.t1_document.specs.{declared.documents.Place.{Place as CodePlace}, Documents.{place_bytes}, Groups.{outcome_in}, Views.{place_view, document_view}}
 use Rattle.t1_cmd.proofs.FontPlaceLemmas.{places_short, listed_on}
 use Rattle.t1_cmd.proofs.font_places.push_places.Goals as goal
 

@@ -1,7 +1,4 @@
-use Rattle.std.proofs.Common.{ap, ◌∙◌, sym, Ok, ◌∷◌, ◌++◌, []}
-use Rattle.std.specs.Prelude.{codes}
-use Rattle.std.specs.Fmt.{decimal}
-use Rattle.std.specs.FinMap.{len}
+use Rattle.std.{proofs.Common.{ap, ◌∙◌, sym, Ok, ◌∷◌, ◌++◌, []}, specs.{Prelude.{codes}, Fmt.{decimal}, FinMap.{len}}}
 use Rattle.t1_font.specs.FontValue.{weight}
 use Rattle.t1_cmd.proofs.FontLemmas.{four_pieces}
 use Rattle.t1_cmd.proofs.fonts.check_line.Goals as goal

@@ -1,5 +1,4 @@
-use Rattle.std.proofs.Common.{◌≡◌, ◌+◌, ◌≤◌, length}
-use Rattle.std.specs.FinMap.{len}
+use Rattle.std.{proofs.Common.{◌≡◌, ◌+◌, ◌≤◌, length}, specs.FinMap.{len}}
 use Rattle.t1_font.specs.FontValue.{count_limit}
 use Rattle.t1_cmd.proofs.fonts.glyph_count.Given as goal
 

@@ -1,9 +1,7 @@
-use Rattle.std.proofs.Common.{◌∙◌, ap, sym, ◌≡◌, ◌≤◌, ℕ, true, false, cond, arith}
-use Rattle.std.specs.FinMap.{contains_key}
+use Rattle.std.{proofs.Common.{◌∙◌, ap, sym, ◌≡◌, ◌≤◌, ℕ, true, false, cond, arith}, specs.FinMap.{contains_key}}
 use Rattle.t1_font.specs.FontValue.{declared_count}
-use Rattle.t1_cmd.proofs.Walks.{count_none, count_more, count_all}
+use Rattle.t1_cmd.proofs.{Walks.{count_none, count_more, count_all}, fonts.subr_count.Goals.{then-present, else-present}}
 use Rattle.t1_cmd.proofs.fonts.subr_count.Goals as goal
-use Rattle.t1_cmd.proofs.fonts.subr_count.Goals.{then-present, else-present}
 
 pub indices-init : goal.indices-init
 indices-init c = (sym (count_none c.args.font.now.subrs), omega arith)

@@ -1,5 +1,4 @@
-use Rattle.std.proofs.Common.{◌≡◌, ◌++◌}
-use Rattle.std.specs.List.{flat_map}
+use Rattle.std.{proofs.Common.{◌≡◌, ◌++◌}, specs.List.{flat_map}}
 use Rattle.t1_font.specs.FontValue.{names_in}
 use Rattle.t1_cmd.specs.FullText.{width_line}
 use Rattle.t1_cmd.proofs.full.push_widths.Given as goal

@@ -1,5 +1,4 @@
-use Rattle.std.proofs.Common.{◌≡◌, map, take}
-use Rattle.std.specs.List.{flat_map}
+use Rattle.std.{proofs.Common.{◌≡◌, map, take}, specs.List.{flat_map}}
 use Rattle.t1_document.specs.Views.{place_view, document_view}
 use Rattle.t1_cmd.proofs.levels.all_places.Given as goal
 

@@ -1,5 +1,4 @@
-use Rattle.std.proofs.Common.{ℕ, List, map, Bor, sym, ap, ◌∙◌}
-use Rattle.std.proofs.lemmas.List.{take_all}
+use Rattle.std.proofs.{Common.{ℕ, List, map, Bor, sym, ap, ◌∙◌}, lemmas.List.{take_all}}
 use Rattle.t1_document.specs.Documents.{document_of}
 use Rattle.t1_cmd.proofs.LevelLemmas.{map_twice}
 use Rattle.t1_cmd.proofs.levels.documents_of.Goals as goal

@@ -1,6 +1,5 @@
 use Rattle.std.proofs.Common.{◌≡◌, map, take}
-use Rattle.t1_document.specs.Documents.{document_of}
-use Rattle.t1_document.specs.Views.{document_view}
+use Rattle.t1_document.specs.{Documents.{document_of}, Views.{document_view}}
 use Rattle.t1_cmd.proofs.levels.documents_of.Given as goal
 
 abbrev pub invariant-texts : goal.invariant-texts

@@ -1,9 +1,5 @@
-use Rattle.std.proofs.Common.{map, sym, ap, ◌∙◌}
-use Rattle.std.proofs.lemmas.List.{take_all}
-use Rattle.t1_document.specs.declared.documents.Document.{Document as CodeDocument}
-use Rattle.t1_document.specs.Rewriting.{document_levelled}
-use Rattle.t1_document.specs.Texts.{text_in}
-use Rattle.t1_document.specs.Views.{document_view}
+use Rattle.std.proofs.{Common.{map, sym, ap, ◌∙◌}, lemmas.List.{take_all}}
+use Rattle.t1_document.specs.{declared.documents.Document.{Document as CodeDocument}, Rewriting.{document_levelled}, Texts.{text_in}, Views.{document_view}}
 use Rattle.t1_cmd.proofs.LevelLemmas.{map_twice}
 use Rattle.t1_cmd.proofs.levels.each_level.Goals as goal
 

@@ -1,7 +1,5 @@
 use Rattle.std.proofs.Common.{◌≡◌, map, take}
-use Rattle.t1_document.specs.Rewriting.{document_levelled}
-use Rattle.t1_document.specs.Texts.{text_in}
-use Rattle.t1_document.specs.Views.{document_view}
+use Rattle.t1_document.specs.{Rewriting.{document_levelled}, Texts.{text_in}, Views.{document_view}}
 use Rattle.t1_cmd.proofs.levels.each_level.Given as goal
 
 abbrev pub invariant-documents : goal.invariant-documents

@@ -1,18 +1,9 @@
-use Rattle.std.proofs.Common.{◌≡◌, ℕ, List, map, ap, subst, ◌∙◌}
-use Rattle.std.specs.List.{flat_map}
+use Rattle.std.{proofs.Common.{◌≡◌, ℕ, List, map, ap, subst, ◌∙◌}, specs.List.{flat_map}}
 use Rattle.t1_subset.specs.NameSets.{lent}
-use Rattle.t1_document.specs.declared.documents.Place.{Place as CodePlace}
-use Rattle.t1_document.specs.declared.documents.Document.{Document as CodeDocument}
-use Rattle.t1_document.specs.Documents.{Place, Document, document_of}
-use Rattle.t1_document.specs.Rewriting.{NewTexts, document_levelled}
-use Rattle.t1_document.specs.Groups.{outcome_in}
-use Rattle.t1_document.specs.Joins.{Outcomes, AreOutcomes, new_texts}
-use Rattle.t1_document.specs.Texts.{text_in}
-use Rattle.t1_document.specs.Views.{place_view, document_view}
+use Rattle.t1_document.specs.{declared.documents.Place.{Place as CodePlace}, declared.documents.Document.{Document as CodeDocument}, Documents.{Place, Document, document_of}}
+use Rattle.t1_document.specs.{Rewriting.{NewTexts, document_levelled}, Groups.{outcome_in}, Joins.{Outcomes, AreOutcomes, new_texts, places_of_all}, Texts.{text_in}, Views.{place_view, document_view}}
 use Rattle.t1_document.proofs.NewTexts.{texts_are}
-use Rattle.t1_cmd.specs.Documents.{kept_lines}
-use Rattle.t1_document.specs.Joins.{places_of_all}
-use Rattle.t1_cmd.proofs.LevelLemmas.{places_all, levels_all}
+use Rattle.t1_cmd.{specs.Documents.{kept_lines}, proofs.LevelLemmas.{places_all, levels_all}}
 use Rattle.t1_cmd.proofs.levels.level.Goals as goal
 
 pub returns-clause-levels : goal.returns-clause-levels

@@ -1,8 +1,6 @@
 use Rattle.std.proofs.Common.{ℕ, List, map, Bor, Vec, ap, subst, ◌∙◌}
-use Rattle.t1_cmd.specs.Mergers.{inputs_of}
-use Rattle.t1_cmd.specs.Documents.{text_input, TellsKept}
+use Rattle.t1_cmd.{specs.{Mergers.{inputs_of}, Documents.{text_input, TellsKept}}, proofs.RunLemmas.{values_have}}
 use Rattle.t1_document.specs.Joins.{places_of_all, LevelsTo}
-use Rattle.t1_cmd.proofs.RunLemmas.{values_have}
 use Rattle.t1_cmd.proofs.levels.read_levelled.Goals as goal
 
 -- documents that were lent

@@ -1,6 +1,4 @@
-use Rattle.t1_cmd.specs.Mergers.{inputs_of}
-use Rattle.t1_cmd.specs.Documents.{text_input}
-use Rattle.t1_cmd.proofs.LevelLemmas.{succeeds_where_known}
+use Rattle.t1_cmd.{specs.{Mergers.{inputs_of}, Documents.{text_input}}, proofs.LevelLemmas.{succeeds_where_known}}
 use Rattle.t1_cmd.proofs.levels.run_level.Goals as goal
 
 pub returns-clause-succeeds : goal.returns-clause-succeeds

@@ -1,7 +1,6 @@
 use Rattle.std.proofs.Common.{◌∙◌, ap, ◌++◌, ◌+◌, List, ℕ, arith, ◌≤◌}
-use Rattle.t1_cmd.specs.ListText.{line_at, code_line}
+use Rattle.t1_cmd.{specs.ListText.{line_at, code_line}, proofs.Walks.{codes_none, codes_more, codes_all, codes_under, nothing_more, line_more}}
 use Rattle.t1_font.specs.FontModel.{name_at}
-use Rattle.t1_cmd.proofs.Walks.{codes_none, codes_more, codes_all, codes_under, nothing_more, line_more}
 use Rattle.t1_cmd.proofs.list.push_codes.Goals as goal
 
 pub codes-init : goal.codes-init

@@ -1,6 +1,4 @@
-use Rattle.std.proofs.Common.{◌≡◌, ◌++◌}
-use Rattle.std.specs.List.{flat_map}
-use Rattle.std.specs.FinMap.{get}
+use Rattle.std.{proofs.Common.{◌≡◌, ◌++◌}, specs.{List.{flat_map}, FinMap.{get}}}
 use Rattle.t1_font.specs.FontValue.{names_in}
 use Rattle.t1_cmd.specs.ListText.{line_at, glyph_length_line}
 use Rattle.t1_cmd.proofs.list.push_glyphs.Given as goal

@@ -1,8 +1,6 @@
 use Rattle.std.proofs.Common.{◌∙◌, ap, ◌++◌, ◌+◌, ◌≤◌, List, ℕ, arith}
-use Rattle.t1_font.specs.FontModel.{subr_at}
-use Rattle.t1_font.specs.FontValue.{declared_count}
-use Rattle.t1_cmd.specs.ListText.{line_at, subr_length_line}
-use Rattle.t1_cmd.proofs.Walks.{lines_under, lines_none, subrs_more, subrs_all, nothing_more, line_more}
+use Rattle.t1_font.specs.{FontModel.{subr_at}, FontValue.{declared_count}}
+use Rattle.t1_cmd.{specs.ListText.{line_at, subr_length_line}, proofs.Walks.{lines_under, lines_none, subrs_more, subrs_all, nothing_more, line_more}}
 use Rattle.t1_cmd.proofs.list.push_subrs.Goals as goal
 
 pub indices-init : goal.indices-init

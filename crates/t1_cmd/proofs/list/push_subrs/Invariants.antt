@@ -1,6 +1,5 @@
 use Rattle.std.proofs.Common.{◌≡◌, ◌++◌}
-use Rattle.t1_cmd.specs.ListText.{subr_length_line}
-use Rattle.t1_cmd.proofs.Walks.{lines_under}
+use Rattle.t1_cmd.{specs.ListText.{subr_length_line}, proofs.Walks.{lines_under}}
 use Rattle.t1_cmd.proofs.list.push_subrs.Given as goal
 
 abbrev pub invariant-indices : goal.invariant-indices

@@ -1,7 +1,5 @@
 use Rattle.std.proofs.Common.{[], ◌∷◌}
-use Rattle.t1_cmd.specs.Listings.{listing_input, JoinsTo}
-use Rattle.t1_cmd.proofs.Files.{refuses_values}
-use Rattle.t1_cmd.proofs.JoinLemmas.{both_said}
+use Rattle.t1_cmd.{specs.Listings.{listing_input, JoinsTo}, proofs.{Files.{refuses_values}, JoinLemmas.{both_said}}}
 use Rattle.t1_cmd.proofs.listings.join_listings.Goals as goal
 
 pub returns-in-Ok-clause-text : goal.returns-in-Ok-clause-text

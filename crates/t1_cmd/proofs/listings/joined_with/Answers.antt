@@ -1,7 +1,5 @@
 use Rattle.std.proofs.Common.{◌≡◌, ℕ, List, inr, sym, subst, Ok}
-use Rattle.t1_cmd.specs.Inputs.{input_of}
-use Rattle.t1_cmd.specs.Listings.{listing_input}
-use Rattle.t1_cmd.proofs.Refusals.{says_so}
+use Rattle.t1_cmd.{specs.{Inputs.{input_of}, Listings.{listing_input}}, proofs.Refusals.{says_so}}
 use Rattle.t1_cmd.proofs.listings.joined_with.Goals as goal
 
 pub returns-in-Ok-joined_text-clause-text : goal.returns-in-Ok-joined_text-clause-text

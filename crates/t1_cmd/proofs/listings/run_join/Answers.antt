@@ -1,8 +1,5 @@
 use Rattle.std.proofs.Common.{◌≡◌, ℕ, List, [], ◌∷◌, Ok, subst, sym}
-use Rattle.t1_cmd.specs.Inputs.{input_of}
-use Rattle.t1_cmd.specs.Listings.{listing_input, JoinsTo}
-use Rattle.t1_cmd.proofs.Refusals.{says_so}
-use Rattle.t1_cmd.proofs.RunLemmas.{write_ends}
+use Rattle.t1_cmd.{specs.{Inputs.{input_of}, Listings.{listing_input, JoinsTo}}, proofs.{Refusals.{says_so}, RunLemmas.{write_ends}}}
 use Rattle.t1_cmd.proofs.listings.run_join.Goals as goal
 
 pub returns-clause-ends : goal.returns-clause-ends

@@ -1,6 +1,5 @@
 use Rattle.std.proofs.Common.{arith}
-use Rattle.t1_cmd.specs.Mends.{mend_line}
-use Rattle.t1_cmd.proofs.Lines.{one_line_more, all_lines}
+use Rattle.t1_cmd.{specs.Mends.{mend_line}, proofs.Lines.{one_line_more, all_lines}}
 use Rattle.t1_cmd.proofs.mends.mend_lines.Goals as goal
 
 pub mends-preserved : goal.mends-preserved

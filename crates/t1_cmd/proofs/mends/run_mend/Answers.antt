@@ -1,15 +1,7 @@
 use Rattle.std.proofs.Common.{◌≡◌, [], ◌∷◌, ◌∙◌, ap, sym, subst, Ok, Err, List, ℕ}
 use Rattle.t1_bytes.specs.declared.form.Form.{Form}
-use Rattle.t1_cmd.specs.declared.faults.RunFault.TheVariants.{Refused}
-use Rattle.t1_cmd.specs.Inputs.{input_of}
-use Rattle.t1_cmd.specs.Answers.{Prints, MayRefuse}
-use Rattle.t1_cmd.specs.Runs.{RunEnds}
-use Rattle.t1_cmd.specs.Fonts.{mended_input, file_answer}
-use Rattle.t1_cmd.specs.Mends.{mends_answer}
-use Rattle.t1_cmd.proofs.FontLemmas.{ends_well}
-use Rattle.t1_cmd.proofs.MendLemmas.{told_stops}
-use Rattle.t1_cmd.proofs.Refusals.{says_so}
-use Rattle.t1_cmd.proofs.RunLemmas.{stopped}
+use Rattle.t1_cmd.specs.{declared.faults.RunFault.TheVariants.{Refused}, Inputs.{input_of}, Answers.{Prints, MayRefuse}, Runs.{RunEnds}, Fonts.{mended_input, file_answer}, Mends.{mends_answer}}
+use Rattle.t1_cmd.proofs.{FontLemmas.{ends_well}, MendLemmas.{told_stops}, Refusals.{says_so}, RunLemmas.{stopped}}
 use Rattle.t1_cmd.proofs.mends.run_mend.Goals as goal
 
 pub returns-in-Err-clause-ends : goal.returns-in-Err-clause-ends

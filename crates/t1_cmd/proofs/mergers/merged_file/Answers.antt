@@ -1,10 +1,7 @@
 use Rattle.std.proofs.Common.{List, subst}
-use Rattle.t1_font.specs.FontValue.{FontValue}
-use Rattle.t1_font.specs.Canon.{canon}
+use Rattle.t1_font.specs.{FontValue.{FontValue}, Canon.{canon}}
 use Rattle.t1_algebra.specs.Merges.{ComesTo}
-use Rattle.t1_cmd.specs.Answers.{MayRefuse}
-use Rattle.t1_cmd.specs.Mergers.{MergesToFile}
-use Rattle.t1_cmd.proofs.MergeLemmas.{same_text}
+use Rattle.t1_cmd.{specs.{Answers.{MayRefuse}, Mergers.{MergesToFile}}, proofs.MergeLemmas.{same_text}}
 use Rattle.t1_cmd.proofs.mergers.merged_file.Goals as goal
 
 pub returns-in-Err-clause-refused : goal.returns-in-Err-clause-refused

@@ -1,8 +1,4 @@
-use Rattle.t1_cmd.specs.Fonts.{font_input}
-use Rattle.t1_cmd.specs.Mergers.{inputs_of, MergesToFile}
-use Rattle.t1_cmd.proofs.RunLemmas.{ends_succeeds}
-use Rattle.t1_cmd.proofs.MergeLemmas.{merges_apart}
-use Rattle.t1_cmd.proofs.WrittenSubsets.{writes_union}
+use Rattle.t1_cmd.{specs.{Fonts.{font_input}, Mergers.{inputs_of, MergesToFile}}, proofs.{RunLemmas.{ends_succeeds}, MergeLemmas.{merges_apart}, WrittenSubsets.{writes_union}}}
 use Rattle.t1_cmd.proofs.mergers.run_merge.Goals as goal
 
 pub returns-clause-succeeds : goal.returns-clause-succeeds

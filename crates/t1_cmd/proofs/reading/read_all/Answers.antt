@@ -1,9 +1,6 @@
-use Rattle.std.proofs.Common.{rules, arith, take, ap, ◌≡◌, ◌++◌}
-use Rattle.std.proofs.lemmas.Grind.{common_steps}
-use Rattle.std.proofs.KnownBytes.{Consumes-trans, Consumes-kept}
-use Rattle.t1_cmd.proofs.ReadLemmas.{taken_all, taken_more}
+use Rattle.std.proofs.{Common.{rules, arith, take, ap, ◌≡◌, ◌++◌}, lemmas.Grind.{common_steps}, KnownBytes.{Consumes-trans, Consumes-kept}}
+use Rattle.t1_cmd.proofs.{ReadLemmas.{taken_all, taken_more}, reading.read_all.Goals.{in-Ok+else-n-limit+else-is_err, in-Err+else-ne}}
 use Rattle.t1_cmd.proofs.reading.read_all.Goals as goal
-use Rattle.t1_cmd.proofs.reading.read_all.Goals.{in-Ok+else-n-limit+else-is_err, in-Err+else-ne}
 
 pub returns-in-Ok-eq0-clause-all : goal.returns-in-Ok-eq0-clause-all
 returns-in-Ok-eq0-clause-all g c =

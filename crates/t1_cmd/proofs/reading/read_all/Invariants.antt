@@ -1,5 +1,4 @@
-use Rattle.t1_cmd.specs.Count.{calls_counted, failed_of, inner_of}
-use Rattle.t1_cmd.proofs.ReadLemmas.{ReadSoFar}
+use Rattle.t1_cmd.{specs.Count.{calls_counted, failed_of, inner_of}, proofs.ReadLemmas.{ReadSoFar}}
 use Rattle.t1_cmd.proofs.reading.read_all.Given as goal
 
 abbrev pub invariant-loop-turn : goal.invariant-loop-turn

@@ -1,9 +1,7 @@
 use Rattle.std.proofs.Common.{inl, subst, Ok, List}
-use Rattle.t1_font.specs.FontValue.{FontValue}
-use Rattle.t1_font.specs.Canon.{canon}
+use Rattle.t1_font.specs.{FontValue.{FontValue}, Canon.{canon}}
 use Rattle.t1_subset.specs.Rejoins.{Rejoin, NotRejoined}
-use Rattle.t1_cmd.proofs.MergeLemmas.{same_text}
-use Rattle.t1_cmd.proofs.RejoinLemmas.{with_no_lack}
+use Rattle.t1_cmd.proofs.{MergeLemmas.{same_text}, RejoinLemmas.{with_no_lack}}
 use Rattle.t1_cmd.proofs.rejoins.filled_file.Goals as goal
 
 pub returns-in-Err-clause-refused : goal.returns-in-Err-clause-refused

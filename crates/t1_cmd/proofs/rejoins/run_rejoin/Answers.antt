@@ -1,9 +1,4 @@
-use Rattle.t1_cmd.specs.Fonts.{mended_input}
-use Rattle.t1_cmd.specs.Mergers.{inputs_of}
-use Rattle.t1_cmd.specs.Rejoins.{RejoinsTo}
-use Rattle.t1_cmd.proofs.RunLemmas.{ends_succeeds}
-use Rattle.t1_cmd.proofs.RejoinLemmas.{rejoins_apart}
-use Rattle.t1_cmd.proofs.CutLemmas.{writes_rejoined}
+use Rattle.t1_cmd.{specs.{Fonts.{mended_input}, Mergers.{inputs_of}, Rejoins.{RejoinsTo}}, proofs.{RunLemmas.{ends_succeeds}, RejoinLemmas.{rejoins_apart}, CutLemmas.{writes_rejoined}}}
 use Rattle.t1_cmd.proofs.rejoins.run_rejoin.Goals as goal
 
 pub returns-clause-succeeds : goal.returns-clause-succeeds

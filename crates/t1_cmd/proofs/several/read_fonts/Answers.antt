@@ -1,6 +1,5 @@
 use Rattle.std.proofs.Common.{◌+◌, set, get_or, ap, refl, arith, subst, sym}
-use Rattle.t1_cmd.specs.Fonts.{input_by}
-use Rattle.t1_cmd.proofs.ReaderLoops.{SoFar, goes_on, stops, turns_at, all_said, all_turns}
+use Rattle.t1_cmd.{specs.Fonts.{input_by}, proofs.ReaderLoops.{SoFar, goes_on, stops, turns_at, all_said, all_turns}}
 use Rattle.t1_cmd.proofs.several.read_fonts.Goals as goal
 
 pub readers-init : goal.readers-init

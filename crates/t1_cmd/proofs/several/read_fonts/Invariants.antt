@@ -1,5 +1,4 @@
-use Rattle.t1_cmd.specs.Fonts.{input_by}
-use Rattle.t1_cmd.proofs.ReaderLoops.{SoFar}
+use Rattle.t1_cmd.{specs.Fonts.{input_by}, proofs.ReaderLoops.{SoFar}}
 use Rattle.t1_cmd.proofs.several.read_fonts.Given as goal
 
 abbrev pub invariant-readers : goal.invariant-readers

@@ -1,10 +1,6 @@
 use Rattle.std.proofs.Common.{List, ℕ, Ok, subst, sym}
-use Rattle.t1_cmd.specs.declared.faults.RunFault.TheVariants.{Refused}
-use Rattle.t1_cmd.specs.Fonts.{input_by}
-use Rattle.t1_cmd.specs.Mergers.{inputs_of}
-use Rattle.t1_cmd.proofs.RunLemmas.{stopped, write_ends}
-use Rattle.t1_cmd.proofs.MergeLemmas.{inputs_stop}
-use Rattle.t1_cmd.proofs.Refusals.{answer_stops}
+use Rattle.t1_cmd.specs.{declared.faults.RunFault.TheVariants.{Refused}, Fonts.{input_by}, Mergers.{inputs_of}}
+use Rattle.t1_cmd.proofs.{RunLemmas.{stopped, write_ends}, MergeLemmas.{inputs_stop}, Refusals.{answer_stops}}
 use Rattle.t1_cmd.proofs.several.run_words.Goals as goal
 
 pub returns-in-Err-clause-ends : goal.returns-in-Err-clause-ends

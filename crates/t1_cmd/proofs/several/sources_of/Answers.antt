@@ -1,7 +1,6 @@
 use Rattle.std.proofs.Common.{◌≡◌, ◌+◌, ◌++◌, [], ◌∷◌, List, arith, subst, sym, ◌∙◌}
 use Rattle.t1_font.specs.FontValue.{FontValue}
-use Rattle.t1_cmd.specs.Fonts.{input_by}
-use Rattle.t1_cmd.proofs.Files.{SoFar, none_read, one_more, refuses_all, all_read, no_error}
+use Rattle.t1_cmd.{specs.Fonts.{input_by}, proofs.Files.{SoFar, none_read, one_more, refuses_all, all_read, no_error}}
 use Rattle.t1_cmd.proofs.several.sources_of.Goals as goal
 
 pub files-init : goal.files-init

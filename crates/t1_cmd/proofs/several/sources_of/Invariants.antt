@@ -1,5 +1,4 @@
-use Rattle.t1_cmd.specs.Fonts.{input_by}
-use Rattle.t1_cmd.proofs.Files.{SoFar}
+use Rattle.t1_cmd.{specs.Fonts.{input_by}, proofs.Files.{SoFar}}
 use Rattle.t1_cmd.proofs.several.sources_of.Given as goal
 
 abbrev pub invariant-files : goal.invariant-files

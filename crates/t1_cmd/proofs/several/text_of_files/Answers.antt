@@ -1,6 +1,5 @@
 use Rattle.t1_subset.specs.NameSets.{lent}
-use Rattle.t1_cmd.specs.Fonts.{input_by}
-use Rattle.t1_cmd.proofs.Files.{unread, refuses_values}
+use Rattle.t1_cmd.{specs.Fonts.{input_by}, proofs.Files.{unread, refuses_values}}
 use Rattle.t1_cmd.proofs.several.text_of_files.Goals as goal
 
 pub returns-in-Err-clause-refused : goal.returns-in-Err-clause-refused

@@ -1,10 +1,7 @@
-use Rattle.std.proofs.Common.{◌≡◌, ◌∙◌, ap, ◌++◌, [], ◌∷◌, List, ℕ, map, rules}
-use Rattle.std.specs.Prelude.{codes}
-use Rattle.std.specs.List.{flat_map}
+use Rattle.std.{proofs.Common.{◌≡◌, ◌∙◌, ap, ◌++◌, [], ◌∷◌, List, ℕ, map, rules}, specs.{Prelude.{codes}, List.{flat_map}}}
 use Rattle.t1_run.specs.Layouts.{traced}
 use Rattle.t1_font.specs.FontModel.{subr_at}
-use Rattle.t1_cmd.specs.DrawingText.{line, part_lines}
-use Rattle.t1_cmd.proofs.FontLemmas.{three_pieces, flat_map_placed}
+use Rattle.t1_cmd.{specs.DrawingText.{line, part_lines}, proofs.FontLemmas.{three_pieces, flat_map_placed}}
 use Rattle.t1_cmd.proofs.show.drawn.Goals as goal
 
 pub returns : goal.returns

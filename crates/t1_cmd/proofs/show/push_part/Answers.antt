@@ -1,11 +1,7 @@
-use Rattle.std.proofs.Common.{◌≡◌, ◌∙◌, ◌++◌, [], ◌∷◌, rules}
-use Rattle.std.specs.Prelude.{codes}
-use Rattle.std.specs.List.{flat_map}
-use Rattle.t1_run.specs.Run.{direct}
-use Rattle.t1_run.specs.Drawings.{marks_of}
+use Rattle.std.{proofs.Common.{◌≡◌, ◌∙◌, ◌++◌, [], ◌∷◌, rules}, specs.{Prelude.{codes}, List.{flat_map}}}
+use Rattle.t1_run.specs.{Run.{direct}, Drawings.{marks_of}}
 use Rattle.t1_font.specs.FontModel.{subr_at}
-use Rattle.t1_cmd.specs.DrawingText.{line, mark_line}
-use Rattle.t1_cmd.proofs.FontLemmas.{two_more, lines_of_marks}
+use Rattle.t1_cmd.{specs.DrawingText.{line, mark_line}, proofs.FontLemmas.{two_more, lines_of_marks}}
 use Rattle.t1_cmd.proofs.show.push_part.Goals as goal
 
 pub returns : goal.returns

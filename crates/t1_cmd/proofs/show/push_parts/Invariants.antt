@@ -1,5 +1,4 @@
-use Rattle.std.proofs.Common.{◌≡◌, ◌++◌, take}
-use Rattle.std.specs.List.{flat_map}
+use Rattle.std.{proofs.Common.{◌≡◌, ◌++◌, take}, specs.List.{flat_map}}
 use Rattle.t1_run.specs.Layouts.{traced}
 use Rattle.t1_font.specs.FontModel.{subr_at}
 use Rattle.t1_cmd.specs.DrawingText.{part_lines}

@@ -1,11 +1,9 @@
 use Rattle.std.proofs.Common.{◌∙◌, ap, sym, Ok, List, ℕ, Result}
-use Rattle.std.specs.FinSet as sets
 use Rattle.t1_font.specs.Canon.{canon}
-use Rattle.t1_algebra.specs.Profile.{profile}
-use Rattle.t1_algebra.specs.Keep.{subset}
+use Rattle.t1_algebra.specs.{Profile.{profile}, Keep.{subset}}
 use Rattle.t1_subset.specs.NameSets.{lent}
-use Rattle.t1_cmd.specs.declared.faults.Reason.{Reason}
-use Rattle.t1_cmd.specs.Subsets.{unless_absent}
+use Rattle.t1_cmd.specs.{declared.faults.Reason.{Reason}, Subsets.{unless_absent}}
+use Rattle.std.specs.FinSet as sets
 use Rattle.t1_cmd.proofs.subsets.file_of_cut.Goals as goal
 
 pub returns-in-Err-clause-refused : goal.returns-in-Err-clause-refused

@@ -1,9 +1,6 @@
-use Rattle.std.proofs.Common.{◌≡◌, ◌∙◌, ap, sym, subst, List, ℕ, Result, Ok, IfOk}
-use Rattle.std.specs.Borrow.{Bor}
+use Rattle.std.{proofs.Common.{◌≡◌, ◌∙◌, ap, sym, subst, List, ℕ, Result, Ok, IfOk}, specs.Borrow.{Bor}}
 use Rattle.t1_subset.specs.NameSets.{lent}
-use Rattle.t1_cmd.specs.declared.faults.Reason.{Reason}
-use Rattle.t1_cmd.specs.Answers.{if_there}
-use Rattle.t1_cmd.specs.Subsets.{subset_answer}
+use Rattle.t1_cmd.specs.{declared.faults.Reason.{Reason}, Answers.{if_there}, Subsets.{subset_answer}}
 use Rattle.t1_cmd.proofs.subsets.file_with_codes.Goals as goal
 
 pub returns-clause-text : goal.returns-clause-text

@@ -1,6 +1,4 @@
-use Rattle.t1_cmd.specs.Inputs.{input_of}
-use Rattle.t1_cmd.specs.Fonts.{input_by}
-use Rattle.t1_cmd.proofs.Refusals.{file_stops}
+use Rattle.t1_cmd.{specs.{Inputs.{input_of}, Fonts.{input_by}}, proofs.Refusals.{file_stops}}
 use Rattle.t1_cmd.proofs.words.read_font.Goals as goal
 
 pub returns-in-Err-clause-ends : goal.returns-in-Err-clause-ends

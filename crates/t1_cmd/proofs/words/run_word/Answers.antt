@@ -1,6 +1,4 @@
-use Rattle.t1_cmd.specs.Inputs.{input_of}
-use Rattle.t1_cmd.specs.Fonts.{input_by}
-use Rattle.t1_cmd.proofs.FontLemmas.{ends_well}
+use Rattle.t1_cmd.{specs.{Inputs.{input_of}, Fonts.{input_by}}, proofs.FontLemmas.{ends_well}}
 use Rattle.t1_cmd.proofs.words.run_word.Goals as goal
 
 pub returns-clause-ends : goal.returns-clause-ends

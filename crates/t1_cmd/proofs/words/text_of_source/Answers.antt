@@ -1,5 +1,4 @@
-use Rattle.std.proofs.Common.{◌≡◌, subst, Ok}
-use Rattle.std.specs.Prelude.{IfOk, IfErr}
+use Rattle.std.{proofs.Common.{◌≡◌, subst, Ok}, specs.Prelude.{IfOk, IfErr}}
 use Rattle.t1_font.specs.FontValue.{FontValue}
 use Rattle.t1_cmd.specs.Answers.{MayRefuse}
 use Rattle.t1_cmd.proofs.words.text_of_source.Goals as goal

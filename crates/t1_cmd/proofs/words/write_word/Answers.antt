@@ -1,9 +1,5 @@
 use Rattle.std.proofs.Common.{[], ◌∷◌, ◌∙◌, ap, Ok}
-use Rattle.t1_cmd.specs.declared.faults.RunFault.TheVariants.{Refused}
-use Rattle.t1_cmd.specs.Answers.{Prints}
-use Rattle.t1_cmd.specs.Fonts.{input_by}
-use Rattle.t1_cmd.proofs.FontLemmas.{word_stops, word_says}
-use Rattle.t1_cmd.proofs.RunLemmas.{stopped, write_ends}
+use Rattle.t1_cmd.{specs.{declared.faults.RunFault.TheVariants.{Refused}, Answers.{Prints}, Fonts.{input_by}}, proofs.{FontLemmas.{word_stops, word_says}, RunLemmas.{stopped, write_ends}}}
 use Rattle.t1_cmd.proofs.words.write_word.Goals as goal
 
 pub returns-in-Err : goal.returns-in-Err

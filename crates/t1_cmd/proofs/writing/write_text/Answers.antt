@@ -1,7 +1,5 @@
-use Rattle.std.proofs.Common.{rules, arith}
-use Rattle.std.proofs.lemmas.Grind.{common_steps}
+use Rattle.std.proofs.{Common.{rules, arith}, lemmas.Grind.{common_steps}, KnownBytes.{Appends-trans}}
 use Rattle.t1_cmd.proofs.WriteLemmas.{take_further}
-use Rattle.std.proofs.KnownBytes.{Appends-trans}
 use Rattle.t1_cmd.proofs.writing.write_text.Goals as goal
 
 pub loop-at-preserved : goal.loop-at-preserved

@@ -1,5 +1,4 @@
-use Rattle.std.proofs.Common.{◌≡◌, ◌≤◌, ◌-◌, length, take}
-use Rattle.std.specs.Io.KnownBytes.{Appends}
+use Rattle.std.{proofs.Common.{◌≡◌, ◌≤◌, ◌-◌, length, take}, specs.Io.KnownBytes.{Appends}}
 use Rattle.t1_cmd.specs.Count.{failed_of, inner_of}
 use Rattle.t1_cmd.proofs.writing.write_text.Given as goal
 

@@ -1,6 +1,5 @@
 use Rattle.std.proofs.Common.{List, ℕ, ap, ◌∙◌}
-use Rattle.t1_document.specs.Marks.{mark_of}
-use Rattle.t1_document.proofs.StretchLemmas.{mark_next}
+use Rattle.t1_document.{specs.Marks.{mark_of}, proofs.StretchLemmas.{mark_next}}
 use Rattle.t1_document.proofs.documents.mark_at.Goals as goal
 
 pub returns : goal.returns

@@ -1,18 +1,10 @@
-use Rattle.std.proofs.Common.{◌≡◌, ◌++◌, ◌∷◌, [], ℕ, List, Some, None, drop, map, refl, sym, ap, subst, ◌∙◌}
-use Rattle.std.specs.List.{AllByRecursion}
-use Rattle.std.specs.Option.{option_map}
-use Rattle.std.proofs.lemmas.List.{map-append}
-use Rattle.t1_document.specs.declared.documents.Place.{Place as CodePlace}
-use Rattle.t1_document.specs.Stretches.{stretches}
-use Rattle.t1_document.specs.Documents.{none_open, open_behind, next_mark, place_with, place_at, Document, document_bytes, document_of}
-use Rattle.t1_document.specs.Views.{font_view, place_view, stretch_view}
+use Rattle.std.{proofs.{Common.{◌≡◌, ◌++◌, ◌∷◌, [], ℕ, List, Some, None, drop, map, refl, sym, ap, subst, ◌∙◌}, lemmas.List.{map-append}}, specs.{List.{AllByRecursion}, Option.{option_map}}}
+use Rattle.t1_document.specs.{declared.documents.Place.{Place as CodePlace}, Stretches.{stretches}}
+use Rattle.t1_document.specs.{Documents.{none_open, open_behind, next_mark, place_with, place_at, Document, document_bytes, document_of}, Views.{font_view, place_view, stretch_view}}
 use Rattle.t1_document.specs.Laws.{SpellsPlace}
-use Rattle.t1_document.proofs.PlaceLemmas.{document_text}
-use Rattle.t1_document.proofs.Spelled.{places_spell}
-use Rattle.t1_document.proofs.StretchLemmas.{front_len}
-use Rattle.t1_document.proofs.DocumentSteps.{Walks, Comes, walk_starts, walk_past, walk_place, walk_ends, walks_same}
-use Rattle.t1_document.proofs.documents.read_document.Goals as goal
+use Rattle.t1_document.proofs.{PlaceLemmas.{document_text}, Spelled.{places_spell}, StretchLemmas.{front_len}, DocumentSteps.{Walks, Comes, walk_starts, walk_past, walk_place, walk_ends, walks_same}}
 use Rattle.t1_document.proofs.documents.read_document.Goals.{In_default, in-Some-2+in_ok-push, in_default-2}
+use Rattle.t1_document.proofs.documents.read_document.Goals as goal
 
 pub split_at-requires : goal.split_at-requires
 split_at-requires c = rw c.unmarked_len.ensures (front_len c.args.text.now)

@@ -1,6 +1,5 @@
 use Rattle.std.proofs.Common.{length, map}
-use Rattle.t1_document.specs.Views.{place_view}
-use Rattle.t1_document.proofs.DocumentSteps.{Walks}
+use Rattle.t1_document.{specs.Views.{place_view}, proofs.DocumentSteps.{Walks}}
 use Rattle.t1_document.proofs.documents.read_document.Given as goal
 
 abbrev pub invariant-stretches : goal.invariant-stretches

@@ -1,8 +1,6 @@
 use Rattle.std.proofs.Common.{◌+◌, ℕ, Bool, true, List, refl}
-use Rattle.t1_document.specs.Documents.{Place}
-use Rattle.t1_document.proofs.FamilyLoops.{first_put, first_kept, firsts_same}
+use Rattle.t1_document.{specs.Documents.{Place}, proofs.{FamilyLoops.{first_put, first_kept, firsts_same}, families.first_texts.Goals.{then-is_none+in_ok-put, else-is_none}}}
 use Rattle.t1_document.proofs.families.first_texts.Goals as goal
-use Rattle.t1_document.proofs.families.first_texts.Goals.{then-is_none+in_ok-put, else-is_none}
 
 -- each place passes, its key is its name, and its value is its text
 abbrev any : Place → Bool

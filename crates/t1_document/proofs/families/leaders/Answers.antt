@@ -1,11 +1,8 @@
-use Rattle.std.proofs.Common.{◌+◌, ℕ, Bool, List, sym, ap, ◌∙◌}
-use Rattle.std.specs.Prelude.{◌==◌, ◌&&◌, not}
-use Rattle.t1_document.specs.Documents.{Place}
-use Rattle.t1_document.specs.Families.{family}
-use Rattle.t1_document.specs.Texts.{text_in, has_text}
+use Rattle.std.{proofs.Common.{◌+◌, ℕ, Bool, List, sym, ap, ◌∙◌}, specs.Prelude.{◌==◌, ◌&&◌, not}}
+use Rattle.t1_document.specs.{Documents.{Place}, Families.{family}, Texts.{text_in, has_text}}
 use Rattle.t1_document.proofs.FamilyLoops.{put_under, first_put, first_kept, first_fails, firsts_same}
-use Rattle.t1_document.proofs.families.leaders.Goals as goal
 use Rattle.t1_document.proofs.families.leaders.Goals.{then-can_lead+then-is_none+in_ok-put, else-can_lead, else-can_lead-via-then-can_lead+else-is_none, else-can_lead-via-else-can_lead}
+use Rattle.t1_document.proofs.families.leaders.Goals as goal
 
 -- the key of a place is its family, and its value is its name
 abbrev key : Place → List ℕ

@@ -1,7 +1,5 @@
 use Rattle.std.specs.Prelude.{◌==◌, ◌&&◌, not}
-use Rattle.t1_document.specs.Families.{family}
-use Rattle.t1_document.specs.Texts.{has_text}
-use Rattle.t1_document.proofs.FamilyLoops.{Firsts}
+use Rattle.t1_document.{specs.{Families.{family}, Texts.{has_text}}, proofs.FamilyLoops.{Firsts}}
 use Rattle.t1_document.proofs.families.leaders.Given as goal
 
 abbrev pub invariant-places : goal.invariant-places

@@ -1,6 +1,5 @@
 use Rattle.std.proofs.Common.{◌≡◌, ◌++◌, map, drop}
-use Rattle.t1_document.specs.Families.{members_of}
-use Rattle.t1_document.specs.Views.{place_view, led_view}
+use Rattle.t1_document.specs.{Families.{members_of}, Views.{place_view, led_view}}
 use Rattle.t1_document.proofs.families.led_members.Given as goal
 
 abbrev pub invariant-places : goal.invariant-places

@@ -1,9 +1,5 @@
-use Rattle.std.proofs.Common.{map, ap, ◌∙◌}
-use Rattle.std.proofs.lemmas.List.{map-append}
-use Rattle.std.specs.Option.{option_map}
-use Rattle.t1_document.specs.Texts.{text_in, has_text}
-use Rattle.t1_document.specs.Views.{led_view}
-use Rattle.t1_document.proofs.FamilyLoops.{all_led, one_led}
+use Rattle.std.{proofs.{Common.{map, ap, ◌∙◌}, lemmas.List.{map-append}}, specs.Option.{option_map}}
+use Rattle.t1_document.{specs.{Texts.{text_in, has_text}, Views.{led_view}}, proofs.FamilyLoops.{all_led, one_led}}
 use Rattle.t1_document.proofs.families.led_places.Goals as goal
 
 pub places-preserved : goal.places-preserved

@@ -1,7 +1,5 @@
 use Rattle.std.proofs.Common.{map}
-use Rattle.t1_document.specs.Texts.{text_in, has_text}
-use Rattle.t1_document.specs.Views.{led_view}
-use Rattle.t1_document.proofs.FamilyLoops.{Leads}
+use Rattle.t1_document.{specs.{Texts.{text_in, has_text}, Views.{led_view}}, proofs.FamilyLoops.{Leads}}
 use Rattle.t1_document.proofs.families.led_places.Given as goal
 
 abbrev pub invariant-places : goal.invariant-places

@@ -1,10 +1,7 @@
 use Rattle.std.proofs.Common.{Bool}
-use Rattle.t1_document.specs.Documents.{Place}
-use Rattle.t1_document.specs.Families.{differs}
-use Rattle.t1_document.specs.Texts.{text_in}
-use Rattle.t1_document.proofs.WriteLoop.{flags_same, flags_stay, flags_grow}
+use Rattle.t1_document.specs.{Documents.{Place}, Families.{differs}, Texts.{text_in}}
+use Rattle.t1_document.proofs.{WriteLoop.{flags_same, flags_stay, flags_grow}, families.others.Goals.{then-differs+in_ok-put, else-differs}}
 use Rattle.t1_document.proofs.families.others.Goals as goal
-use Rattle.t1_document.proofs.families.others.Goals.{then-differs+in_ok-put, else-differs}
 
 pub places-preserved : goal.places-preserved
 places-preserved c =

@@ -1,8 +1,5 @@
 use Rattle.std.proofs.Common.{map, take}
-use Rattle.t1_document.specs.Families.{differs}
-use Rattle.t1_document.specs.Texts.{text_in}
-use Rattle.t1_document.specs.Views.{place_view}
-use Rattle.t1_document.proofs.WriteLoop.{Flags}
+use Rattle.t1_document.{specs.{Families.{differs}, Texts.{text_in}, Views.{place_view}}, proofs.WriteLoop.{Flags}}
 use Rattle.t1_document.proofs.families.others.Given as goal
 
 abbrev pub invariant-places : goal.invariant-places

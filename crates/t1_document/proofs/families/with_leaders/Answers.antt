@@ -1,7 +1,5 @@
 use Rattle.std.proofs.Common.{◌≡◌, List, map, subst, IfOk}
-use Rattle.t1_document.specs.Families.{Led}
-use Rattle.t1_document.specs.Views.{place_view, led_view}
-use Rattle.t1_document.proofs.FamilyLoops.{led_so}
+use Rattle.t1_document.{specs.{Families.{Led}, Views.{place_view, led_view}}, proofs.FamilyLoops.{led_so}}
 use Rattle.t1_document.proofs.families.with_leaders.Goals as goal
 
 pub returns : goal.returns

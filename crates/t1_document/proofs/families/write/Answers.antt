@@ -1,7 +1,5 @@
 use Rattle.std.proofs.Common.{◌∙◌}
-use Rattle.t1_document.specs.Joins.{new_texts}
-use Rattle.t1_document.specs.Groups.{outcome_in}
-use Rattle.t1_document.proofs.FamilyLoops.{all_written, one_written}
+use Rattle.t1_document.{specs.{Joins.{new_texts}, Groups.{outcome_in}}, proofs.FamilyLoops.{all_written, one_written}}
 use Rattle.t1_document.proofs.families.write.Goals as goal
 
 pub places-preserved : goal.places-preserved

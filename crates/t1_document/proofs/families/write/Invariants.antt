@@ -1,6 +1,4 @@
-use Rattle.t1_document.specs.Joins.{new_texts}
-use Rattle.t1_document.specs.Groups.{outcome_in}
-use Rattle.t1_document.proofs.FamilyLoops.{Written}
+use Rattle.t1_document.{specs.{Joins.{new_texts}, Groups.{outcome_in}}, proofs.FamilyLoops.{Written}}
 use Rattle.t1_document.proofs.families.write.Given as goal
 
 abbrev pub invariant-places : goal.invariant-places

@@ -1,8 +1,5 @@
-use Rattle.std.proofs.Common.{◌≡◌, Option, sym, subst, IfOk}
-use Rattle.std.specs.Option.{option_map}
-use Rattle.t1_document.specs.Fonts.{FontText}
-use Rattle.t1_document.specs.Views.{font_view}
-use Rattle.t1_document.proofs.FontLemmas.{left_within, shape_plain, font_in_is}
+use Rattle.std.{proofs.Common.{◌≡◌, Option, sym, subst, IfOk}, specs.Option.{option_map}}
+use Rattle.t1_document.{specs.{Fonts.{FontText}, Views.{font_view}}, proofs.FontLemmas.{left_within, shape_plain, font_in_is}}
 use Rattle.t1_document.proofs.fonts.font_in.Goals as goal
 
 pub font_before-requires-clause-within : goal.font_before-requires-clause-within

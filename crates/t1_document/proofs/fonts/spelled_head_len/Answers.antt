@@ -1,7 +1,6 @@
 use Rattle.std.proofs.Common.{sym, ◌∙◌}
-use Rattle.t1_document.specs.Fonts.{spelled_name}
+use Rattle.t1_document.{specs.Fonts.{spelled_name}, proofs.FontLemmas.{name_found, head_within, refused_name}}
 use Rattle.t1_font.specs.ReadFont.{read_font_widely}
-use Rattle.t1_document.proofs.FontLemmas.{name_found, head_within, refused_name}
 use Rattle.t1_document.proofs.fonts.spelled_head_len.Goals as goal
 
 pub returns-in_ok-head_len-in-Ok-clause-name : goal.returns-in_ok-head_len-in-Ok-clause-name

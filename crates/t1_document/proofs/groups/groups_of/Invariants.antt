@@ -1,7 +1,5 @@
 use Rattle.std.proofs.Common.{◌≡◌, ℕ, List, map, take}
-use Rattle.t1_document.specs.Joins.{places_under}
-use Rattle.t1_document.specs.Groups.{places_in}
-use Rattle.t1_document.specs.Views.{place_view}
+use Rattle.t1_document.specs.{Joins.{places_under}, Groups.{places_in}, Views.{place_view}}
 use Rattle.t1_document.proofs.groups.groups_of.Given as goal
 
 abbrev pub invariant-places : goal.invariant-places

@@ -1,6 +1,4 @@
-use Rattle.std.proofs.Common.{◌≡◌, map, drop}
-use Rattle.std.specs.List.{list_all}
-use Rattle.std.specs.Str.{bytes_eq}
+use Rattle.std.{proofs.Common.{◌≡◌, map, drop}, specs.{List.{list_all}, Str.{bytes_eq}}}
 use Rattle.t1_document.specs.Views.{place_view}
 use Rattle.t1_document.proofs.joins.all_have.Given as goal
 

@@ -1,7 +1,5 @@
-use Rattle.std.proofs.Common.{[], ◌∷◌, ◌-◌, length, take, arith, ap, ◌∙◌}
-use Rattle.std.proofs.lemmas.List.{length-append, take_at}
-use Rattle.t1_document.specs.Fonts.{canon_text}
-use Rattle.t1_document.proofs.CanonTexts.{canon_text_is}
+use Rattle.std.proofs.{Common.{[], ◌∷◌, ◌-◌, length, take, arith, ap, ◌∙◌}, lemmas.List.{length-append, take_at}}
+use Rattle.t1_document.{specs.Fonts.{canon_text}, proofs.CanonTexts.{canon_text_is}}
 use Rattle.t1_document.proofs.joins.canon_text.Goals as goal
 
 pub returns : goal.returns

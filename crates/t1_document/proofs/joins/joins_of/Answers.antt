@@ -1,11 +1,8 @@
-use Rattle.std.proofs.Common.{◌≡◌, ◌+◌, ℕ, List, Option, is_some, sym, ap, subst, ◌∙◌}
-use Rattle.std.proofs.lemmas.List.{drop_more}
-use Rattle.t1_document.specs.declared.joins.Outcome.{Outcome}
-use Rattle.t1_document.specs.Documents.{Place}
-use Rattle.t1_document.specs.Joins.{ComeTo}
+use Rattle.std.proofs.{Common.{◌≡◌, ◌+◌, ℕ, List, Option, is_some, sym, ap, subst, ◌∙◌}, lemmas.List.{drop_more}}
+use Rattle.t1_document.specs.{declared.joins.Outcome.{Outcome}, Documents.{Place}, Joins.{ComeTo}}
 use Rattle.t1_document.proofs.JoinLoops.{had, gets, never, come_same, lent_none, lent_some}
-use Rattle.t1_document.proofs.joins.joins_of.Goals as goal
 use Rattle.t1_document.proofs.joins.joins_of.Goals.{then-is_none+in_ok-outcome+in-Some+in_ok-put-in-Some, then-is_none+in_ok-outcome+in-None, else-is_none}
+use Rattle.t1_document.proofs.joins.joins_of.Goals as goal
 
 -- what places come to, where the places of a group are these
 comes : (name : List ℕ) (group ps : List Place) (o q : Option Outcome) → group ≡ ps → o ≡ q → ComeTo name group o → ComeTo name ps q

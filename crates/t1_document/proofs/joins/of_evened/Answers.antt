@@ -1,7 +1,5 @@
-use Rattle.std.proofs.Common.{ℕ, List, map, sym, ap, ◌∙◌}
-use Rattle.std.specs.List.{list_all}
-use Rattle.t1_document.specs.Rewriting.{can_stand}
-use Rattle.t1_document.specs.Views.{place_view}
+use Rattle.std.{proofs.Common.{ℕ, List, map, sym, ap, ◌∙◌}, specs.List.{list_all}}
+use Rattle.t1_document.specs.{Rewriting.{can_stand}, Views.{place_view}}
 use Rattle.t1_document.proofs.joins.of_evened.Goals as goal
 
 pub returns-in-Ok : goal.returns-in-Ok

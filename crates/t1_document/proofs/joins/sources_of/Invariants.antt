@@ -1,7 +1,5 @@
 use Rattle.std.proofs.Common.{◌≡◌, map, drop}
-use Rattle.t1_document.specs.Joins.{fonts_of_places}
-use Rattle.t1_document.specs.Views.{place_view}
-use Rattle.t1_document.proofs.JoinLoops.{fonts_before}
+use Rattle.t1_document.{specs.{Joins.{fonts_of_places}, Views.{place_view}}, proofs.JoinLoops.{fonts_before}}
 use Rattle.t1_document.proofs.joins.sources_of.Given as goal
 
 abbrev pub invariant-places : goal.invariant-places

@@ -1,7 +1,5 @@
-use Rattle.std.proofs.Common.{◌≡◌, map, drop}
-use Rattle.std.specs.List.{list_all}
-use Rattle.t1_document.specs.Rewriting.{can_stand}
-use Rattle.t1_document.specs.Views.{place_view}
+use Rattle.std.{proofs.Common.{◌≡◌, map, drop}, specs.List.{list_all}}
+use Rattle.t1_document.specs.{Rewriting.{can_stand}, Views.{place_view}}
 use Rattle.t1_document.proofs.joins.stands.Given as goal
 
 abbrev pub invariant-places : goal.invariant-places

@@ -1,6 +1,5 @@
 use Rattle.std.proofs.Common.{[]}
-use Rattle.t1_document.specs.Rewriting.{standing}
-use Rattle.t1_document.proofs.Rewritten.{marks_stay, written_is}
+use Rattle.t1_document.{specs.Rewriting.{standing}, proofs.Rewritten.{marks_stay, written_is}}
 use Rattle.t1_document.proofs.laws.others_stay.Goals as goal
 
 pub returns : goal.returns

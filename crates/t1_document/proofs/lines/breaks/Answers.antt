@@ -1,7 +1,5 @@
-use Rattle.std.proofs.Common.{◌≡◌, ℕ, List, Bool, true, false, sym, ap, ◌∙◌}
-use Rattle.std.specs.Prelude.{◌||◌}
-use Rattle.t1_document.specs.Lines.{no_bytes, line_closes, breaks}
-use Rattle.t1_document.proofs.LineLemmas.{breaks_behind, nil_is}
+use Rattle.std.{proofs.Common.{◌≡◌, ℕ, List, Bool, true, false, sym, ap, ◌∙◌}, specs.Prelude.{◌||◌}}
+use Rattle.t1_document.{specs.Lines.{no_bytes, line_closes, breaks}, proofs.LineLemmas.{breaks_behind, nil_is}}
 use Rattle.t1_document.proofs.lines.breaks.Goals as goal
 
 pub returns-then-is_empty : goal.returns-then-is_empty

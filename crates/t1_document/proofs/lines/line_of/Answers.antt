@@ -1,8 +1,5 @@
-use Rattle.std.proofs.Common.{◌≡◌, ℕ, ◌+◌, drop, refl, sym, ap, ◌∙◌}
-use Rattle.std.specs.Prelude.{not}
-use Rattle.std.proofs.lemmas.List.Folds.{length-prefix_len}
-use Rattle.t1_document.specs.Lines.{is_line_end, end_len, line_len}
-use Rattle.t1_document.proofs.LineLemmas.{body_len, line_len_is}
+use Rattle.std.{proofs.{Common.{◌≡◌, ℕ, ◌+◌, drop, refl, sym, ap, ◌∙◌}, lemmas.List.Folds.{length-prefix_len}}, specs.Prelude.{not}}
+use Rattle.t1_document.{specs.Lines.{is_line_end, end_len, line_len}, proofs.LineLemmas.{body_len, line_len_is}}
 use Rattle.t1_document.proofs.lines.line_of.Goals as goal
 
 pub returns : goal.returns

@@ -1,9 +1,6 @@
-use Rattle.std.proofs.Common.{◌+◌, ℕ, List, map, Bor, Vec, sym, ap, subst, ◌∙◌}
-use Rattle.std.proofs.lemmas.List.{drop_more, map-append}
-use Rattle.t1_document.specs.declared.texts.Texts.{Texts}
-use Rattle.t1_document.proofs.NameLoop.{Gathers, all_gathered, seen_before, seen_first}
+use Rattle.std.proofs.{Common.{◌+◌, ℕ, List, map, Bor, Vec, sym, ap, subst, ◌∙◌}, lemmas.List.{drop_more, map-append}}
+use Rattle.t1_document.{specs.declared.texts.Texts.{Texts}, proofs.{NameLoop.{Gathers, all_gathered, seen_before, seen_first}, names.names_of.Goals.{then-is_none+in_ok-note+in_ok-push, else-is_none}}}
 use Rattle.t1_document.proofs.names.names_of.Goals as goal
-use Rattle.t1_document.proofs.names.names_of.Goals.{then-is_none+in_ok-note+in_ok-push, else-is_none}
 
 -- names as values
 abbrev values : List (Bor (List ℕ)) → List (List ℕ)

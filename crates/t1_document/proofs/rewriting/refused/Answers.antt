@@ -1,10 +1,7 @@
 use Rattle.std.proofs.Common.{Bool}
-use Rattle.t1_document.specs.Documents.{Place}
-use Rattle.t1_document.specs.Rewriting.{is_barred}
-use Rattle.t1_document.specs.Texts.{text_in}
-use Rattle.t1_document.proofs.WriteLoop.{flags_same, flags_stay, flags_grow}
+use Rattle.t1_document.specs.{Documents.{Place}, Rewriting.{is_barred}, Texts.{text_in}}
+use Rattle.t1_document.proofs.{WriteLoop.{flags_same, flags_stay, flags_grow}, rewriting.refused.Goals.{then-branch+in_ok-put, else-branch}}
 use Rattle.t1_document.proofs.rewriting.refused.Goals as goal
-use Rattle.t1_document.proofs.rewriting.refused.Goals.{then-branch+in_ok-put, else-branch}
 
 pub places-preserved : goal.places-preserved
 places-preserved c =

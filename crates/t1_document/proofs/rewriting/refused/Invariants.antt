@@ -1,7 +1,5 @@
 use Rattle.std.proofs.Common.{◌≡◌, ℕ, List, take, map}
-use Rattle.t1_document.specs.Rewriting.{is_refused}
-use Rattle.t1_document.specs.Texts.{text_in, has_text}
-use Rattle.t1_document.specs.Views.{place_view}
+use Rattle.t1_document.specs.{Rewriting.{is_refused}, Texts.{text_in, has_text}, Views.{place_view}}
 use Rattle.t1_document.proofs.rewriting.refused.Given as goal
 
 abbrev pub invariant-places : goal.invariant-places

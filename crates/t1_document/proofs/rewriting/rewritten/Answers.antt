@@ -1,8 +1,5 @@
 use Rattle.std.proofs.Common.{◌≡◌, ℕ, List, [], sym, subst, IfOk}
-use Rattle.t1_document.specs.Rewriting.{standing}
-use Rattle.t1_document.specs.Texts.{text_in}
-use Rattle.t1_document.specs.Views.{document_view}
-use Rattle.t1_document.proofs.Rewritten.{written_is}
+use Rattle.t1_document.{specs.{Rewriting.{standing}, Texts.{text_in}, Views.{document_view}}, proofs.Rewritten.{written_is}}
 use Rattle.t1_document.proofs.rewriting.rewritten.Goals as goal
 
 pub returns : goal.returns

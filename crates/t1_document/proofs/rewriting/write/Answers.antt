@@ -1,8 +1,5 @@
 use Rattle.std.proofs.Common.{◌≤◌, ◌+◌, List, length, map, sym, subst, ◌∙◌}
-use Rattle.t1_document.specs.declared.documents.Place.{Place as CodePlace}
-use Rattle.t1_document.specs.Rewriting.{NewTexts, standing}
-use Rattle.t1_document.specs.Texts.{text_in}
-use Rattle.t1_document.specs.Views.{place_view, fate_view}
+use Rattle.t1_document.specs.{declared.documents.Place.{Place as CodePlace}, Rewriting.{NewTexts, standing}, Texts.{text_in}, Views.{place_view, fate_view}}
 use Rattle.t1_document.proofs.WriteLoop.{Writes, writes_more, writes_all, writes_none, fate_known}
 use Rattle.t1_document.proofs.rewriting.write.Goals as goal
 

@@ -1,8 +1,5 @@
 use Rattle.std.proofs.Common.{map}
-use Rattle.t1_document.specs.Rewriting.{standing}
-use Rattle.t1_document.specs.Texts.{text_in}
-use Rattle.t1_document.specs.Views.{place_view}
-use Rattle.t1_document.proofs.WriteLoop.{Writes}
+use Rattle.t1_document.{specs.{Rewriting.{standing}, Texts.{text_in}, Views.{place_view}}, proofs.WriteLoop.{Writes}}
 use Rattle.t1_document.proofs.rewriting.write.Given as goal
 
 abbrev pub invariant-places : goal.invariant-places

@@ -1,6 +1,5 @@
 use Rattle.std.proofs.Common.{ℕ, take, drop, sym, ap, ◌∙◌}
-use Rattle.t1_document.proofs.StretchLemmas.{front_len}
-use Rattle.t1_document.proofs.FrontLoop.{First, stretch_first}
+use Rattle.t1_document.proofs.{StretchLemmas.{front_len}, FrontLoop.{First, stretch_first}}
 use Rattle.t1_document.proofs.stretches.first_stretch.Goals as goal
 
 pub split_at-requires : goal.split_at-requires

@@ -1,9 +1,5 @@
 use Rattle.std.proofs.Common.{◌≡◌, ℕ, Bool, List, Option, length, drop, is_some, sym, ap, subst, ◌∙◌, arith}
-use Rattle.t1_document.specs.declared.marks.Mark.{Mark}
-use Rattle.t1_document.specs.Lines.{line_of}
-use Rattle.t1_document.specs.Marks.{mark_of}
-use Rattle.t1_document.specs.Stretches.{stretches}
-use Rattle.t1_document.proofs.FrontLoop.{Passed, front_stops, front_more, front_ends}
+use Rattle.t1_document.{specs.{declared.marks.Mark.{Mark}, Lines.{line_of}, Marks.{mark_of}, Stretches.{stretches}}, proofs.FrontLoop.{Passed, front_stops, front_more, front_ends}}
 use Rattle.t1_document.proofs.stretches.unmarked_len.Goals as goal
 
 the_line : (rest t : List ℕ) (line : List ℕ × List ℕ) → rest ≡ t → line ≡ line_of rest → line.0 ≡ (line_of t).0

@@ -1,5 +1,4 @@
-use Rattle.std.proofs.Common.{[], ◌∷◌}
-use Rattle.std.proofs.lemmas.Result.{IfOk-weaker}
+use Rattle.std.proofs.{Common.{[], ◌∷◌}, lemmas.Result.{IfOk-weaker}}
 use Rattle.t1_font.proofs.AnswersRight.{bytes_of_slice}
 use Rattle.t1_example.proofs.Rejoined.{drawn_so}
 use Rattle.t1_example.proofs.cuts.cuts_joined.Goals as goal

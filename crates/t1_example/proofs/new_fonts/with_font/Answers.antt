@@ -1,9 +1,5 @@
-use Rattle.std.proofs.Common.{◌≡◌, ◌∙◌, ap, ℕ, List, Option, Some, if◌then◌else◌}
-use Rattle.std.specs.Str.{bytes_eq}
-use Rattle.std.proofs.lemmas.Result.{IfOk-weaker}
-use Rattle.t1_document.specs.Documents.{document_of}
-use Rattle.t1_document.specs.Rewriting.{NewTexts, document_levelled}
-use Rattle.t1_document.specs.Texts.{text_in}
+use Rattle.std.{proofs.{Common.{◌≡◌, ◌∙◌, ap, ℕ, List, Option, Some, if◌then◌else◌}, lemmas.Result.{IfOk-weaker}}, specs.Str.{bytes_eq}}
+use Rattle.t1_document.specs.{Documents.{document_of}, Rewriting.{NewTexts, document_levelled}, Texts.{text_in}}
 use Rattle.t1_example.specs.NewFonts.{only}
 use Rattle.t1_example.proofs.new_fonts.with_font.Goals as goal
 

@@ -1,13 +1,8 @@
-use Rattle.std.proofs.Common.{◌∙◌, sym, ap, subst, inr, Ok}
-use Rattle.std.proofs.lemmas.Result.{err_from_is_err_and}
-use Rattle.t1_font.specs.Canon.{canon, Fits}
-use Rattle.t1_font.specs.FontValue.{FontValue}
-use Rattle.t1_algebra.specs.Keep.{subset, IsOf}
+use Rattle.std.proofs.{Common.{◌∙◌, sym, ap, subst, inr, Ok}, lemmas.Result.{err_from_is_err_and}}
+use Rattle.t1_font.specs.{Canon.{canon, Fits}, FontValue.{FontValue}}
+use Rattle.t1_algebra.specs.{Keep.{subset, IsOf}, Profile.{profile}}
 use Rattle.t1_subset.specs.NameSets.{lent, asked}
-use Rattle.t1_algebra.specs.Profile.{profile}
-use Rattle.t1_example.specs.Refusals.{LacksFirst, first_lacking}
-use Rattle.t1_example.specs.declared.refusal.Refusal.{Refusal}
-use Rattle.t1_example.proofs.Callers.{none_lacking, cut_fits}
+use Rattle.t1_example.{specs.{Refusals.{LacksFirst, first_lacking}, declared.refusal.Refusal.{Refusal}}, proofs.Callers.{none_lacking, cut_fits}}
 use Rattle.t1_example.proofs.subset_files.subset_file.Goals as goal
 
 pub returns-in_err-some-clause-again : goal.returns-in_err-some-clause-again

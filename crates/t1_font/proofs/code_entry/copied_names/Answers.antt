@@ -1,8 +1,5 @@
-use Rattle.std.proofs.Common.{◌∙◌, ◌++◌, ◌+◌, ◌-◌, List, ℕ, map, ap}
-use Rattle.std.proofs.lemmas.List.{map_push}
-use Rattle.std.specs.Borrow.{Bor}
-use Rattle.t1_font.specs.Gathering.{copied_names}
-use Rattle.t1_font.proofs.Copies.{names_turn}
+use Rattle.std.{proofs.{Common.{◌∙◌, ◌++◌, ◌+◌, ◌-◌, List, ℕ, map, ap}, lemmas.List.{map_push}}, specs.Borrow.{Bor}}
+use Rattle.t1_font.{specs.Gathering.{copied_names}, proofs.Copies.{names_turn}}
 use Rattle.t1_font.proofs.code_entry.copied_names.Goals as goal
 
 pub names-preserved : goal.names-preserved

@@ -1,5 +1,4 @@
-use Rattle.std.proofs.Common.{arith, ap, length, List, ℕ}
-use Rattle.std.proofs.lemmas.List.{length-map}
+use Rattle.std.proofs.{Common.{arith, ap, length, List, ℕ}, lemmas.List.{length-map}}
 use Rattle.t1_font.proofs.Copies.{names_count}
 use Rattle.t1_font.proofs.code_entry.copy_codes.Goals as goal
 

@@ -1,7 +1,6 @@
-use Rattle.std.proofs.Common.{◌≡◌, ◌++◌, [], map, unwrap_or}
-use Rattle.std.specs.Prelude.{filter}
-use Rattle.std.specs.FinMap as fin
+use Rattle.std.{proofs.Common.{◌≡◌, ◌++◌, [], map, unwrap_or}, specs.Prelude.{filter}}
 use Rattle.t1_font.specs.Lent.{lent_number}
+use Rattle.std.specs.FinMap as fin
 use Rattle.t1_font.proofs.cut.cut_codes.Given as goal
 
 abbrev pub invariant-codes : goal.invariant-codes

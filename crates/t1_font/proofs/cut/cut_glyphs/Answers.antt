@@ -1,14 +1,7 @@
-use Rattle.std.proofs.Common.{ap, sym, subst, ◌∙◌, map}
-use Rattle.std.specs.Cmp.Lexicographic.{nat_list_cmp_total}
-use Rattle.std.specs.FinMap.{from_sorted}
-use Rattle.std.proofs.lemmas.List.{drop_all}
+use Rattle.std.{proofs.{Common.{ap, sym, subst, ◌∙◌, map}, lemmas.List.{drop_all}}, specs.{Cmp.Lexicographic.{nat_list_cmp_total}, FinMap.{from_sorted}}}
 use Rattle.t1_join.specs.TableMeaning.{Rises}
-use Rattle.t1_font.specs.FontValue.{name_cmp}
-use Rattle.t1_font.specs.Lent.{lent_glyph, AreOwn, glyph_names}
-use Rattle.t1_font.specs.Maps.{put_all_into}
-use Rattle.t1_font.proofs.CutLoops.{entries_of, put_some}
-use Rattle.t1_font.proofs.LentTables.{no_glyphs, glyphs_rise, glyphs_sorted}
-use Rattle.t1_font.proofs.canonical.FontAgain.{name_same}
+use Rattle.t1_font.specs.{FontValue.{name_cmp}, Lent.{lent_glyph, AreOwn, glyph_names}, Maps.{put_all_into}}
+use Rattle.t1_font.proofs.{CutLoops.{entries_of, put_some}, LentTables.{no_glyphs, glyphs_rise, glyphs_sorted}, canonical.FontAgain.{name_same}}
 use Rattle.t1_font.proofs.cut.cut_glyphs.Goals as goal
 
 pub names-init : goal.names-init

@@ -1,10 +1,7 @@
 use Rattle.std.proofs.Common.{◌≡◌, drop, map}
+use Rattle.t1_font.{specs.{Maps.{put_all_into}, Cut.{set_of_names}, Lent.{AreOwn, glyph_names}}, proofs.CutLoops.{entries_of}}
 use Rattle.std.specs.FinMap as fin
 use Rattle.std.specs.FinSet as sets
-use Rattle.t1_font.specs.Maps.{put_all_into}
-use Rattle.t1_font.specs.Cut.{set_of_names}
-use Rattle.t1_font.specs.Lent.{AreOwn, glyph_names}
-use Rattle.t1_font.proofs.CutLoops.{entries_of}
 use Rattle.t1_font.proofs.cut.cut_glyphs.Given as goal
 
 abbrev pub invariant-names : goal.invariant-names

@@ -1,10 +1,6 @@
-use Rattle.std.proofs.Common.{refl, sym}
-use Rattle.std.specs.Ordering.{nat_cmp}
-use Rattle.std.specs.BTreeSet.{contains}
+use Rattle.std.{proofs.Common.{refl, sym}, specs.{Ordering.{nat_cmp}, BTreeSet.{contains}}}
+use Rattle.t1_font.{specs.{FontModel.{encoding_of}, Cut.{set_of_names}}, proofs.CutLoops.{cut_font}}
 use Rattle.std.specs.FinSet as sets
-use Rattle.t1_font.specs.FontModel.{encoding_of}
-use Rattle.t1_font.specs.Cut.{set_of_names}
-use Rattle.t1_font.proofs.CutLoops.{cut_font}
 use Rattle.t1_font.proofs.cut.cut_parts.Goals as goal
 
 pub returns : goal.returns

@@ -1,14 +1,6 @@
-use Rattle.std.proofs.Common.{◌++◌, nat_cmp, ap, sym, ◌∙◌, map, cond, List, ℕ}
-use Rattle.std.specs.BTreeSet.{contains}
-use Rattle.std.specs.Cmp.{nat_cmp_total}
-use Rattle.std.specs.FinMap.{nat_cmp-IsAntisymmetric}
-use Rattle.std.proofs.lemmas.Map.Iter.{rest_all}
+use Rattle.std.{proofs.{Common.{◌++◌, nat_cmp, ap, sym, ◌∙◌, map, cond, List, ℕ}, lemmas.Map.Iter.{rest_all}}, specs.{BTreeSet.{contains}, Cmp.{nat_cmp_total}, FinMap.{nat_cmp-IsAntisymmetric}}}
 use Rattle.t1_join.proofs.Sorted.{rises_of, map_of}
-use Rattle.t1_font.specs.Lent.{lent_number}
-use Rattle.t1_font.specs.Cut.{stub}
-use Rattle.t1_font.specs.Maps.{map_values}
-use Rattle.t1_font.proofs.MapLemmas.{entries-map_values}
-use Rattle.t1_font.proofs.LentTables.{all_out}
+use Rattle.t1_font.{specs.{Lent.{lent_number}, Cut.{stub}, Maps.{map_values}}, proofs.{MapLemmas.{entries-map_values}, LentTables.{all_out}}}
 use Rattle.t1_font.proofs.cut.cut_subrs.Goals as goal
 
 pub bodies-init : goal.bodies-init

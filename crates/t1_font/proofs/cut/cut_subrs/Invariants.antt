@@ -1,10 +1,6 @@
-use Rattle.std.proofs.Common.{◌≡◌, ◌++◌, cond, map}
-use Rattle.std.proofs.Common.{nat_cmp}
-use Rattle.std.specs.BTreeSet.{contains}
+use Rattle.std.{proofs.Common.{◌≡◌, ◌++◌, cond, map, nat_cmp}, specs.BTreeSet.{contains}}
+use Rattle.t1_font.specs.{Cut.{stub}, Maps.{map_values}, Lent.{lent_number}}
 use Rattle.std.specs.FinMap as fin
-use Rattle.t1_font.specs.Cut.{stub}
-use Rattle.t1_font.specs.Maps.{map_values}
-use Rattle.t1_font.specs.Lent.{lent_number}
 use Rattle.t1_font.proofs.cut.cut_subrs.Given as goal
 
 abbrev pub invariant-bodies : goal.invariant-bodies

@@ -1,5 +1,4 @@
-use Rattle.std.proofs.Common.{◌++◌, ◌∙◌, ap}
-use Rattle.std.specs.Map.{values_of}
+use Rattle.std.{proofs.Common.{◌++◌, ◌∙◌, ap}, specs.Map.{values_of}}
 use Rattle.t1_font.proofs.Drains.{moved, all_moved}
 use Rattle.t1_font.proofs.cut.drain.Goals as goal
 

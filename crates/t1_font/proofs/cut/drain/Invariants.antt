@@ -1,5 +1,4 @@
-use Rattle.std.proofs.Common.{◌≡◌, ◌++◌}
-use Rattle.std.specs.Map.{values_of}
+use Rattle.std.{proofs.Common.{◌≡◌, ◌++◌}, specs.Map.{values_of}}
 use Rattle.t1_font.proofs.cut.drain.Given as goal
 
 abbrev pub invariant-entries : goal.invariant-entries

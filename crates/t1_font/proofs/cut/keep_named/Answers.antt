@@ -1,6 +1,5 @@
 use Rattle.std.proofs.Common.{subst, sym}
-use Rattle.t1_font.specs.Lent.{AreOwn}
-use Rattle.t1_font.proofs.LentTables.{found_put, own_put}
+use Rattle.t1_font.{specs.Lent.{AreOwn}, proofs.LentTables.{found_put, own_put}}
 use Rattle.t1_font.proofs.cut.keep_named.Goals as goal
 
 pub returns-in_ok-insert-clause-kept : goal.returns-in_ok-insert-clause-kept

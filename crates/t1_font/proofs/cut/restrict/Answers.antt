@@ -1,10 +1,6 @@
-use Rattle.std.proofs.Common.{subst, sym}
-use Rattle.std.specs.Ordering.{nat_cmp}
-use Rattle.std.specs.BTreeSet.{contains}
+use Rattle.std.{proofs.Common.{subst, sym}, specs.{Ordering.{nat_cmp}, BTreeSet.{contains}}}
+use Rattle.t1_font.{specs.{Cut.{set_of_names}, IsFont.{IsFont}}, proofs.Kept.{restrict_is_font}}
 use Rattle.std.specs.FinSet as sets
-use Rattle.t1_font.specs.Cut.{set_of_names}
-use Rattle.t1_font.specs.IsFont.{IsFont}
-use Rattle.t1_font.proofs.Kept.{restrict_is_font}
 use Rattle.t1_font.proofs.cut.restrict.Goals as goal
 
 pub invariant_of-result : goal.invariant_of-result

@@ -1,7 +1,5 @@
 use Rattle.std.proofs.Common.{refl, ap}
-use Rattle.t1_font.specs.declared.encoding.Opening.{Opening}
-use Rattle.t1_font.specs.Views.{opening_view}
-use Rattle.t1_font.specs.Pieces.{encoding_from, OneWord}
+use Rattle.t1_font.specs.{declared.encoding.Opening.{Opening}, Views.{opening_view}, Pieces.{encoding_from, OneWord}}
 use Rattle.t1_font.proofs.encoding.encoding_from.Goals as goal
 
 pub returns-in-Word-clause-shown : goal.returns-in-Word-clause-shown

@@ -1,5 +1,4 @@
-use Rattle.t1_font.specs.Gathering.{CodesAlone}
-use Rattle.t1_font.proofs.Arrays.{NamesSoFar}
+use Rattle.t1_font.{specs.Gathering.{CodesAlone}, proofs.Arrays.{NamesSoFar}}
 use Rattle.t1_font.proofs.encoding.names_at.Given as goal
 
 abbrev pub invariant-names : goal.invariant-names

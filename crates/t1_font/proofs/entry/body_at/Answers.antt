@@ -1,9 +1,6 @@
 use Rattle.std.proofs.Common.{true, sym, arith, length}
 use Rattle.t1_bytes.specs.White.{white, gap}
-use Rattle.t1_font.specs.Entry.{length_from}
-use Rattle.t1_font.specs.Words.{one_white, word, phrase_of, passes}
-use Rattle.t1_font.specs.Views.{phrase_view}
-use Rattle.t1_font.proofs.PlaceLemmas.{behind_read, counted, no_longer}
+use Rattle.t1_font.{specs.{Entry.{length_from}, Words.{one_white, word, phrase_of, passes}, Views.{phrase_view}}, proofs.PlaceLemmas.{behind_read, counted, no_longer}}
 use Rattle.t1_font.proofs.entry.body_at.Goals as goal
 
 pub returns-clause-place : goal.returns-clause-place

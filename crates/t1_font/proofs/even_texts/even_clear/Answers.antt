@@ -1,6 +1,5 @@
 use Rattle.std.proofs.Common.{List, ℕ, sym, ap, ◌∙◌}
-use Rattle.t1_font.specs.EvenTexts.{without_tags, same_both}
-use Rattle.t1_font.proofs.even_fonts.EvenTexts.{tags_stay}
+use Rattle.t1_font.{specs.EvenTexts.{without_tags, same_both}, proofs.even_fonts.EvenTexts.{tags_stay}}
 use Rattle.t1_font.proofs.even_texts.even_clear.Goals as goal
 
 pub returns-then-same_both : goal.returns-then-same_both

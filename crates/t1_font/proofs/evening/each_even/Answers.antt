@@ -1,9 +1,5 @@
-use Rattle.std.proofs.Common.{◌++◌, ◌∷◌, ℕ, [], List, map, sym, ap, ◌∙◌}
-use Rattle.std.proofs.lemmas.List.{nil_from_length}
-use Rattle.std.specs.Vec.Iter.{into_iter_items}
-use Rattle.t1_font.specs.FontValue.{FontValue}
-use Rattle.t1_font.specs.Evening.{even, largest_count}
-use Rattle.t1_font.proofs.Drains.{moved, all_moved}
+use Rattle.std.{proofs.{Common.{◌++◌, ◌∷◌, ℕ, [], List, map, sym, ap, ◌∙◌}, lemmas.List.{nil_from_length}}, specs.Vec.Iter.{into_iter_items}}
+use Rattle.t1_font.{specs.{FontValue.{FontValue}, Evening.{even, largest_count}}, proofs.Drains.{moved, all_moved}}
 use Rattle.t1_font.proofs.evening.each_even.Goals as goal
 
 pub sources-init : goal.sources-init

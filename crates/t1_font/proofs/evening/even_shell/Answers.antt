@@ -1,7 +1,5 @@
 use Rattle.std.proofs.Common.{ap, ◌∙◌}
-use Rattle.t1_font.specs.declared.even_texts.KeptText.TheVariants.{Private, Middle, Tail}
-use Rattle.t1_font.specs.EvenTexts.{squeezed_text, even_text, even_clear}
-use Rattle.t1_font.specs.Evening.{even_shell}
+use Rattle.t1_font.specs.{declared.even_texts.KeptText.TheVariants.{Private, Middle, Tail}, EvenTexts.{squeezed_text, even_text, even_clear}, Evening.{even_shell}}
 use Rattle.t1_font.proofs.evening.even_shell.Goals as goal
 
 pub returns : goal.returns

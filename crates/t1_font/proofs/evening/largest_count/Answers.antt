@@ -1,10 +1,7 @@
-use Rattle.std.proofs.Common.{◌≡◌, ◌+◌, ℕ, drop, get_or, sym, ap, ◌∙◌}
-use Rattle.std.specs.Prelude.{max}
-use Rattle.t1_font.specs.FontValue.{FontValue, declared_count}
-use Rattle.t1_font.specs.Evening.{largest_count}
-use Rattle.t1_font.proofs.even_fonts.Filled.{count_step, count_done, bigger, no_bigger}
+use Rattle.std.{proofs.Common.{◌≡◌, ◌+◌, ℕ, drop, get_or, sym, ap, ◌∙◌}, specs.Prelude.{max}}
+use Rattle.t1_font.specs.{FontValue.{FontValue, declared_count}, Evening.{largest_count}}
+use Rattle.t1_font.proofs.{even_fonts.Filled.{count_step, count_done, bigger, no_bigger}, evening.largest_count.Goals.{then-largest-declared, else-largest-declared}}
 use Rattle.t1_font.proofs.evening.largest_count.Goals as goal
-use Rattle.t1_font.proofs.evening.largest_count.Goals.{then-largest-declared, else-largest-declared}
 
 pub sources-preserved : goal.sources-preserved
 sources-preserved c =

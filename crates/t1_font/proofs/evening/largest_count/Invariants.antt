@@ -1,5 +1,4 @@
-use Rattle.std.proofs.Common.{◌≡◌, drop}
-use Rattle.std.specs.Prelude.{max}
+use Rattle.std.{proofs.Common.{◌≡◌, drop}, specs.Prelude.{max}}
 use Rattle.t1_font.specs.Evening.{largest_count}
 use Rattle.t1_font.proofs.evening.largest_count.Given as goal
 

@@ -1,15 +1,9 @@
-use Rattle.std.proofs.Common.{rules, ◌+◌, ◌≡◌, ◌≤◌, ◌∙◌, ap, arith, sym, drop, ℕ, List, Result, Ok, length}
-use Rattle.std.proofs.lemmas.Bool.{le-leb}
-use Rattle.std.proofs.lemmas.List.{drop-drop}
-use Rattle.t1_bytes.specs.Cipher.{private_text}
-use Rattle.t1_font.specs.declared.dialect.Dialect.{Dialect}
-use Rattle.t1_font.specs.declared.fault.ReadFault.{ReadFault}
-use Rattle.t1_font.specs.FontValue.{FontValue}
-use Rattle.t1_bytes.specs.Limits.{file_limit}
-use Rattle.t1_font.specs.Pieces.{FlatPieces, flat_pieces}
+use Rattle.std.proofs.{Common.{rules, ◌+◌, ◌≡◌, ◌≤◌, ◌∙◌, ap, arith, sym, drop, ℕ, List, Result, Ok, length}, lemmas.Bool.{le-leb}, lemmas.List.{drop-drop}}
+use Rattle.t1_bytes.specs.{Cipher.{private_text}, Limits.{file_limit}}
+use Rattle.t1_font.specs.{declared.dialect.Dialect.{Dialect}, declared.fault.ReadFault.{ReadFault}, FontValue.{FontValue}, Pieces.{FlatPieces, flat_pieces}}
 use Rattle.t1_font.specs.ReadFont.{flat_text, file_pieces, font_texts, font_file}
-use Rattle.t1_grammar.specs.Formats.{if_ok, if_ok_twice}
 use Rattle.t1_font.proofs.AnswersRight.{answers_same}
+use Rattle.t1_grammar.specs.Formats.{if_ok, if_ok_twice}
 use Rattle.t1_font.proofs.file.file_parts.Goals as goal
 
 -- the font of a file that is not too long, where it is cut

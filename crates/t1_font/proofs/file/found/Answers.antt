@@ -1,10 +1,7 @@
 use Rattle.std.proofs.Common.{subst, sym}
-use Rattle.t1_font.specs.declared.fault.ReadFault.{ReadFault}
-use Rattle.t1_font.specs.Answers.{Refused}
+use Rattle.t1_font.specs.{declared.fault.ReadFault.{ReadFault}, Answers.{Refused}, Pieces.{flat_pieces}}
+use Rattle.t1_font.proofs.{FileParts.{split_pieces, split_within, split_lead, split_fails}, NoLonger.{split_no_longer}}
 use Rattle.t1_bytes.specs.Split.{cipher_in}
-use Rattle.t1_font.specs.Pieces.{flat_pieces}
-use Rattle.t1_font.proofs.FileParts.{split_pieces, split_within, split_lead, split_fails}
-use Rattle.t1_font.proofs.NoLonger.{split_no_longer}
 use Rattle.t1_font.proofs.file.found.Goals as goal
 
 pub returns-in-Ok-clause-parts : goal.returns-in-Ok-clause-parts

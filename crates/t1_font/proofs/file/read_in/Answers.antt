@@ -1,7 +1,5 @@
 use Rattle.std.proofs.Common.{subst}
-use Rattle.t1_font.proofs.Spelled.{reads}
-use Rattle.t1_font.proofs.read_fonts.ReadFontLaws.{read_is_font}
-use Rattle.t1_font.proofs.AnswersRight.{fault_right}
+use Rattle.t1_font.proofs.{Spelled.{reads}, read_fonts.ReadFontLaws.{read_is_font}, AnswersRight.{fault_right}}
 use Rattle.t1_bytes.specs.Laws.{AreBytes}
 use Rattle.t1_font.proofs.file.read_in.Goals as goal
 

@@ -1,16 +1,7 @@
-use Rattle.std.proofs.Common.{◌∙◌, ℕ, List, ap, subst, length}
-use Rattle.std.proofs.lemmas.Cmp.{nat_cmp_total, nat_list_cmp_total}
-use Rattle.std.specs.Cmp.Lexicographic.{on_texts}
-use Rattle.std.specs.FinMap.{nat_cmp-IsAntisymmetric}
-use Rattle.std.specs.Ordering.{nat_cmp}
-use Rattle.t1_font.specs.Answers.{encoding_view}
-use Rattle.t1_font.specs.Entries.{AreLast}
-use Rattle.t1_font.specs.FontValue.{name_cmp}
-use Rattle.t1_font.specs.Gathering.{Entries}
-use Rattle.t1_font.specs.Ranges.{bytes_at, by_name, IsInside, AllInside, NamesInside}
-use Rattle.t1_font.proofs.Buffers.{all_longer, names_wider}
-use Rattle.t1_font.proofs.Lasts.{all_last, lasts_rise, lasts_map}
-use Rattle.t1_font.proofs.canonical.FontAgain.{name_same}
+use Rattle.std.proofs.{Common.{◌∙◌, ℕ, List, ap, subst, length}, lemmas.Cmp.{nat_cmp_total, nat_list_cmp_total}}
+use Rattle.std.specs.{Cmp.Lexicographic.{on_texts}, FinMap.{nat_cmp-IsAntisymmetric}, Ordering.{nat_cmp}}
+use Rattle.t1_font.specs.{Answers.{encoding_view}, Entries.{AreLast}, FontValue.{name_cmp}, Gathering.{Entries}, Ranges.{bytes_at, by_name, IsInside, AllInside, NamesInside}}
+use Rattle.t1_font.proofs.{Buffers.{all_longer, names_wider}, Lasts.{all_last, lasts_rise, lasts_map}, canonical.FontAgain.{name_same}}
 use Rattle.t1_font.proofs.file.source_parts.Goals as goal
 
 subrs_inside : (c : goal.In_ok-subrs) → AllInside (length c.gathered.inside.buffer.items) c.gathered.inside.subrs.items

@@ -1,13 +1,6 @@
 use Rattle.std.proofs.Common.{◌≡◌, ℕ, nat_lt, ◌<◌, ◌≤◌, ap, sym, subst, ◌∙◌}
-use Rattle.t1_font.specs.FontValue.{FontValue, Numbered, weight, weight_limit}
-use Rattle.t1_font.specs.FontModel.{encoding_of, clamp}
-use Rattle.t1_font.specs.Maps.{merged}
-use Rattle.t1_font.specs.Evening.{stubs_at}
-use Rattle.t1_font.specs.Filling.{with_subrs, filled_by}
-use Rattle.t1_font.specs.IsFont.{IsFont}
-use Rattle.t1_font.proofs.Weights.{clamp_light, clamp_heavy}
-use Rattle.t1_font.proofs.even_fonts.Filled.{unfilled, parts_filled, filled_by_is_font}
-use Rattle.t1_font.proofs.even_fonts.FilledWeights.{kept_stubs}
+use Rattle.t1_font.specs.{FontValue.{FontValue, Numbered, weight, weight_limit}, FontModel.{encoding_of, clamp}, Maps.{merged}, Evening.{stubs_at}, Filling.{with_subrs, filled_by}, IsFont.{IsFont}}
+use Rattle.t1_font.proofs.{Weights.{clamp_light, clamp_heavy}, even_fonts.Filled.{unfilled, parts_filled, filled_by_is_font}, even_fonts.FilledWeights.{kept_stubs}}
 use Rattle.t1_font.proofs.filling.fill.Goals as goal
 
 -- what is said of a font with other Subrs is said of one that it equals

@@ -1,14 +1,7 @@
-use Rattle.std.proofs.Common.{◌≡◌, refl, sym, ap, subst, ◌∙◌, List, ℕ, map}
-use Rattle.std.proofs.lemmas.List.{nil_from_length}
-use Rattle.std.specs.Vec.Iter.{into_iter_items}
-use Rattle.std.specs.Ordering.{nat_cmp}
+use Rattle.std.{proofs.{Common.{◌≡◌, refl, sym, ap, subst, ◌∙◌, List, ℕ, map}, lemmas.List.{nil_from_length}}, specs.{Vec.Iter.{into_iter_items}, Ordering.{nat_cmp}}}
 use Rattle.t1_join.specs.TableMeaning.{Rises}
-use Rattle.t1_font.specs.Lent.{stub_at}
-use Rattle.t1_font.proofs.FilledTables.{keys_rise}
-use Rattle.t1_font.specs.FontValue.{FontValue}
-use Rattle.t1_font.specs.Evening.{stubs_at, indices_of_all}
-use Rattle.t1_font.specs.Filling.{Fills, FillRefuses}
-use Rattle.t1_font.proofs.even_fonts.Filled.{stubs_listed, none_filled, all_filled, fills_on, refused_there}
+use Rattle.t1_font.specs.{Lent.{stub_at}, FontValue.{FontValue}, Evening.{stubs_at, indices_of_all}, Filling.{Fills, FillRefuses}}
+use Rattle.t1_font.proofs.{FilledTables.{keys_rise}, even_fonts.Filled.{stubs_listed, none_filled, all_filled, fills_on, refused_there}}
 use Rattle.t1_font.proofs.filling.fill_each.Goals as goal
 
 pub fonts-init : goal.fonts-init

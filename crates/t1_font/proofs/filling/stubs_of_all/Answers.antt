@@ -1,16 +1,10 @@
-use Rattle.std.proofs.Common.{◌≡◌, ◌+◌, ap, sym, subst, ◌∙◌, map, drop, List, ℕ, true}
-use Rattle.std.proofs.lemmas.Result.{IfOk-weaker}
-use Rattle.std.specs.Ordering.{nat_cmp}
-use Rattle.std.specs.FinMap.{contains_key, from_sorted}
-use Rattle.std.proofs.lemmas.List.{drop_all}
+use Rattle.std.proofs.{Common.{◌≡◌, ◌+◌, ap, sym, subst, ◌∙◌, map, drop, List, ℕ, true}, lemmas.Result.{IfOk-weaker}, lemmas.List.{drop_all}}
+use Rattle.std.specs.{Ordering.{nat_cmp}, FinMap.{contains_key, from_sorted}}
 use Rattle.t1_join.proofs.Sorted.{no_entries}
-use Rattle.t1_font.specs.declared.font.Font.TheInside.{Inside}
-use Rattle.t1_font.specs.FontValue.{FontValue, Numbered}
-use Rattle.t1_font.specs.Lent.{lent_number}
-use Rattle.t1_font.specs.Maps.{merged}
+use Rattle.t1_font.specs.{declared.font.Font.TheInside.{Inside}, FontValue.{FontValue, Numbered}, Lent.{lent_number}, Maps.{merged}}
 use Rattle.t1_font.proofs.even_fonts.Filled.{IndicesSoFar, none_so_far, one_more_font, no_more_font, has_keys, stubs_of, all_stubs}
-use Rattle.t1_font.proofs.filling.stubs_of_all.Goals as goal
 use Rattle.t1_font.proofs.filling.stubs_of_all.Goals.{then-not-has_all+in_ok-all, else-not-has_all}
+use Rattle.t1_font.proofs.filling.stubs_of_all.Goals as goal
 
 pub fonts-init : goal.fonts-init
 fonts-init c =

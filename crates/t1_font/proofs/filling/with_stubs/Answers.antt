@@ -1,16 +1,6 @@
-use Rattle.std.proofs.Common.{◌≡◌, true, map, sym, ap, ◌∙◌, refl}
-use Rattle.std.specs.Ordering.{nat_cmp}
-use Rattle.std.specs.FinMap.{from_sorted, entries, keys, retain_keys}
-use Rattle.t1_font.specs.declared.lent.NumberedForm.{NumberedForm}
-use Rattle.t1_font.specs.FontValue.{Numbered}
-use Rattle.t1_font.specs.Lent.{stub_at, filled_at, numbered_entries}
-use Rattle.t1_font.specs.Evening.{stubs_at}
-use Rattle.t1_font.specs.Filling.{has_each}
-use Rattle.t1_font.specs.Maps.{merged}
-use Rattle.t1_font.proofs.LentTables.{same_table}
-use Rattle.t1_font.proofs.FilledTables.{filled_is, sorted_stubs}
-use Rattle.t1_font.proofs.even_fonts.Evened.{stubs_below}
-use Rattle.t1_font.proofs.even_fonts.Filled.{has_keys, all_below}
+use Rattle.std.{proofs.Common.{◌≡◌, true, map, sym, ap, ◌∙◌, refl}, specs.{Ordering.{nat_cmp}, FinMap.{from_sorted, entries, keys, retain_keys}}}
+use Rattle.t1_font.specs.{declared.lent.NumberedForm.{NumberedForm}, FontValue.{Numbered}, Lent.{stub_at, filled_at, numbered_entries}, Evening.{stubs_at}, Filling.{has_each}, Maps.{merged}}
+use Rattle.t1_font.proofs.{LentTables.{same_table}, FilledTables.{filled_is, sorted_stubs}, even_fonts.Evened.{stubs_below}, even_fonts.Filled.{has_keys, all_below}}
 use Rattle.t1_font.proofs.filling.with_stubs.Goals as goal
 
 pub returns-then-are_among : goal.returns-then-are_among

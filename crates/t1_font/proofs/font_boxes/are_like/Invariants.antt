@@ -1,7 +1,5 @@
-use Rattle.std.proofs.Common.{◌≡◌, map, drop}
-use Rattle.std.specs.List.{list_all}
-use Rattle.t1_font.specs.FontBoxes.{same_box}
-use Rattle.t1_font.specs.BoxViews.{box_view}
+use Rattle.std.{proofs.Common.{◌≡◌, map, drop}, specs.List.{list_all}}
+use Rattle.t1_font.specs.{FontBoxes.{same_box}, BoxViews.{box_view}}
 use Rattle.t1_font.proofs.font_boxes.are_like.Given as goal
 
 abbrev pub invariant-boxes : goal.invariant-boxes

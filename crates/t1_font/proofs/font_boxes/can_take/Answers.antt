@@ -1,9 +1,5 @@
-use Rattle.std.proofs.Common.{◌≡◌, ℕ, Bool, true, false, List, refl, ap, ◌∙◌}
-use Rattle.std.specs.Prelude.{◌&&◌, nat_le}
-use Rattle.t1_font.specs.FontValue.{weight, weight_limit}
-use Rattle.t1_font.specs.EvenTexts.{same_both, even_clear}
-use Rattle.t1_font.specs.FontBoxes.{stays_at, with_texts}
-use Rattle.t1_font.specs.BoxViews.{box_view, side_view}
+use Rattle.std.{proofs.Common.{◌≡◌, ℕ, Bool, true, false, List, refl, ap, ◌∙◌}, specs.Prelude.{◌&&◌, nat_le}}
+use Rattle.t1_font.specs.{FontValue.{weight, weight_limit}, EvenTexts.{same_both, even_clear}, FontBoxes.{stays_at, with_texts}, BoxViews.{box_view, side_view}}
 use Rattle.t1_font.proofs.font_boxes.can_take.Goals as goal
 
 on_all : (f e s l : Bool) → f ≡ true → e ≡ true → s ≡ true → l ≡ (f && (e && (s && l)))

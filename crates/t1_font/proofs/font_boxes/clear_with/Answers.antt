@@ -1,8 +1,5 @@
 use Rattle.std.proofs.Common.{◌≡◌, ℕ, List, sym, ap, ◌∙◌}
-use Rattle.t1_font.specs.declared.source.SourceParts.TheInside.{Inside}
-use Rattle.t1_font.specs.FontValue.{FontValue}
-use Rattle.t1_font.specs.FontBoxes.{clear_of, can_take}
-use Rattle.t1_font.specs.BoxViews.{box_view, side_view}
+use Rattle.t1_font.specs.{declared.source.SourceParts.TheInside.{Inside}, FontValue.{FontValue}, FontBoxes.{clear_of, can_take}, BoxViews.{box_view, side_view}}
 use Rattle.t1_font.proofs.even_fonts.BoxFonts.{answers_texts, answers_none}
 use Rattle.t1_font.proofs.font_boxes.clear_with.Goals as goal
 

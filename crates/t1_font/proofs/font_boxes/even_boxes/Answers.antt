@@ -1,9 +1,5 @@
-use Rattle.std.proofs.Common.{◌≡◌, true, Some, sym, ap, ◌∙◌, List, map}
-use Rattle.std.specs.Option.{option_map}
-use Rattle.std.specs.List.{list_all}
-use Rattle.t1_font.specs.FontValue.{FontValue}
-use Rattle.t1_font.specs.FontBoxes.{Box, joined_box, can_have, if_can, boxes_of, boxed}
-use Rattle.t1_font.specs.BoxViews.{box_view, kept_view, wanted_box}
+use Rattle.std.{proofs.Common.{◌≡◌, true, Some, sym, ap, ◌∙◌, List, map}, specs.{Option.{option_map}, List.{list_all}}}
+use Rattle.t1_font.specs.{FontValue.{FontValue}, FontBoxes.{Box, joined_box, can_have, if_can, boxes_of, boxed}, BoxViews.{box_view, kept_view, wanted_box}}
 use Rattle.t1_font.proofs.even_fonts.BoxLists.{boxed_so, same_fonts, unwanted, wanted}
 use Rattle.t1_font.proofs.font_boxes.even_boxes.Goals as goal
 

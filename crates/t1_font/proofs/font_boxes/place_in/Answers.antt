@@ -1,10 +1,7 @@
-use Rattle.std.proofs.Common.{◌≡◌, List, ℕ, drop, Some, sym, ap, ◌∙◌, arith}
-use Rattle.std.specs.Prelude.{Option, codes}
-use Rattle.std.specs.Option.{option_map}
+use Rattle.std.{proofs.Common.{◌≡◌, List, ℕ, drop, Some, sym, ap, ◌∙◌, arith}, specs.{Prelude.{Option, codes}, Option.{option_map}}}
 use Rattle.t1_grammar.specs.Grammar.{first_at}
 use Rattle.t1_bytes.proofs.Places.{found_at, passed_at, nowhere_at}
-use Rattle.t1_font.specs.FontBoxes.{BoxNumbers, BoxPlace, font_box, box_begins}
-use Rattle.t1_font.specs.BoxViews.{numbers_view}
+use Rattle.t1_font.specs.{FontBoxes.{BoxNumbers, BoxPlace, font_box, box_begins}, BoxViews.{numbers_view}}
 use Rattle.t1_font.proofs.font_boxes.place_in.Goals as goal
 
 -- the place of a box that was found

@@ -1,8 +1,5 @@
 use Rattle.std.proofs.Common.{List, ℕ, ap, ◌∙◌}
-use Rattle.t1_font.specs.FontValue.{FontValue, weight, texts_weight, total}
-use Rattle.t1_font.specs.FontModel.{clamp}
-use Rattle.t1_font.specs.Ranges.{subr_at_weight, glyph_at_weight}
-use Rattle.t1_font.specs.FontBoxes.{with_clear, with_texts}
+use Rattle.t1_font.specs.{FontValue.{FontValue, weight, texts_weight, total}, FontModel.{clamp}, Ranges.{subr_at_weight, glyph_at_weight}, FontBoxes.{with_clear, with_texts}}
 use Rattle.t1_font.proofs.Weights.{source_weighs, clamp_each}
 use Rattle.t1_font.proofs.font_boxes.weight_with.Goals as goal
 

@@ -1,9 +1,5 @@
-use Rattle.std.proofs.Common.{◌++◌, ◌∷◌, [], List, map, sym, ap, ◌∙◌}
-use Rattle.std.proofs.lemmas.List.{nil_from_length}
-use Rattle.std.specs.Vec.Iter.{into_iter_items}
-use Rattle.t1_font.specs.FontValue.{FontValue}
-use Rattle.t1_font.specs.FontNames.{named}
-use Rattle.t1_font.proofs.Drains.{moved, all_moved}
+use Rattle.std.{proofs.{Common.{◌++◌, ◌∷◌, [], List, map, sym, ap, ◌∙◌}, lemmas.List.{nil_from_length}}, specs.Vec.Iter.{into_iter_items}}
+use Rattle.t1_font.{specs.{FontValue.{FontValue}, FontNames.{named}}, proofs.Drains.{moved, all_moved}}
 use Rattle.t1_font.proofs.font_names.all_named.Goals as goal
 
 pub sources-init : goal.sources-init

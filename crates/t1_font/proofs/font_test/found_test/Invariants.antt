@@ -1,7 +1,6 @@
 use Rattle.std.proofs.Common.{◌≤◌, ◌-◌, length}
 use Rattle.t1_grammar.specs.Places.{NoneBelow}
-use Rattle.t1_font.specs.FontTest.{apart_test}
-use Rattle.t1_font.proofs.FontTests.{padded}
+use Rattle.t1_font.{specs.FontTest.{apart_test}, proofs.FontTests.{padded}}
 use Rattle.t1_font.proofs.font_test.found_test.Given as goal
 
 abbrev pub invariant-tests : goal.invariant-tests

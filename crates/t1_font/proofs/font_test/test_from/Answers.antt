@@ -1,7 +1,6 @@
 use Rattle.std.proofs.Common.{sym, ap, ◌∙◌}
 use Rattle.t1_grammar.specs.Grammar.{first}
-use Rattle.t1_font.specs.FontTest.{font_test}
-use Rattle.t1_font.proofs.FontTests.{met}
+use Rattle.t1_font.{specs.FontTest.{font_test}, proofs.FontTests.{met}}
 use Rattle.t1_font.proofs.font_test.test_from.Goals as goal
 
 pub returns-clause-within : goal.returns-clause-within

@@ -1,9 +1,6 @@
-use Rattle.std.proofs.Common.{◌≡◌, drop}
-use Rattle.std.specs.Prelude.{unwrap_or}
-use Rattle.std.specs.Ordering.{nat_cmp}
+use Rattle.std.{proofs.Common.{◌≡◌, drop}, specs.{Prelude.{unwrap_or}, Ordering.{nat_cmp}}}
 use Rattle.t1_join.specs.Entries.{entries_by}
-use Rattle.t1_font.specs.FontValue.{notdef}
-use Rattle.t1_font.specs.Entries.{last_value}
+use Rattle.t1_font.specs.{FontValue.{notdef}, Entries.{last_value}}
 use Rattle.t1_font.proofs.gathered.last_name.Given as goal
 
 abbrev pub invariant-codes : goal.invariant-codes

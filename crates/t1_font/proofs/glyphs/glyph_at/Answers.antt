@@ -1,9 +1,6 @@
 use Rattle.std.proofs.Common.{sym}
-use Rattle.t1_font.specs.declared.dialect.Spacing.TheVariants.{White}
-use Rattle.t1_font.proofs.PlaceLemmas.{name_stands}
-use Rattle.t1_font.proofs.PlaceLemmas.{behind_read}
+use Rattle.t1_font.{specs.{declared.dialect.Spacing.TheVariants.{White}, Words.{next_name}}, proofs.PlaceLemmas.{name_stands, behind_read}}
 use Rattle.t1_font.proofs.glyphs.glyph_at.Goals as goal
-use Rattle.t1_font.specs.Words.{next_name}
 
 pub returns-clause-name : goal.returns-clause-name
 returns-clause-name c = name_stands White c.args.bytes.now (c.in_ok-name.name.now, c.in_ok-name.rest.now) (sym c.in_ok-name.ensures)

@@ -1,6 +1,5 @@
 use Rattle.std.proofs.Common.{◌≡◌, ◌∷◌, map, drop}
-use Rattle.t1_font.specs.FontBoxes.{held}
-use Rattle.t1_font.specs.BoxViews.{box_view}
+use Rattle.t1_font.specs.{FontBoxes.{held}, BoxViews.{box_view}}
 use Rattle.t1_font.proofs.joined_boxes.held_with.Given as goal
 
 abbrev pub invariant-boxes : goal.invariant-boxes

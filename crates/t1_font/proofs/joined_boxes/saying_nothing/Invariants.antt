@@ -1,7 +1,5 @@
-use Rattle.std.proofs.Common.{◌≡◌, map, take}
-use Rattle.std.specs.Prelude.{filter}
-use Rattle.t1_font.specs.FontBoxes.{says_nothing}
-use Rattle.t1_font.specs.BoxViews.{box_view}
+use Rattle.std.{proofs.Common.{◌≡◌, map, take}, specs.Prelude.{filter}}
+use Rattle.t1_font.specs.{FontBoxes.{says_nothing}, BoxViews.{box_view}}
 use Rattle.t1_font.proofs.joined_boxes.saying_nothing.Given as goal
 
 abbrev pub invariant-boxes : goal.invariant-boxes

@@ -1,5 +1,4 @@
-use Rattle.t1_font.proofs.even_fonts.EvenStays.{evened_twice}
-use Rattle.t1_font.proofs.even_fonts.EvenTexts.{even_texts_stay}
+use Rattle.t1_font.proofs.{even_fonts.EvenStays.{evened_twice}, even_fonts.EvenTexts.{even_texts_stay}}
 use Rattle.t1_font.proofs.laws.evened_twice.Goals as goal
 
 pub returns-clause-texts : goal.returns-clause-texts

@@ -1,6 +1,4 @@
-use Rattle.std.specs.Cmp.{nat_cmp_total}
-use Rattle.std.specs.FinSet.{slice_cmp-IsAntisymmetric, nat_cmp-IsAntisymmetric}
-use Rattle.std.specs.Cmp.Lexicographic.{nat_list_cmp_total}
+use Rattle.std.specs.{Cmp.{nat_cmp_total}, FinSet.{slice_cmp-IsAntisymmetric, nat_cmp-IsAntisymmetric}, Cmp.Lexicographic.{nat_list_cmp_total}}
 use Rattle.t1_font.proofs.MapLaws.{get-map_of, get-names_of}
 use Rattle.t1_font.proofs.laws.last_stands.Goals as goal
 

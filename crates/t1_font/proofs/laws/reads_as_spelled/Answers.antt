@@ -1,11 +1,8 @@
 use Rattle.t1_font.proofs.laws.reads_as_spelled.Goals as goal
 use Rattle.t1_font.specs.Encoding.{array_end, array_start, code, put_entry, one_copy, range_copy, code_entry, encoding_end, encoding_loop, encoding_start, encoding_table, encoding_word, octal}
-use Rattle.t1_font.specs.Entry.{body, length_from}
-use Rattle.t1_font.specs.Markers.{chars_marker, closefile, encoding_marker, len_iv, len_iv_marker, subrs_marker}
-use Rattle.t1_font.specs.Words.{decimal, keyword, name, next_name, one_white, phrase_of, word}
+use Rattle.t1_font.specs.{Entry.{body, length_from}, Markers.{chars_marker, closefile, encoding_marker, len_iv, len_iv_marker, subrs_marker}}
+use Rattle.t1_font.specs.{Words.{decimal, keyword, name, next_name, one_white, phrase_of, word}, Glyphs.{glyph, glyphs_end}, Subrs.{subr, subr_key, subrs_end}}
 use Rattle.t1_grammar.specs.Grammar.{exact, first}
-use Rattle.t1_font.specs.Glyphs.{glyph, glyphs_end}
-use Rattle.t1_font.specs.Subrs.{subr, subr_key, subrs_end}
 
 pub returns : goal.returns
 returns c = record {

@@ -1,7 +1,5 @@
-use Rattle.t1_font.proofs.Spelled.{reads, reads_again, refuses, refuses_again, one_font}
-use Rattle.t1_font.proofs.Widely.{spells_widely}
+use Rattle.t1_font.{proofs.{Spelled.{reads, reads_again, refuses, refuses_again, one_font}, Widely.{spells_widely}}, specs.Dialect.{wide}}
 use Rattle.t1_font.proofs.laws.reads_widely.Goals as goal
-use Rattle.t1_font.specs.Dialect.{wide}
 
 pub returns : goal.returns
 returns c = record {

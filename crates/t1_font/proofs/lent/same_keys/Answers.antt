@@ -1,9 +1,7 @@
-use Rattle.std.proofs.Common.{◌≡◌, ap, sym, ◌∙◌, length}
-use Rattle.std.proofs.{lemmas.List.{length-map}, lemmas.Bool.{false_from_ne_true}}
-use Rattle.std.specs.Cmp.{Equal-is}
-use Rattle.std.specs.FinMap as maps
-use Rattle.std.specs.FinSet.{slice_cmp-IsAntisymmetric, nat_cmp-IsAntisymmetric}
+use Rattle.std.proofs.{Common.{◌≡◌, ap, sym, ◌∙◌, length}, lemmas.List.{length-map}, lemmas.Bool.{false_from_ne_true}}
+use Rattle.std.specs.{Cmp.{Equal-is}, FinSet.{slice_cmp-IsAntisymmetric, nat_cmp-IsAntisymmetric}}
 use Rattle.t1_font.specs.FontValue.{Numbered, name_cmp}
+use Rattle.std.specs.FinMap as maps
 use Rattle.t1_font.proofs.lent.same_keys.Goals as goal
 
 -- a table has as many entries as keys

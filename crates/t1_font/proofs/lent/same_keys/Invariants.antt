@@ -1,7 +1,6 @@
-use Rattle.std.proofs.Common.{◌≡◌, map}
-use Rattle.std.specs.Ordering.{is_eq}
-use Rattle.std.specs.FinMap as maps
+use Rattle.std.{proofs.Common.{◌≡◌, map}, specs.Ordering.{is_eq}}
 use Rattle.t1_font.specs.FontValue.{name_cmp}
+use Rattle.std.specs.FinMap as maps
 use Rattle.t1_font.proofs.lent.same_keys.Given as goal
 
 abbrev pub invariant-entries : goal.invariant-entries

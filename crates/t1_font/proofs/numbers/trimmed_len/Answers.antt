@@ -1,6 +1,4 @@
-use Rattle.std.proofs.Common.{arith, rules}
-use Rattle.std.proofs.lemmas.List.{take_all}
-use Rattle.std.proofs.lemmas.List.Sums.{suffix_len-take_yes}
+use Rattle.std.proofs.{Common.{arith, rules}, lemmas.List.{take_all}, lemmas.List.Sums.{suffix_len-take_yes}}
 use Rattle.t1_font.proofs.numbers.trimmed_len.Goals as goal
 
 pub noughts-init : goal.noughts-init

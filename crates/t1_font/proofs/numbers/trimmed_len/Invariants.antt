@@ -1,5 +1,4 @@
-use Rattle.std.proofs.Common.{◌≡◌, ◌+◌, ◌≤◌, length, take}
-use Rattle.std.specs.List.{suffix_len}
+use Rattle.std.{proofs.Common.{◌≡◌, ◌+◌, ◌≤◌, length, take}, specs.List.{suffix_len}}
 use Rattle.t1_font.specs.Numbers.{is_nought}
 use Rattle.t1_font.proofs.numbers.trimmed_len.Given as goal
 

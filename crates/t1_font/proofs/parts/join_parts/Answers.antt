@@ -1,9 +1,5 @@
-use Rattle.std.proofs.Common.{◌≡◌, ◌≤◌, subst, sym, ◌∙◌}
-use Rattle.std.specs.FinMap.{len}
-use Rattle.t1_font.specs.FontValue.{FontValue, weight, count_limit, weight_limit}
-use Rattle.t1_font.specs.Joins.{join_parts}
-use Rattle.t1_font.specs.IsFont.{IsFont}
-use Rattle.t1_font.proofs.Kept.{join_is_font}
+use Rattle.std.{proofs.Common.{◌≡◌, ◌≤◌, subst, sym, ◌∙◌}, specs.FinMap.{len}}
+use Rattle.t1_font.{specs.{FontValue.{FontValue, weight, count_limit, weight_limit}, Joins.{join_parts}, IsFont.{IsFont}}, proofs.Kept.{join_is_font}}
 use Rattle.t1_font.proofs.parts.join_parts.Goals as goal
 
 pub invariant_of-result : goal.invariant_of-result

@@ -1,8 +1,6 @@
 use Rattle.std.proofs.Common.{◌≡◌, ◌++◌, map}
+use Rattle.t1_font.specs.{Joins.{joined_subr}, Maps.{map_values}, Lent.{lent_number}}
 use Rattle.std.specs.FinMap as fin
-use Rattle.t1_font.specs.Joins.{joined_subr}
-use Rattle.t1_font.specs.Maps.{map_values}
-use Rattle.t1_font.specs.Lent.{lent_number}
 use Rattle.t1_font.proofs.parts.join_subrs.Given as goal
 
 abbrev pub invariant-bodies : goal.invariant-bodies

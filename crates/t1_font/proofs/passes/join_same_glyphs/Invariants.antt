@@ -1,10 +1,6 @@
-use Rattle.std.proofs.Common.{◌≡◌, ◌++◌, map}
+use Rattle.std.{proofs.Common.{◌≡◌, ◌++◌, map}, specs.Str.{bytes_eq}}
+use Rattle.t1_font.{specs.{FontValue.{name_cmp}, Lent.{lent_glyph}, Maps.{merged}}, proofs.TablePasses.{ahead, meets, left}}
 use Rattle.std.specs.FinMap as fin
-use Rattle.std.specs.Str.{bytes_eq}
-use Rattle.t1_font.specs.FontValue.{name_cmp}
-use Rattle.t1_font.specs.Lent.{lent_glyph}
-use Rattle.t1_font.specs.Maps.{merged}
-use Rattle.t1_font.proofs.TablePasses.{ahead, meets, left}
 use Rattle.t1_font.proofs.passes.join_same_glyphs.Given as goal
 
 abbrev pub invariant-pass : goal.invariant-pass

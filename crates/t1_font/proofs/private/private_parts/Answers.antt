@@ -1,15 +1,9 @@
-use Rattle.std.proofs.Common.{◌≡◌, ◌∙◌, ap, arith, sym, refl, Bool, cond, ltb, Some, None, length, ℕ, List, [], ◌≤◌}
-use Rattle.std.proofs.lemmas.Bool.{lt-ltb, le-ltb}
+use Rattle.std.proofs.{Common.{◌≡◌, ◌∙◌, ap, arith, sym, refl, Bool, cond, ltb, Some, None, length, ℕ, List, [], ◌≤◌}, lemmas.Bool.{lt-ltb, le-ltb}}
 use Rattle.t1_grammar.specs.Grammar.{first}
-use Rattle.t1_font.specs.Gathering.{Entries}
-use Rattle.t1_font.specs.Markers.{chars_marker, subrs_marker}
-use Rattle.t1_font.specs.Reading.{Reading}
-use Rattle.t1_font.specs.declared.dialect.Spacing.TheVariants.{White}
+use Rattle.t1_font.specs.{Gathering.{Entries}, Markers.{chars_marker, subrs_marker}, Reading.{Reading}, declared.dialect.Spacing.TheVariants.{White}}
 use Rattle.t1_font.specs.Pieces.{PrivatePieces, before_place, private_pieces, tables_from}
-use Rattle.t1_font.proofs.AnswersRight.{shown_same}
-use Rattle.t1_font.proofs.PlaceLemmas.{ending_read, no_longer}
+use Rattle.t1_font.proofs.{AnswersRight.{shown_same}, PlaceLemmas.{ending_read, no_longer}, private.private_parts.Goals.{in-Some-first+else-private-front, in_default-first}}
 use Rattle.t1_font.proofs.private.private_parts.Goals as goal
-use Rattle.t1_font.proofs.private.private_parts.Goals.{in-Some-first+else-private-front, in_default-first}
 
 pub pass_to-requires : goal.pass_to-requires
 pass_to-requires c = omega (arith, ap length c.rest-text.ensures, no_longer (first subrs_marker) c.rest-text.result.now _ (sym c.in-Some-first.ensures))

@@ -1,9 +1,5 @@
 use Rattle.std.proofs.Common.{◌++◌, ap, ◌∙◌}
-use Rattle.t1_font.specs.Canon.{glyph_entry}
-use Rattle.t1_font.specs.FontModel.{shell_view}
-use Rattle.t1_font.specs.FontValue.{Shell}
-use Rattle.t1_font.specs.Writing.{glyph_text}
-use Rattle.t1_font.proofs.Lengths.{glyph_put, after_key}
+use Rattle.t1_font.{specs.{Canon.{glyph_entry}, FontModel.{shell_view}, FontValue.{Shell}, Writing.{glyph_text}}, proofs.Lengths.{glyph_put, after_key}}
 use Rattle.t1_font.proofs.private_writing.put_glyph.Goals as goal
 
 pub returns : goal.returns

@@ -1,7 +1,6 @@
 use Rattle.std.proofs.Common.{◌≡◌, ◌++◌, map}
+use Rattle.t1_font.specs.{Writing.{glyphs_text, glyphs_part}, Canon.{glyph_entry}}
 use Rattle.std.specs.FinMap as fin
-use Rattle.t1_font.specs.Writing.{glyphs_text, glyphs_part}
-use Rattle.t1_font.specs.Canon.{glyph_entry}
 use Rattle.t1_font.proofs.private_writing.put_glyphs.Given as goal
 
 abbrev pub invariant-glyphs : goal.invariant-glyphs

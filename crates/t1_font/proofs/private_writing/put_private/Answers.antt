@@ -1,7 +1,5 @@
 use Rattle.std.proofs.Common.{◌++◌, ap, ◌∙◌}
-use Rattle.t1_font.specs.FontValue.{FontValue, Shell}
-use Rattle.t1_font.specs.Canon.{canon_private}
-use Rattle.t1_font.proofs.Lengths.{six_put}
+use Rattle.t1_font.{specs.{FontValue.{FontValue, Shell}, Canon.{canon_private}}, proofs.Lengths.{six_put}}
 use Rattle.t1_font.proofs.private_writing.put_private.Goals as goal
 
 pub returns : goal.returns

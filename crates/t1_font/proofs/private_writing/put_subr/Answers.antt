@@ -1,6 +1,5 @@
 use Rattle.std.proofs.Common.{◌++◌, ◌∙◌}
-use Rattle.t1_font.specs.FontModel.{subrs_view}
-use Rattle.t1_font.proofs.Lengths.{subr_put, after_key}
+use Rattle.t1_font.{specs.FontModel.{subrs_view}, proofs.Lengths.{subr_put, after_key}}
 use Rattle.t1_font.proofs.private_writing.put_subr.Goals as goal
 
 pub returns : goal.returns

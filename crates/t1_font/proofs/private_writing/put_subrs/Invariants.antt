@@ -1,9 +1,6 @@
-use Rattle.std.proofs.Common.{◌≡◌, ◌++◌, map}
-use Rattle.std.specs.Prelude.{Some}
+use Rattle.std.{proofs.Common.{◌≡◌, ◌++◌, map}, specs.Prelude.{Some}}
+use Rattle.t1_font.specs.{FontModel.{subrs_view}, Writing.{subrs_text, subrs_part}, Canon.{subr_entry, subrs_pieces}}
 use Rattle.std.specs.FinMap as fin
-use Rattle.t1_font.specs.FontModel.{subrs_view}
-use Rattle.t1_font.specs.Writing.{subrs_text, subrs_part}
-use Rattle.t1_font.specs.Canon.{subr_entry, subrs_pieces}
 use Rattle.t1_font.proofs.private_writing.put_subrs.Given as goal
 
 abbrev pub invariant-subrs : goal.invariant-subrs

@@ -1,8 +1,6 @@
 use Rattle.std.proofs.Common.{ap, ◌∙◌, ◌<◌, drop, length, arith}
-use Rattle.t1_font.specs.Entries.{run_end}
-use Rattle.t1_font.proofs.Lasts.{end_passed, end_moved, ends_moved}
+use Rattle.t1_font.{specs.Entries.{run_end}, proofs.{Lasts.{end_passed, end_moved, ends_moved}, repeats.keep_ends.Goals.{in-Some, in_default}}}
 use Rattle.t1_font.proofs.repeats.keep_ends.Goals as goal
-use Rattle.t1_font.proofs.repeats.keep_ends.Goals.{in-Some, in_default}
 
 there : (g : _) (c : goal.Joined-end_at g) → c.entries.at < length c.args.entries.now.items
 there g c = omega (arith, c.entries-test.true, c.len-at-end.ensures, c.args.entries.now.ok.0)

@@ -1,7 +1,4 @@
-use Rattle.std.proofs.Common.{rules}
-use Rattle.std.specs.Ordering.{is_lt}
-use Rattle.std.proofs.lemmas.List.MinMax.{ranks_by}
-use Rattle.std.proofs.lemmas.Fn.{always_returns_same}
+use Rattle.std.{proofs.{Common.{rules}, lemmas.List.MinMax.{ranks_by}, lemmas.Fn.{always_returns_same}}, specs.Ordering.{is_lt}}
 use Rattle.t1_font.proofs.repeats.last_entries.Goals as goal
 
 pub returns : goal.returns

@@ -1,7 +1,5 @@
 use Rattle.std.proofs.Common.{◌≡◌, ◌+◌, ◌≤◌, drop}
-use Rattle.t1_font.specs.FontValue.{total}
-use Rattle.t1_font.specs.FontModel.{clamp}
-use Rattle.t1_font.specs.Ranges.{glyph_at_weight}
+use Rattle.t1_font.specs.{FontValue.{total}, FontModel.{clamp}, Ranges.{glyph_at_weight}}
 use Rattle.t1_font.proofs.source.glyphs_weight.Given as goal
 
 abbrev pub invariant-glyphs : goal.invariant-glyphs

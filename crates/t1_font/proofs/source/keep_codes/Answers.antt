@@ -1,17 +1,7 @@
-use Rattle.std.proofs.Common.{ℕ, List, sym, ap, ◌∙◌, map, not}
-use Rattle.std.specs.Prelude.{filter}
-use Rattle.std.specs.Ordering.{nat_cmp}
-use Rattle.std.specs.FinMap.{nat_cmp-IsAntisymmetric}
-use Rattle.std.proofs.lemmas.Cmp.{nat_cmp_total}
+use Rattle.std.proofs.{Common.{ℕ, List, sym, ap, ◌∙◌, map, not}, lemmas.Cmp.{nat_cmp_total}, lemmas.List.{nil_from_length}}
+use Rattle.std.specs.{Prelude.{filter}, Ordering.{nat_cmp}, FinMap.{nat_cmp-IsAntisymmetric}, Borrow.{Bor}, Vec.Iter.{into_iter_items}}
 use Rattle.t1_join.specs.Entries.{entries_by}
-use Rattle.t1_font.specs.Entries.{has_name}
-use Rattle.t1_font.specs.Sources.{kept_name}
-use Rattle.std.specs.Borrow.{Bor}
-use Rattle.std.proofs.lemmas.List.{nil_from_length}
-use Rattle.std.specs.Vec.Iter.{into_iter_items}
-use Rattle.t1_font.proofs.Drains.{all_moved}
-use Rattle.t1_font.proofs.Lasts.{lasts_are}
-use Rattle.t1_font.proofs.Sourced.{no_codes_kept, code_passed, code_kept}
+use Rattle.t1_font.{specs.{Entries.{has_name}, Sources.{kept_name}}, proofs.{Drains.{all_moved}, Lasts.{lasts_are}, Sourced.{no_codes_kept, code_passed, code_kept}}}
 use Rattle.t1_font.proofs.source.keep_codes.Goals as goal
 
 pub codes-init : goal.codes-init

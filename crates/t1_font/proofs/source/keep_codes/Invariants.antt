@@ -1,9 +1,6 @@
-use Rattle.std.proofs.Common.{◌≡◌, ◌++◌, map}
-use Rattle.std.specs.Prelude.{filter}
-use Rattle.std.specs.Vec.Iter.{into_iter_items}
+use Rattle.std.{proofs.Common.{◌≡◌, ◌++◌, map}, specs.{Prelude.{filter}, Vec.Iter.{into_iter_items}}}
 use Rattle.t1_join.specs.Entries.{entries_by}
-use Rattle.t1_font.specs.Entries.{has_name}
-use Rattle.t1_font.specs.Sources.{kept_name}
+use Rattle.t1_font.specs.{Entries.{has_name}, Sources.{kept_name}}
 use Rattle.t1_font.proofs.source.keep_codes.Given as goal
 
 abbrev pub invariant-codes : goal.invariant-codes

@@ -1,10 +1,6 @@
-use Rattle.std.proofs.Common.{◌∙◌, sym, ap, subst, map}
-use Rattle.std.specs.FinMap.{from_sorted}
-use Rattle.std.specs.Ordering.{nat_cmp}
+use Rattle.std.{proofs.Common.{◌∙◌, sym, ap, subst, map}, specs.{FinMap.{from_sorted}, Ordering.{nat_cmp}}}
 use Rattle.t1_join.specs.TableMeaning.{Rises}
-use Rattle.t1_font.specs.Lent.{lent_number}
-use Rattle.t1_font.specs.Sources.{kept_name}
-use Rattle.t1_font.proofs.Drains.{keyed, one_more, all_made}
+use Rattle.t1_font.{specs.{Lent.{lent_number}, Sources.{kept_name}}, proofs.Drains.{keyed, one_more, all_made}}
 use Rattle.t1_font.proofs.source.lent_codes.Goals as goal
 
 pub codes-init : goal.codes-init

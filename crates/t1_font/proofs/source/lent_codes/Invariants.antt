@@ -1,6 +1,5 @@
 use Rattle.std.proofs.Common.{◌≡◌, map, take}
-use Rattle.t1_font.specs.Lent.{lent_number}
-use Rattle.t1_font.specs.Sources.{kept_name}
+use Rattle.t1_font.specs.{Lent.{lent_number}, Sources.{kept_name}}
 use Rattle.t1_font.proofs.source.lent_codes.Given as goal
 
 abbrev pub invariant-codes : goal.invariant-codes

@@ -1,7 +1,5 @@
 use Rattle.std.proofs.Common.{◌≡◌, ◌+◌, ◌≤◌, drop}
-use Rattle.t1_font.specs.FontValue.{total}
-use Rattle.t1_font.specs.FontModel.{clamp}
-use Rattle.t1_font.specs.Ranges.{subr_at_weight}
+use Rattle.t1_font.specs.{FontValue.{total}, FontModel.{clamp}, Ranges.{subr_at_weight}}
 use Rattle.t1_font.proofs.source.subrs_weight.Given as goal
 
 abbrev pub invariant-subrs : goal.invariant-subrs

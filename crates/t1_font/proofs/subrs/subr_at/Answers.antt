@@ -1,6 +1,5 @@
 use Rattle.std.proofs.Common.{sym}
-use Rattle.t1_font.specs.Subrs.{subr_key}
-use Rattle.t1_font.proofs.PlaceLemmas.{behind_read}
+use Rattle.t1_font.{specs.Subrs.{subr_key}, proofs.PlaceLemmas.{behind_read}}
 use Rattle.t1_font.proofs.subrs.subr_at.Goals as goal
 
 pub returns-clause-body : goal.returns-clause-body

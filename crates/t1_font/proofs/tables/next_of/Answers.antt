@@ -1,6 +1,4 @@
-use Rattle.std.proofs.Common.{ap, sym, ◌∙◌}
-use Rattle.std.specs.FinMap.{entries}
-use Rattle.std.specs.Option.{option_map}
+use Rattle.std.{proofs.Common.{ap, sym, ◌∙◌}, specs.{FinMap.{entries}, Option.{option_map}}}
 use Rattle.t1_font.proofs.TablePasses.{second_alone, first_lower, second_lower}
 use Rattle.t1_font.proofs.tables.next_of.Goals as goal
 

@@ -1,8 +1,7 @@
-use Rattle.std.proofs.Common.{◌≡◌, ℕ, ◌+◌, ◌*◌, ◌<◌, ◌≤◌, ◌^◌, add-one, ◌∙◌, arith}
-use Rattle.std.proofs.Math.Nat.{pow-le-pow_right}
+use Rattle.std.proofs.{Common.{◌≡◌, ℕ, ◌+◌, ◌*◌, ◌<◌, ◌≤◌, ◌^◌, add-one, ◌∙◌, arith}, Math.Nat.{pow-le-pow_right}}
 use Rattle.t1_font.proofs.WordLemmas.{decimal_starts, decimal_more, decimal_empty, decimal_breaks}
-use Rattle.t1_font.proofs.words.decimal_at.Goals as goal
 use Rattle.t1_font.proofs.words.decimal_at.Goals.{then-count-eq0-via-then-count-eq0, then-count-eq0-via-else-count-eq0+then-regular_comes}
+use Rattle.t1_font.proofs.words.decimal_at.Goals as goal
 
 -- a number of fewer than 9 digits
 small : (value count : ℕ) → value < 10 ^ count → count ≤ 9 → (count ≡ 9 → ⊥) → value < 100_000_000

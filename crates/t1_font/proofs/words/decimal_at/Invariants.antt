@@ -1,6 +1,5 @@
 use Rattle.std.proofs.Common.{◌≡◌, ◌<◌, ◌≤◌, ◌^◌, length}
-use Rattle.t1_font.specs.Words.{decimal}
-use Rattle.t1_font.proofs.WordLemmas.{decimal_after}
+use Rattle.t1_font.{specs.Words.{decimal}, proofs.WordLemmas.{decimal_after}}
 use Rattle.t1_font.proofs.words.decimal_at.Given as goal
 
 abbrev pub invariant-digits : goal.invariant-digits

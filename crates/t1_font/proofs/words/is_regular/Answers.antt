@@ -1,6 +1,4 @@
-use Rattle.std.proofs.Common.{ℕ, List, ◌++◌, refl, nat_eq, slice_index_or}
-use Rattle.std.specs.Prelude.{codes}
-use Rattle.std.proofs.lemmas.Bool.{agree_below_at}
+use Rattle.std.{proofs.{Common.{ℕ, List, ◌++◌, refl, nat_eq, slice_index_or}, lemmas.Bool.{agree_below_at}}, specs.Prelude.{codes}}
 use Rattle.t1_font.specs.Words.{is_regular}
 use Rattle.t1_font.proofs.words.is_regular.Goals as goal
 

@@ -1,6 +1,6 @@
 use Rattle.std.proofs.Common.{◌≡◌, ◌++◌}
-use Rattle.std.specs.FinMap as fin
 use Rattle.t1_font.specs.Writing.{puts_text}
+use Rattle.std.specs.FinMap as fin
 use Rattle.t1_font.proofs.writing.put_codes.Given as goal
 
 abbrev pub invariant-codes : goal.invariant-codes

@@ -1,9 +1,5 @@
-use Rattle.std.proofs.Common.{◌++◌, sym, ap, ◌∙◌}
-use Rattle.std.specs.FinMap.{entries}
-use Rattle.t1_font.specs.Writing.{puts_text, encoding_text}
-use Rattle.t1_font.specs.Canon.{encoding_pieces}
-use Rattle.t1_font.specs.FontModel.{encoding_of}
-use Rattle.t1_font.proofs.Lengths.{three_put}
+use Rattle.std.{proofs.Common.{◌++◌, sym, ap, ◌∙◌}, specs.FinMap.{entries}}
+use Rattle.t1_font.{specs.{Writing.{puts_text, encoding_text}, Canon.{encoding_pieces}, FontModel.{encoding_of}}, proofs.Lengths.{three_put}}
 use Rattle.t1_font.proofs.writing.put_encoding.Goals as goal
 
 pub returns-in_ok-put_codes-in-Codes : goal.returns-in_ok-put_codes-in-Codes

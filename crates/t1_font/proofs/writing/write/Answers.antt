@@ -1,12 +1,7 @@
 use Rattle.std.proofs.Common.{◌≤◌, List, ℕ, length, sym, ap, subst, ◌∙◌}
-use Rattle.t1_font.specs.FontValue.{FontValue}
+use Rattle.t1_font.specs.{FontValue.{FontValue}, IsFont.{IsFont}, Canon.{canon}, ReadFont.{read_font}}
+use Rattle.t1_font.proofs.{canonical.RoundTrip.{round_trip}, canonical.LengthLemmas.{canon_short}, canonical.WriteAnswers.{clear_fits, cipher_fits}}
 use Rattle.t1_bytes.specs.Limits.{file_limit}
-use Rattle.t1_font.specs.IsFont.{IsFont}
-use Rattle.t1_font.specs.Canon.{canon}
-use Rattle.t1_font.specs.ReadFont.{read_font}
-use Rattle.t1_font.proofs.canonical.RoundTrip.{round_trip}
-use Rattle.t1_font.proofs.canonical.LengthLemmas.{canon_short}
-use Rattle.t1_font.proofs.canonical.WriteAnswers.{clear_fits, cipher_fits}
 use Rattle.t1_font.proofs.writing.write.Goals as goal
 
 pub canonical-requires-clause-clear : goal.canonical-requires-clause-clear

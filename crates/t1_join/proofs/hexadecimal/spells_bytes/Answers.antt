@@ -1,5 +1,4 @@
-use Rattle.std.proofs.Common.{sym, ◌∙◌, length, arith}
-use Rattle.std.proofs.lemmas.Bool.{le-leb}
+use Rattle.std.proofs.{Common.{sym, ◌∙◌, length, arith}, lemmas.Bool.{le-leb}}
 use Rattle.t1_join.proofs.Hexadecimals.{digits_spell}
 use Rattle.t1_join.proofs.hexadecimal.spells_bytes.Goals as goal
 

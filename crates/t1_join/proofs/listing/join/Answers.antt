@@ -1,7 +1,5 @@
 use Rattle.std.proofs.Common.{subst}
-use Rattle.t1_join.specs.ListingMeaning.{ListingMeaning}
-use Rattle.t1_join.specs.ListingJoin.{IsJoined}
-use Rattle.t1_join.proofs.ListingLemmas.{both_listed}
+use Rattle.t1_join.{specs.{ListingMeaning.{ListingMeaning}, ListingJoin.{IsJoined}}, proofs.ListingLemmas.{both_listed}}
 use Rattle.t1_join.proofs.listing.join.Goals as goal
 
 pub invariant_of-result : goal.invariant_of-result

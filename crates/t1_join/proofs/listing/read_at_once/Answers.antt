@@ -1,6 +1,5 @@
 use Rattle.std.proofs.Common.{rules, sym, ap, ◌∙◌, ◌==◌, true≢false, arith}
-use Rattle.t1_join.specs.LineMeaning.{line_entry}
-use Rattle.t1_join.proofs.AtOnce.{gathering_starts, gathered_shorter, gathered_next, gathered_bad, gathered_cut, gathered_repeats, gathered_listed, gathering_ends}
+use Rattle.t1_join.{specs.LineMeaning.{line_entry}, proofs.AtOnce.{gathering_starts, gathered_shorter, gathered_next, gathered_bad, gathered_cut, gathered_repeats, gathered_listed, gathering_ends}}
 use Rattle.t1_join.proofs.listing.read_at_once.Goals as goal
 
 pub loop-front-init : goal.loop-front-init

@@ -1,7 +1,5 @@
 use Rattle.std.proofs.Common.{sym, ◌∙◌, ap, inr, arith, true≢false, ◌==◌}
-use Rattle.t1_join.specs.LineMeaning.{line_entry}
-use Rattle.t1_join.proofs.ListingLemmas.{entry_fits}
-use Rattle.t1_join.proofs.ReadLemmas.{bad_line, repeated, next, back_shorter, no_line_feed}
+use Rattle.t1_join.{specs.LineMeaning.{line_entry}, proofs.{ListingLemmas.{entry_fits}, ReadLemmas.{bad_line, repeated, next, back_shorter, no_line_feed}}}
 use Rattle.t1_join.proofs.listing.read_in_turn.Goals as goal
 
 pub returns-in_default-read_line : goal.returns-in_default-read_line

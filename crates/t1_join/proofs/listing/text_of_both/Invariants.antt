@@ -1,8 +1,6 @@
-use Rattle.std.proofs.Common.{◌≡◌, ◌++◌}
-use Rattle.std.specs.Prelude.{flat_map}
+use Rattle.std.{proofs.Common.{◌≡◌, ◌++◌}, specs.Prelude.{flat_map}}
+use Rattle.t1_join.specs.{ListingText.{subr_line, glyph_line, text_of}, ListingJoin.{joined_listing}}
 use Rattle.std.specs.FinMap as fin
-use Rattle.t1_join.specs.ListingText.{subr_line, glyph_line, text_of}
-use Rattle.t1_join.specs.ListingJoin.{joined_listing}
 use Rattle.t1_join.proofs.listing.text_of_both.Given as goal
 
 abbrev pub invariant-loop-index : goal.invariant-loop-index

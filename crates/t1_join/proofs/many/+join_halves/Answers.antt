@@ -1,5 +1,4 @@
-use Rattle.std.proofs.Common.{◌++◌, ◌∙◌, arith}
-use Rattle.std.proofs.lemmas.List.{take-append-drop}
+use Rattle.std.proofs.{Common.{◌++◌, ◌∙◌, arith}, lemmas.List.{take-append-drop}}
 use Rattle.t1_join.proofs.FrontLemmas.{joined_itself, front_refused, back_refused, halves_joined, pair_joined}
 use Rattle.t1_join.proofs.many.+join_halves.Goals as goal
 

@@ -1,8 +1,5 @@
-use Rattle.std.proofs.Common.{◌++◌, ◌∙◌, sym, subst, refl, [], ◌∷◌, map, take_all, IfOk, Some, option_map, arith}
-use Rattle.std.proofs.lemmas.List.{take-append-drop}
-use Rattle.t1_join.specs.Groupings.{IsJoinOf}
-use Rattle.t1_join.proofs.OrderLemmas.{only_itself}
-use Rattle.t1_join.proofs.FrontLemmas.{joined_itself, joined_more, at_back, both_taken, front_joined, front_apart}
+use Rattle.std.proofs.{Common.{◌++◌, ◌∙◌, sym, subst, refl, [], ◌∷◌, map, take_all, IfOk, Some, option_map, arith}, lemmas.List.{take-append-drop}}
+use Rattle.t1_join.{specs.Groupings.{IsJoinOf}, proofs.{OrderLemmas.{only_itself}, FrontLemmas.{joined_itself, joined_more, at_back, both_taken, front_joined, front_apart}}}
 use Rattle.t1_join.proofs.many.+join_on.Goals as goal
 
 pub returns-in-Some-clause-joined : goal.returns-in-Some-clause-joined

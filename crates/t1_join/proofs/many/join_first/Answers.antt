@@ -1,7 +1,5 @@
-use Rattle.std.proofs.Common.{◌++◌, ◌∙◌, subst, [], map, take, Some, ℕ, arith}
-use Rattle.std.proofs.lemmas.List.{take-append-drop}
-use Rattle.t1_join.specs.Groupings.{IsJoinOf}
-use Rattle.t1_join.proofs.FrontLemmas.{joined_itself, both_taken}
+use Rattle.std.proofs.{Common.{◌++◌, ◌∙◌, subst, [], map, take, Some, ℕ, arith}, lemmas.List.{take-append-drop}}
+use Rattle.t1_join.{specs.Groupings.{IsJoinOf}, proofs.FrontLemmas.{joined_itself, both_taken}}
 use Rattle.t1_join.proofs.many.join_first.Goals as goal
 
 pub join-requires : goal.join-requires

@@ -1,9 +1,7 @@
 use Rattle.std.proofs.Common.{arith, sym, length, ◌≤◌, ◌⊎◌, inl, inr}
-use Rattle.t1_join.specs.Meaning.{meaning_cmp, same_meaning}
-use Rattle.t1_join.specs.TableMeaning.{pair_meaning}
-use Rattle.t1_join.proofs.Conflicts.{meets_nothing}
+use Rattle.t1_join.specs.{Meaning.{meaning_cmp, same_meaning}, TableMeaning.{pair_meaning}}
+use Rattle.t1_join.proofs.{Conflicts.{meets_nothing}, tables.first_conflict.Goals.{then-pass-test+else-j-second, else-pass-test}}
 use Rattle.t1_join.proofs.tables.first_conflict.Goals as goal
-use Rattle.t1_join.proofs.tables.first_conflict.Goals.{then-pass-test+else-j-second, else-pass-test}
 
 pub returns : goal.returns
 returns g c =

@@ -1,7 +1,5 @@
 use Rattle.std.proofs.Common.{◌+◌, ◌-◌, ◌≤◌, length}
-use Rattle.t1_join.specs.Meaning.{meaning_cmp, same_meaning}
-use Rattle.t1_join.specs.TableMeaning.{pair_meaning}
-use Rattle.t1_join.proofs.Conflicts.{Meeting}
+use Rattle.t1_join.{specs.{Meaning.{meaning_cmp, same_meaning}, TableMeaning.{pair_meaning}}, proofs.Conflicts.{Meeting}}
 use Rattle.t1_join.proofs.tables.first_conflict.Given as goal
 
 abbrev pub invariant-pass : goal.invariant-pass

@@ -1,5 +1,4 @@
-use Rattle.std.proofs.Common.{rules}
-use Rattle.std.proofs.lemmas.Fn.{always_returns_same}
+use Rattle.std.proofs.{Common.{rules}, lemmas.Fn.{always_returns_same}}
 use Rattle.t1_join.proofs.AnyOrder.{rise_from_neighbours, neighbours_rise, is_less}
 use Rattle.t1_join.proofs.tables.keys_rise.Goals as goal
 

@@ -1,9 +1,6 @@
 use Rattle.std.proofs.Common.{arith, inl, inr, length, ◌≤◌, ◌⊎◌}
-use Rattle.t1_join.specs.Meaning.{meaning_cmp}
-use Rattle.t1_join.specs.TableMeaning.{pair_meaning}
-use Rattle.t1_join.proofs.Merges.{ended_by_copies}
+use Rattle.t1_join.{specs.{Meaning.{meaning_cmp}, TableMeaning.{pair_meaning}}, proofs.{Merges.{ended_by_copies}, tables.merge_entries.Goals.{then-pass-test+else-j-second, else-pass-test}}}
 use Rattle.t1_join.proofs.tables.merge_entries.Goals as goal
-use Rattle.t1_join.proofs.tables.merge_entries.Goals.{then-pass-test+else-j-second, else-pass-test}
 
 pub returns : goal.returns
 returns g c =

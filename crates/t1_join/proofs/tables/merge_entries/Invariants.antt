@@ -1,7 +1,5 @@
 use Rattle.std.proofs.Common.{◌+◌, ◌-◌, ◌≤◌, length}
-use Rattle.t1_join.specs.Meaning.{meaning_cmp}
-use Rattle.t1_join.specs.TableMeaning.{pair_meaning}
-use Rattle.t1_join.proofs.Merges.{Merging}
+use Rattle.t1_join.{specs.{Meaning.{meaning_cmp}, TableMeaning.{pair_meaning}}, proofs.Merges.{Merging}}
 use Rattle.t1_join.proofs.tables.merge_entries.Given as goal
 
 abbrev pub invariant-pass : goal.invariant-pass

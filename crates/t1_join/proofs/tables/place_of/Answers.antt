@@ -1,6 +1,4 @@
-use Rattle.std.proofs.Common.{◌≡◌, true, rules, refl, ap, sym, ◌∙◌, length, arith, is_lt, Ordering, Less, Equal, Greater}
-use Rattle.std.proofs.lemmas.Fn.{always_returns_same}
-use Rattle.std.proofs.lemmas.List.{get_or_default}
+use Rattle.std.proofs.{Common.{◌≡◌, true, rules, refl, ap, sym, ◌∙◌, length, arith, is_lt, Ordering, Less, Equal, Greater}, lemmas.Fn.{always_returns_same}, lemmas.List.{get_or_default}}
 use Rattle.t1_join.proofs.Searches.{behind_all}
 use Rattle.t1_join.proofs.tables.place_of.Goals as goal
 

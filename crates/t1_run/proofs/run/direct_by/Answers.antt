@@ -1,5 +1,4 @@
-use Rattle.t1_run.specs.Run.{run_glyph}
-use Rattle.t1_run.proofs.Endings.{answered, answered_within}
+use Rattle.t1_run.{specs.Run.{run_glyph}, proofs.Endings.{answered, answered_within}}
 use Rattle.t1_run.proofs.run.direct_by.Goals as goal
 
 pub returns-clause-answer : goal.returns-clause-answer

@@ -1,12 +1,9 @@
 use Rattle.std.proofs.Common.{rules, refl, sym, ap, List, [], ◌∷◌, ◌++◌}
-use Rattle.t1_run.specs.declared.frames.Frame.{Frame}
+use Rattle.t1_run.specs.{declared.frames.Frame.{Frame}, declared.answer.Mark.{Mark}, Pens.{Draws}}
+use Rattle.t1_run.proofs.{Pages.{draws_more}, Between.{at_start, fewer, out, out_one, goes, ends_so, ends_one, back, last, last_one, fails_so, fails_one, calls, spent_as}}
 use Rattle.t1_run.specs.declared.run.Halt.TheVariants as halt
-use Rattle.t1_run.specs.declared.answer.Mark.{Mark}
 use Rattle.t1_run.specs.declared.answer.Mark.TheVariants as mark
 use Rattle.t1_run.specs.declared.machine.Flow.TheVariants as flow
-use Rattle.t1_run.specs.Pens.{Draws}
-use Rattle.t1_run.proofs.Pages.{draws_more}
-use Rattle.t1_run.proofs.Between.{at_start, fewer, out, out_one, goes, ends_so, ends_one, back, last, last_one, fails_so, fails_one, calls, spent_as}
 use Rattle.t1_run.proofs.run.run.Goals as goal
 
 pub turns-init : goal.turns-init

@@ -1,6 +1,5 @@
 use Rattle.std.proofs.Common.{◌∷◌, ◌++◌, []}
-use Rattle.t1_run.specs.Pens.{Draws}
-use Rattle.t1_run.proofs.Between.{Between}
+use Rattle.t1_run.{specs.Pens.{Draws}, proofs.Between.{Between}}
 use Rattle.t1_run.proofs.run.run.Given as goal
 
 abbrev pub decreases-turns : goal.decreases-turns

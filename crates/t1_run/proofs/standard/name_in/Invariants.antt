@@ -1,6 +1,5 @@
 use Rattle.std.proofs.Common.{◌≡◌, map, drop}
-use Rattle.t1_run.specs.Standard.{named_in}
-use Rattle.t1_run.proofs.StandardNames.{run_of}
+use Rattle.t1_run.{specs.Standard.{named_in}, proofs.StandardNames.{run_of}}
 use Rattle.t1_run.proofs.standard.name_in.Given as goal
 
 -- No run that was passed has a name for the code.

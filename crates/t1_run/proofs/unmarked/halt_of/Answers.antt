@@ -1,6 +1,5 @@
 use Rattle.std.proofs.lemmas.Result.{IfOk-weaker}
-use Rattle.t1_run.specs.Run.{run_glyph}
-use Rattle.t1_run.proofs.Endings.{named}
+use Rattle.t1_run.{specs.Run.{run_glyph}, proofs.Endings.{named}}
 use Rattle.t1_run.proofs.unmarked.halt_of.Goals as goal
 
 pub returns-clause-parts : goal.returns-clause-parts

@@ -1,6 +1,5 @@
 use Rattle.std.specs.FinMap as maps
-use Rattle.std.proofs.lemmas.Result.{on_ok_weaker}
-use Rattle.std.specs.Cmp.Lexicographic.{nat_list_cmp_total}
+use Rattle.std.{proofs.lemmas.Result.{on_ok_weaker}, specs.Cmp.Lexicographic.{nat_list_cmp_total}}
 use Rattle.t1_algebra.proofs.Sets.{name_same, tied, cases}
 use Rattle.t1_subset.proofs.callers.note_seeker.Goals as goal
 

@@ -1,8 +1,7 @@
-use Rattle.std.proofs.Common.{◌≡◌, ℕ, List, not, ◌&&◌, drop, cond, Some, None}
-use Rattle.std.specs.List.{list_any}
-use Rattle.std.specs.FinMap as maps
+use Rattle.std.{proofs.Common.{◌≡◌, ℕ, List, not, ◌&&◌, drop, cond, Some, None}, specs.List.{list_any}}
 use Rattle.t1_algebra.specs.{Interpreter.{same_bytes}, Keep.{has}, States.{joined_option}}
 use Rattle.t1_subset.specs.NameSets.{lent}
+use Rattle.std.specs.FinMap as maps
 use Rattle.t1_subset.proofs.callers.note_seekers.Given as goal
 
 abbrev pub invariant-components : goal.invariant-components

@@ -1,5 +1,4 @@
-use Rattle.std.proofs.Common.{◌≡◌, drop, None}
-use Rattle.std.specs.Option.{option_map}
+use Rattle.std.{proofs.Common.{◌≡◌, drop, None}, specs.Option.{option_map}}
 use Rattle.t1_subset.specs.Callers.{user_from}
 use Rattle.t1_subset.proofs.callers.user.Given as goal
 

@@ -1,8 +1,8 @@
 use Rattle.std.proofs.Common.{◌∙◌, ap, sym}
-use Rattle.std.specs.FinSet as sets
 use Rattle.t1_font.specs.FontModel.{subr_at}
 use Rattle.t1_algebra.specs.Profile.{set_of}
 use Rattle.t1_subset.proofs.{closing.Runs.{calls_are}, closing.NumberSets.{of_executed}}
+use Rattle.std.specs.FinSet as sets
 use Rattle.t1_subset.proofs.calls.run_of.Goals as goal
 
 pub returns-in_ok-names-in-Some-clause-calls : goal.returns-in_ok-names-in-Some-clause-calls

@@ -1,6 +1,5 @@
 use Rattle.std.proofs.Common.{sym}
-use Rattle.t1_subset.specs.NameSets.{lent}
-use Rattle.t1_subset.proofs.closing.Closures.{none_absent}
+use Rattle.t1_subset.{specs.NameSets.{lent}, proofs.closing.Closures.{none_absent}}
 use Rattle.t1_subset.proofs.closures.closure.Goals as goal
 
 pub closure_of-requires : goal.closure_of-requires

@@ -1,5 +1,4 @@
-use Rattle.std.proofs.Common.{◌≡◌, drop, not}
-use Rattle.std.specs.List.{find}
+use Rattle.std.{proofs.Common.{◌≡◌, drop, not}, specs.List.{find}}
 use Rattle.t1_algebra.specs.Keep.{has}
 use Rattle.t1_subset.specs.NameSets.{lent}
 use Rattle.t1_subset.proofs.closures.first_absent.Given as goal

@@ -1,7 +1,6 @@
 use Rattle.std.proofs.Common.{arith, ◌≡◌, ◌+◌, ◌-◌, ◌∷◌, [], suc, cond, not, map, ap, subst}
 use Rattle.t1_algebra.specs.Conflicts.{CodeDiffers, agrees, code_clashes}
-use Rattle.t1_subset.specs.Refusals.{Adds}
-use Rattle.t1_subset.proofs.{Telling.{adding_next, adding_ends, each_told}, state_tables.Sides.{code_seen, codes_passing}, state_tables.PassingKeys.{numbers_from}}
+use Rattle.t1_subset.{specs.Refusals.{Adds}, proofs.{Telling.{adding_next, adding_ends, each_told}, state_tables.Sides.{code_seen, codes_passing}, state_tables.PassingKeys.{numbers_from}}}
 use Rattle.t1_subset.proofs.differences.add_codes.Goals as goal
 
 pub codes-preserved : goal.codes-preserved

@@ -1,9 +1,6 @@
-use Rattle.std.proofs.Common.{[], subst, unwrap_or, Some, None}
-use Rattle.std.proofs.lemmas.Result.{on_ok_weaker}
-use Rattle.t1_algebra.specs.Conflicts.{LacksComponent}
-use Rattle.t1_algebra.proofs.Sets.{cases}
-use Rattle.t1_subset.specs.Refusals.{Tells}
-use Rattle.t1_subset.proofs.{Telling.{adds_passing, adds_failing}, state_tables.Sides.{component_is, seeker_is}}
+use Rattle.std.proofs.{Common.{[], subst, unwrap_or, Some, None}, lemmas.Result.{on_ok_weaker}}
+use Rattle.t1_algebra.{specs.Conflicts.{LacksComponent}, proofs.Sets.{cases}}
+use Rattle.t1_subset.{specs.Refusals.{Tells}, proofs.{Telling.{adds_passing, adds_failing}, state_tables.Sides.{component_is, seeker_is}}}
 use Rattle.t1_subset.proofs.differences.add_component.Goals as goal
 
 pub returns-in-Some : goal.returns-in-Some

@@ -1,8 +1,7 @@
 use Rattle.std.proofs.Common.{rules, ◌≡◌, List, ◌∷◌, map, sym, ap, subst}
 use Rattle.t1_join.specs.Meaning.{Meaning}
 use Rattle.t1_algebra.specs.{Profile.{profile}, Conflicts.{lacks_component, component_clashes}}
-use Rattle.t1_subset.specs.Refusals.{Adds}
-use Rattle.t1_subset.proofs.{Telling.{adding_next, adding_ends, each_told}, state_tables.Sides.{components_passing}}
+use Rattle.t1_subset.{specs.Refusals.{Adds}, proofs.{Telling.{adding_next, adding_ends, each_told}, state_tables.Sides.{components_passing}}}
 use Rattle.t1_subset.proofs.differences.add_components.Goals as goal
 
 pub sought-preserved : goal.sought-preserved

@@ -1,9 +1,9 @@
 use Rattle.std.proofs.Common.{ℕ, List, map}
-use Rattle.std.specs.FinMap as maps
 use Rattle.t1_join.specs.TableMeaning.{joined_table}
 use Rattle.t1_font.specs.FontValue.{FontValue}
 use Rattle.t1_algebra.specs.{Profile.{profile}, Conflicts.{Conflict, lacks_component, component_clashes}}
 use Rattle.t1_subset.proofs.Telling.{Adding, each_told}
+use Rattle.std.specs.FinMap as maps
 use Rattle.t1_subset.proofs.differences.add_components.Given as goal
 
 -- the conflicts of the components of these that clash

@@ -1,9 +1,6 @@
-use Rattle.std.proofs.Common.{◌∷◌, not, map, drop, get_or, ◌+◌, ap, sym, add-one, ◌∙◌}
-use Rattle.std.proofs.Math.Seq.{drop-cons}
+use Rattle.std.proofs.{Common.{◌∷◌, not, map, drop, get_or, ◌+◌, ap, sym, add-one, ◌∙◌}, Math.Seq.{drop-cons}}
 use Rattle.t1_algebra.specs.{Shared.{same_part}, Conflicts.{ShellDiffers}}
-use Rattle.t1_subset.specs.Differences.{shell_part}
-use Rattle.t1_subset.specs.declared.conflict.ShellPart.TheVariants.{Head}
-use Rattle.t1_subset.proofs.Telling.{adding_next}
+use Rattle.t1_subset.{specs.{Differences.{shell_part}, declared.conflict.ShellPart.TheVariants.{Head}}, proofs.Telling.{adding_next}}
 use Rattle.t1_subset.proofs.differences.add_parts.Goals as goal
 
 pub parts-preserved : goal.parts-preserved

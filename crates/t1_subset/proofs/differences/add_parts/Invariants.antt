@@ -1,7 +1,6 @@
 use Rattle.std.proofs.Common.{not, map, drop}
 use Rattle.t1_algebra.specs.{Shared.{same_part}, Conflicts.{ShellDiffers}}
-use Rattle.t1_subset.specs.Differences.{shell_part}
-use Rattle.t1_subset.proofs.Telling.{Adding, each_told}
+use Rattle.t1_subset.{specs.Differences.{shell_part}, proofs.Telling.{Adding, each_told}}
 use Rattle.t1_subset.proofs.differences.add_parts.Given as goal
 
 abbrev pub invariant-parts : goal.invariant-parts

@@ -1,8 +1,6 @@
-use Rattle.std.proofs.Common.{sym, ◌∙◌, not, subst, Some}
-use Rattle.std.proofs.lemmas.Result.{on_ok_weaker}
+use Rattle.std.proofs.{Common.{sym, ◌∙◌, not, subst, Some}, lemmas.Result.{on_ok_weaker}}
 use Rattle.t1_algebra.specs.Conflicts.{agrees}
-use Rattle.t1_subset.specs.Refusals.{Tells}
-use Rattle.t1_subset.proofs.{Telling.{adds_passing, adds_failing}, state_tables.Sides.{subr_seen, user_is}}
+use Rattle.t1_subset.{specs.Refusals.{Tells}, proofs.{Telling.{adds_passing, adds_failing}, state_tables.Sides.{subr_seen, user_is}}}
 use Rattle.t1_subset.proofs.differences.add_subr.Goals as goal
 
 pub returns-then-not-clash_at : goal.returns-then-not-clash_at

@@ -1,7 +1,6 @@
 use Rattle.std.proofs.Common.{rules, ◌≡◌, ℕ, List, ◌∷◌, map, sym, ap, subst}
 use Rattle.t1_algebra.specs.{Profile.{profile}, Conflicts.{subr_differs, subr_clashes}}
-use Rattle.t1_subset.specs.Refusals.{Adds}
-use Rattle.t1_subset.proofs.{Telling.{adding_next, adding_ends, each_told}, state_tables.Sides.{subrs_passing}}
+use Rattle.t1_subset.{specs.Refusals.{Adds}, proofs.{Telling.{adding_next, adding_ends, each_told}, state_tables.Sides.{subrs_passing}}}
 use Rattle.t1_subset.proofs.differences.add_subrs.Goals as goal
 
 pub indices-preserved : goal.indices-preserved

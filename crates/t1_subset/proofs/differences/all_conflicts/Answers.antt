@@ -1,7 +1,5 @@
 use Rattle.std.proofs.Common.{[], ◌∷◌, ◌++◌, ◌∙◌, ap, sym, subst, List, true≢false}
-use Rattle.t1_subset.specs.declared.conflict.Conflict.{Conflict as Refusal}
-use Rattle.t1_subset.specs.declared.conflict.Conflict.TheVariants.{Limit}
-use Rattle.t1_subset.specs.Refusals.{TellEach}
+use Rattle.t1_subset.specs.{declared.conflict.Conflict.{Conflict as Refusal}, declared.conflict.Conflict.TheVariants.{Limit}, Refusals.{TellEach}}
 use Rattle.t1_subset.proofs.{Telling.{tells_none, tells_limit}, state_tables.Sides.{some_are_all, agreeing_have_none, limits_are_all}}
 use Rattle.t1_subset.proofs.differences.all_conflicts.Goals as goal
 

@@ -1,8 +1,6 @@
-use Rattle.std.proofs.Common.{subst}
-use Rattle.std.proofs.lemmas.Result.{IfOk-weaker}
+use Rattle.std.proofs.{Common.{subst}, lemmas.Result.{IfOk-weaker}}
 use Rattle.t1_algebra.specs.{Profile.{profile}, Conflicts.{conflicts}}
-use Rattle.t1_subset.specs.Refusals.{TellEach}
-use Rattle.t1_subset.proofs.{state_tables.Sides.{none_or_join}}
+use Rattle.t1_subset.{specs.Refusals.{TellEach}, proofs.state_tables.Sides.{none_or_join}}
 use Rattle.t1_subset.proofs.differences.conflicts.Goals as goal
 
 pub returns-clause-all : goal.returns-clause-all

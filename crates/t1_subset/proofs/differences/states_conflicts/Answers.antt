@@ -1,8 +1,6 @@
 use Rattle.std.proofs.Common.{[], List, map, filter, not, ap, sym, subst, ◌∙◌}
 use Rattle.t1_algebra.specs.{StateTables.{StatesValue}, Conflicts.{ShellDiffers}, Shared.{same_part, all_parts}}
-use Rattle.t1_subset.specs.declared.conflict.Conflict.{Conflict as Refusal}
-use Rattle.t1_subset.specs.Refusals.{TellEach, Adds}
-use Rattle.t1_subset.proofs.Telling.{adds_both}
+use Rattle.t1_subset.{specs.{declared.conflict.Conflict.{Conflict as Refusal}, Refusals.{TellEach, Adds}}, proofs.Telling.{adds_both}}
 use Rattle.t1_subset.proofs.differences.states_conflicts.Goals as goal
 
 pub returns : goal.returns

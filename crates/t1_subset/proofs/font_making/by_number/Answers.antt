@@ -1,7 +1,6 @@
 use Rattle.std.proofs.Common.{ap, ◌∙◌, map}
 use Rattle.t1_font.specs.Lent.{lent_number}
-use Rattle.t1_algebra.specs.StateTables.{numbered}
-use Rattle.t1_algebra.proofs.Tables.{keyed_lent, numbers_rise, numbers_again}
+use Rattle.t1_algebra.{specs.StateTables.{numbered}, proofs.Tables.{keyed_lent, numbers_rise, numbers_again}}
 use Rattle.t1_subset.proofs.font_making.by_number.Goals as goal
 
 pub made-requires : goal.made-requires

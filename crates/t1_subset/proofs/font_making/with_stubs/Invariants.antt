@@ -1,8 +1,7 @@
 use Rattle.std.proofs.Common.{◌≡◌, ◌++◌, map}
-use Rattle.std.specs.FinMap as fin
-use Rattle.t1_font.specs.Lent.{lent_number}
-use Rattle.t1_font.specs.Maps.{map_values}
+use Rattle.t1_font.specs.{Lent.{lent_number}, Maps.{map_values}}
 use Rattle.t1_algebra.specs.StateTables.{state_or_stub}
+use Rattle.std.specs.FinMap as fin
 use Rattle.t1_subset.proofs.font_making.with_stubs.Given as goal
 
 abbrev pub invariant-present : goal.invariant-present

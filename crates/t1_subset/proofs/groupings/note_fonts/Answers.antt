@@ -1,7 +1,6 @@
 use Rattle.std.proofs.Common.{◌∙◌, ap, map, sym, subst, take_all}
 use Rattle.t1_algebra.specs.{Profile.{profile}, StateTables.{states_of}}
-use Rattle.t1_subset.specs.Callers.{AreNoted, fonts_of}
-use Rattle.t1_subset.proofs.state_tables.Walks.{noted_more, shown, shown_more}
+use Rattle.t1_subset.{specs.Callers.{AreNoted, fonts_of}, proofs.state_tables.Walks.{noted_more, shown, shown_more}}
 use Rattle.t1_subset.proofs.groupings.note_fonts.Goals as goal
 
 pub fonts-init : goal.fonts-init

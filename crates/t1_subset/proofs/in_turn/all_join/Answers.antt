@@ -1,5 +1,4 @@
-use Rattle.std.proofs.Common.{List, map, Some, subst, refl, sym, ◌∙◌, ap, take_all}
-use Rattle.std.proofs.lemmas.Option.{slice_get-get_or}
+use Rattle.std.proofs.{Common.{List, map, Some, subst, refl, sym, ◌∙◌, ap, take_all}, lemmas.Option.{slice_get-get_or}}
 use Rattle.t1_join.specs.Groupings.{IsJoinOf}
 use Rattle.t1_algebra.specs.StateTables.{StatesValue, FontStatesJoin}
 use Rattle.t1_subset.proofs.state_tables.StateTrees.{joined_come, refused_next}

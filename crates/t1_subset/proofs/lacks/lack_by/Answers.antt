@@ -1,7 +1,6 @@
 use Rattle.std.proofs.Common.{◌<◌, ◌∙◌, sym, subst, ℕ}
 use Rattle.t1_algebra.specs.Lacks.{lack_at}
-use Rattle.t1_subset.specs.Lacks.{lack_view}
-use Rattle.t1_subset.proofs.Lacking.{shown_there}
+use Rattle.t1_subset.{specs.Lacks.{lack_view}, proofs.Lacking.{shown_there}}
 use Rattle.t1_subset.proofs.lacks.lack_by.Goals as goal
 
 pub returns-then-is_some : goal.returns-then-is_some

@@ -1,5 +1,4 @@
-use Rattle.t1_algebra.specs.Profile.{profile}
-use Rattle.t1_algebra.proofs.Subsets.{bottom, sought_lacks}
+use Rattle.t1_algebra.{specs.Profile.{profile}, proofs.Subsets.{bottom, sought_lacks}}
 use Rattle.t1_subset.proofs.laws.bottom.Goals as goal
 
 pub returns : goal.returns

@@ -1,5 +1,4 @@
-use Rattle.t1_algebra.specs.Profile.{profile}
-use Rattle.t1_algebra.proofs.Kept.{keep_has, keep_closed, keep_least}
+use Rattle.t1_algebra.{specs.Profile.{profile}, proofs.Kept.{keep_has, keep_closed, keep_least}}
 use Rattle.t1_subset.proofs.laws.keep_is_least.Goals as goal
 
 pub returns : goal.returns

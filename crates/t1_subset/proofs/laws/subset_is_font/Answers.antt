@@ -1,5 +1,4 @@
-use Rattle.t1_algebra.specs.Profile.{profile}
-use Rattle.t1_algebra.proofs.{Fonts.{subset_is_font}, Subsets.{subset_weight}}
+use Rattle.t1_algebra.{specs.Profile.{profile}, proofs.{Fonts.{subset_is_font}, Subsets.{subset_weight}}}
 use Rattle.t1_subset.proofs.laws.subset_is_font.Goals as goal
 
 pub returns : goal.returns

@@ -1,9 +1,7 @@
 use Rattle.std.proofs.Common.{ap, ◌∙◌, subst, List, IfOk, IfErr}
 use Rattle.t1_font.specs.FontValue.{FontValue}
 use Rattle.t1_algebra.specs.Merges.{ComesTo}
-use Rattle.t1_subset.specs.Merger.{NotMerged}
-use Rattle.t1_subset.proofs.Answered.{in_any_order, none_in_any_order}
-use Rattle.t1_subset.proofs.state_tables.Walks.{shown}
+use Rattle.t1_subset.{specs.Merger.{NotMerged}, proofs.{Answered.{in_any_order, none_in_any_order}, state_tables.Walks.{shown}}}
 use Rattle.t1_subset.proofs.merger.merge_all.Goals as goal
 
 pub returns-then-is_empty-clause-any_order : goal.returns-then-is_empty-clause-any_order

@@ -1,7 +1,6 @@
 use Rattle.std.proofs.Common.{sym, subst, List}
 use Rattle.t1_algebra.specs.Merges.{ComesTo}
-use Rattle.t1_subset.specs.{Callers.{fonts_of, AreNoted}, declared.callers.Callers.{Callers}}
-use Rattle.t1_subset.proofs.state_tables.{Walks.{all_fonts}, StateTrees.{comes_to_font, states_come}}
+use Rattle.t1_subset.{specs.{Callers.{fonts_of, AreNoted}, declared.callers.Callers.{Callers}}, proofs.{state_tables.Walks.{all_fonts}, state_tables.StateTrees.{comes_to_font, states_come}}}
 use Rattle.t1_subset.proofs.merger.merge_noted.Goals as goal
 
 pub into_font-requires : goal.into_font-requires

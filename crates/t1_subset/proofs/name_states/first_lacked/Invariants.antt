@@ -1,8 +1,6 @@
-use Rattle.std.proofs.Common.{◌≡◌}
-use Rattle.std.specs.Option.{option_map}
-use Rattle.std.specs.FinMap as maps
-use Rattle.std.specs.List.{find}
+use Rattle.std.{proofs.Common.{◌≡◌}, specs.{Option.{option_map}, List.{find}}}
 use Rattle.t1_algebra.specs.NameStates.{lacks_in}
+use Rattle.std.specs.FinMap as maps
 use Rattle.t1_subset.proofs.name_states.first_lacked.Given as goal
 
 abbrev pub invariant-names : goal.invariant-names

@@ -1,9 +1,9 @@
 use Rattle.std.proofs.Common.{◌≡◌, ℕ, ◌+◌, take, List, [], Bor, map, filter, sym, ◌∙◌, ap, subst, arith, nat_cmp}
-use Rattle.std.specs.FinSet as sets
 use Rattle.t1_font.specs.FontValue.{notdef}
 use Rattle.t1_algebra.specs.{Keep.{has, charstring, components}, Profile.{profile, set_of}}
 use Rattle.t1_subset.specs.{ClosureNames.{push_new, push_all}, NameSets.{lent, asked}}
 use Rattle.t1_subset.proofs.{closing.Closures.{ClosureSoFar, closure_start, closure_step, place_below, all_front, got}, closing.NumberSets.{calls_to, calls_step}}
+use Rattle.std.specs.FinSet as sets
 use Rattle.t1_subset.proofs.needed.needed.Goals as goal
 
 pub closure-init : goal.closure-init

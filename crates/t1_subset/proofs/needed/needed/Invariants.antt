@@ -1,8 +1,7 @@
 use Rattle.std.proofs.Common.{◌≡◌, ◌-◌, take}
-use Rattle.std.specs.FinMap as maps
 use Rattle.t1_algebra.specs.Profile.{profile, set_of}
-use Rattle.t1_subset.specs.NameSets.{asked}
-use Rattle.t1_subset.proofs.{closing.Closures.{ClosureSoFar}, closing.NumberSets.{calls_to}}
+use Rattle.t1_subset.{specs.NameSets.{asked}, proofs.{closing.Closures.{ClosureSoFar}, closing.NumberSets.{calls_to}}}
+use Rattle.std.specs.FinMap as maps
 use Rattle.t1_subset.proofs.needed.needed.Given as goal
 
 abbrev pub invariant-closure : goal.invariant-closure

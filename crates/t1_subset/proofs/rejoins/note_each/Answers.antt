@@ -1,9 +1,6 @@
-use Rattle.std.proofs.Common.{◌≡◌, ◌<◌, ◌+◌, ◌++◌, ◌∷◌, [], ℕ, arith, List, take, length, get_or, sym, ap, ◌∙◌}
-use Rattle.std.proofs.lemmas.List.{length-map, take_more}
-use Rattle.t1_font.specs.FontValue.{FontValue}
-use Rattle.t1_font.specs.Evening.{filled, filled_all, indices_of_all}
-use Rattle.t1_subset.proofs.state_tables.Walks.{noted_more}
-use Rattle.t1_subset.proofs.Rejoining.{map_at, lack_behind, lack_first}
+use Rattle.std.proofs.{Common.{◌≡◌, ◌<◌, ◌+◌, ◌++◌, ◌∷◌, [], ℕ, arith, List, take, length, get_or, sym, ap, ◌∙◌}, lemmas.List.{length-map, take_more}}
+use Rattle.t1_font.specs.{FontValue.{FontValue}, Evening.{filled, filled_all, indices_of_all}}
+use Rattle.t1_subset.proofs.{state_tables.Walks.{noted_more}, Rejoining.{map_at, lack_behind, lack_first}}
 use Rattle.t1_subset.proofs.rejoins.note_each.Goals as goal
 
 -- there are as many fonts as filled ones

@@ -1,7 +1,6 @@
 use Rattle.std.proofs.Common.{[], refl, sym, ◌∙◌, ap, subst, unwrap_or, Some, None}
 use Rattle.t1_algebra.specs.{Conflicts.{LacksComponent, SubrDiffers}, StateTables.{code_part, subr_part}}
-use Rattle.t1_subset.specs.Refusals.{Tells}
-use Rattle.t1_subset.proofs.state_tables.Conflicts.{states_are, subr_clashing, glyph_found, component_found}
+use Rattle.t1_subset.{specs.Refusals.{Tells}, proofs.state_tables.Conflicts.{states_are, subr_clashing, glyph_found, component_found}}
 use Rattle.t1_subset.proofs.searches.tables_conflict.Goals as goal
 
 pub returns-in-Some-clause-err : goal.returns-in-Some-clause-err

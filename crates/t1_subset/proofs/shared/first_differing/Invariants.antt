@@ -1,5 +1,4 @@
-use Rattle.std.proofs.Common.{◌≡◌, drop, map, not}
-use Rattle.std.specs.List.{find}
+use Rattle.std.{proofs.Common.{◌≡◌, drop, map, not}, specs.List.{find}}
 use Rattle.t1_algebra.specs.Shared.{same_part}
 use Rattle.t1_subset.specs.Differences.{shell_part}
 use Rattle.t1_subset.proofs.shared.first_differing.Given as goal

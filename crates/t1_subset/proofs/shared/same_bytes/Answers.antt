@@ -1,5 +1,4 @@
-use Rattle.std.proofs.Common.{sym, ◌∙◌}
-use Rattle.std.proofs.lemmas.Map.Text.{is_eq-slice_cmp}
+use Rattle.std.proofs.{Common.{sym, ◌∙◌}, lemmas.Map.Text.{is_eq-slice_cmp}}
 use Rattle.t1_subset.proofs.shared.same_bytes.Goals as goal
 
 pub returns : goal.returns

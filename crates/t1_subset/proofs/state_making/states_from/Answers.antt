@@ -1,7 +1,5 @@
 use Rattle.std.proofs.Common.{sym, subst, ◌∙◌}
-use Rattle.t1_algebra.specs.Profile.{profile}
-use Rattle.t1_algebra.specs.StateTables.{StatesFit}
-use Rattle.t1_algebra.proofs.{Fonts.{font_within}, FontStates.{fits}}
+use Rattle.t1_algebra.{specs.{Profile.{profile}, StateTables.{StatesFit}}, proofs.{Fonts.{font_within}, FontStates.{fits}}}
 use Rattle.t1_subset.proofs.state_tables.FontUsers.{present_below}
 use Rattle.t1_subset.proofs.state_making.states_from.Goals as goal
 

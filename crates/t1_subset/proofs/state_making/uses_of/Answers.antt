@@ -1,12 +1,8 @@
-use Rattle.std.proofs.Common.{ℕ, List, Bor, map, not, ◌&&◌, cond, Some, None, ap, sym, ◌∙◌, refl}
-use Rattle.std.specs.List.{list_any}
+use Rattle.std.{proofs.{Common.{ℕ, List, Bor, map, not, ◌&&◌, cond, Some, None, ap, sym, ◌∙◌, refl}, lemmas.Map.Iter.{rest_more, rest_all}}, specs.List.{list_any}}
+use Rattle.t1_algebra.{specs.{Interpreter.{same_bytes}, Keep.{has}, Profile.{profile}, States.{joined_option, executes, executed_at, called_at}, Conflicts.{wants}}, proofs.Sets.{cases}}
+use Rattle.t1_subset.{specs.Users.{noted_at}, proofs.state_tables.FontCallers.{executes_so, calls_so, again_same, noting_starts, noting_again, noting_next, noting_ends}}
 use Rattle.std.specs.FinMap as maps
 use Rattle.std.specs.FinSet as sets
-use Rattle.std.proofs.lemmas.Map.Iter.{rest_more, rest_all}
-use Rattle.t1_algebra.specs.{Interpreter.{same_bytes}, Keep.{has}, Profile.{profile}, States.{joined_option, executes, executed_at, called_at}, Conflicts.{wants}}
-use Rattle.t1_algebra.proofs.Sets.{cases}
-use Rattle.t1_subset.specs.Users.{noted_at}
-use Rattle.t1_subset.proofs.state_tables.FontCallers.{executes_so, calls_so, again_same, noting_starts, noting_again, noting_next, noting_ends}
 use Rattle.t1_subset.proofs.state_making.uses_of.Goals as goal
 
 pub names-init : goal.names-init

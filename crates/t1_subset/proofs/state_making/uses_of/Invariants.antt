@@ -1,10 +1,7 @@
-use Rattle.std.proofs.Common.{ℕ, not, ◌&&◌, List}
-use Rattle.std.specs.Option.{option_map}
+use Rattle.std.{proofs.Common.{ℕ, not, ◌&&◌, List}, specs.Option.{option_map}}
+use Rattle.t1_algebra.specs.{Keep.{has}, Profile.{profile}, States.{executes, executed_at, called_at}, Conflicts.{wants}, Lacks.{user_of}}
+use Rattle.t1_subset.{specs.{Callers.{seeker_of}, Users.{noted_at}}, proofs.state_tables.FontCallers.{IsNoting}}
 use Rattle.std.specs.FinMap as maps
-use Rattle.t1_algebra.specs.{Keep.{has}, Profile.{profile}, States.{executes, executed_at, called_at}, Conflicts.{wants}}
-use Rattle.t1_algebra.specs.Lacks.{user_of}
-use Rattle.t1_subset.specs.{Callers.{seeker_of}, Users.{noted_at}}
-use Rattle.t1_subset.proofs.state_tables.FontCallers.{IsNoting}
 use Rattle.t1_subset.proofs.state_making.uses_of.Given as goal
 
 abbrev pub invariant-names : goal.invariant-names

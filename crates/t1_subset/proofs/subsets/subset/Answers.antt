@@ -1,7 +1,6 @@
 use Rattle.std.proofs.Common.{◌≡◌, ◌∙◌}
 use Rattle.t1_algebra.specs.{Keep.{subset}, Profile.{profile}}
-use Rattle.t1_subset.specs.NameSets.{lent, asked}
-use Rattle.t1_subset.proofs.closing.Closures.{has_notdef, of_font, cut_is, draws}
+use Rattle.t1_subset.{specs.NameSets.{lent, asked}, proofs.closing.Closures.{has_notdef, of_font, cut_is, draws}}
 use Rattle.t1_subset.proofs.subsets.subset.Goals as goal
 
 pub restrict-requires-clause-known : goal.restrict-requires-clause-known

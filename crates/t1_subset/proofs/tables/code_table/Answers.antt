@@ -1,7 +1,6 @@
 use Rattle.std.proofs.Common.{◌∙◌, arith}
 use Rattle.t1_algebra.specs.States.{code_state}
-use Rattle.t1_subset.proofs.state_tables.Conflicts.{named_so, no_name}
-use Rattle.t1_subset.proofs.state_tables.ByNumber.{has_none, has_next, codes_filled}
+use Rattle.t1_subset.proofs.{state_tables.Conflicts.{named_so, no_name}, state_tables.ByNumber.{has_none, has_next, codes_filled}}
 use Rattle.t1_subset.proofs.tables.code_table.Goals as goal
 
 pub codes-init : goal.codes-init

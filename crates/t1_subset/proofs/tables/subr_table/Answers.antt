@@ -1,14 +1,8 @@
-use Rattle.std.proofs.Common.{◌≡◌, ◌∙◌, ap, sym, arith, ℕ, List, Bor, Option, None, is_some, option_map}
+use Rattle.std.proofs.{Common.{◌≡◌, ◌∙◌, ap, sym, arith, ℕ, List, Bor, Option, None, is_some, option_map}, lemmas.Map.Iter.{rest_more, rest_all}}
+use Rattle.t1_font.specs.{FontValue.{FontValue}, Lent.{lent_number}}
+use Rattle.t1_algebra.{specs.{Profile.{profile}, States.{subr_state, state_of_entry}, StateTables.{used_subrs}}, proofs.FontStates.{get-used}}
+use Rattle.t1_subset.proofs.{state_tables.FontCallers.{called_is}, state_tables.ByNumber.{before_all, before_next, behind_all, entry_there, entry_is}}
 use Rattle.std.specs.FinMap as maps
-use Rattle.t1_font.specs.FontValue.{FontValue}
-use Rattle.t1_font.specs.Lent.{lent_number}
-use Rattle.std.proofs.lemmas.Map.Iter.{rest_more, rest_all}
-use Rattle.t1_algebra.specs.Profile.{profile}
-use Rattle.t1_algebra.specs.States.{subr_state, state_of_entry}
-use Rattle.t1_algebra.specs.StateTables.{used_subrs}
-use Rattle.t1_algebra.proofs.FontStates.{get-used}
-use Rattle.t1_subset.proofs.state_tables.FontCallers.{called_is}
-use Rattle.t1_subset.proofs.state_tables.ByNumber.{before_all, before_next, behind_all, entry_there, entry_is}
 use Rattle.t1_subset.proofs.tables.subr_table.Goals as goal
 
 -- what is lent is there where it is

@@ -1,5 +1,4 @@
-use Rattle.t1_algebra.specs.Profile.{profile}
-use Rattle.t1_algebra.specs.States.{subr_state}
+use Rattle.t1_algebra.specs.{Profile.{profile}, States.{subr_state}}
 use Rattle.t1_subset.proofs.state_tables.ByNumber.{HasBefore}
 use Rattle.t1_subset.proofs.tables.subr_table.Given as goal
 

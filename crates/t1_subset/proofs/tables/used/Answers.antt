@@ -1,6 +1,5 @@
 use Rattle.std.proofs.Common.{arith}
-use Rattle.t1_subset.specs.Users.{noted_at}
-use Rattle.t1_subset.proofs.state_tables.ByNumber.{has_none, has_next, has_at}
+use Rattle.t1_subset.{specs.Users.{noted_at}, proofs.state_tables.ByNumber.{has_none, has_next, has_at}}
 use Rattle.t1_subset.proofs.tables.used.Goals as goal
 
 pub indices-init : goal.indices-init

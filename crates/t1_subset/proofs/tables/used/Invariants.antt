@@ -1,5 +1,4 @@
-use Rattle.t1_subset.specs.Users.{noted_at}
-use Rattle.t1_subset.proofs.state_tables.ByNumber.{HasBelow}
+use Rattle.t1_subset.{specs.Users.{noted_at}, proofs.state_tables.ByNumber.{HasBelow}}
 use Rattle.t1_subset.proofs.tables.used.Given as goal
 
 abbrev pub invariant-indices : goal.invariant-indices

@@ -1,11 +1,8 @@
 use Rattle.std.proofs.Common.{◌≡◌, ◌+◌, refl, sym, ap, ◌∙◌, ℕ, Bool, true, false, ◌||◌, cond, Option, Some, None, List, [], ◌∷◌, get_or, drop, drop-cons, add-one}
-use Rattle.std.specs.List.{list_any}
+use Rattle.std.specs.{List.{list_any}, Cmp.{nat_cmp_total}}
+use Rattle.t1_algebra.{specs.{Shared.{same_number}, States.{joined_option}}, proofs.Sets.{cases}}
+use Rattle.t1_subset.{specs.Users.{noted_at}, proofs.closing.NumberSets.{any_with}}
 use Rattle.std.specs.FinSet as sets
-use Rattle.std.specs.Cmp.{nat_cmp_total}
-use Rattle.t1_algebra.specs.{Shared.{same_number}, States.{joined_option}}
-use Rattle.t1_algebra.proofs.Sets.{cases}
-use Rattle.t1_subset.specs.Users.{noted_at}
-use Rattle.t1_subset.proofs.closing.NumberSets.{any_with}
 use Rattle.t1_subset.proofs.users.note_users.Goals as goal
 
 -- noting one index, and then those behind it, is noting both

@@ -1,8 +1,7 @@
-use Rattle.std.proofs.Common.{◌≡◌, ℕ, drop, cond, Some, None}
-use Rattle.std.specs.FinSet as sets
-use Rattle.std.specs.List.{list_any}
+use Rattle.std.{proofs.Common.{◌≡◌, ℕ, drop, cond, Some, None}, specs.List.{list_any}}
 use Rattle.t1_algebra.specs.{Profile.{set_of}, Shared.{same_number}, States.{joined_option}}
 use Rattle.t1_subset.specs.Users.{noted_at}
+use Rattle.std.specs.FinSet as sets
 use Rattle.t1_subset.proofs.users.note_users.Given as goal
 
 abbrev pub invariant-calls : goal.invariant-calls

@@ -1,6 +1,4 @@
-use Rattle.std.proofs.Common.{◌++◌, ◌∙◌, ap, sym, codes}
-use Rattle.std.proofs.Output.{has_written_of_eq}
-use Rattle.std.specs.Fmt.{decimal}
+use Rattle.std.{proofs.{Common.{◌++◌, ◌∙◌, ap, sym, codes}, Output.{has_written_of_eq}}, specs.Fmt.{decimal}}
 use Rattle.t1_join.specs.Shown.{shown}
 use Rattle.t1_cmd.specs.Texts.{reason_text}
 use Rattle.t1_cmd.proofs.faults.ReasonDisplay.fmt.Goals as goal

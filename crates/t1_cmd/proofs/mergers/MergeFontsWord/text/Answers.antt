@@ -1,5 +1,4 @@
-use Rattle.std.proofs.Common.{◌∙◌, subst, Ok, List}
-use Rattle.std.specs.Prelude.{IfOk}
+use Rattle.std.{proofs.Common.{◌∙◌, subst, Ok, List}, specs.Prelude.{IfOk}}
 use Rattle.t1_font.specs.FontValue.{FontValue}
 use Rattle.t1_cmd.specs.Mergers.{MergesToFile}
 use Rattle.t1_cmd.proofs.mergers.MergeFontsWord.text.Goals as goal

@@ -1,9 +1,5 @@
 use Rattle.std.proofs.Common.{◌≡◌, ℕ, List, map, sym, ap, subst, ◌∙◌, IfOk}
-use Rattle.t1_document.specs.declared.documents.Place.{Place as CodePlace}
-use Rattle.t1_document.specs.Rewriting.{NewTexts, fated_bytes}
-use Rattle.t1_document.specs.Joins.{new_texts}
-use Rattle.t1_document.specs.Groups.{outcome_in}
-use Rattle.t1_document.specs.Families.{Led, with_leaders, led_fate}
+use Rattle.t1_document.specs.{declared.documents.Place.{Place as CodePlace}, Rewriting.{NewTexts, fated_bytes}, Joins.{new_texts}, Groups.{outcome_in}, Families.{Led, with_leaders, led_fate}}
 use Rattle.t1_document.specs.Views.{place_view, document_view, led_view}
 use Rattle.t1_document.proofs.Rewritten.{fated_written}
 use Rattle.t1_document.proofs.documents.Document.alias.Goals as goal

@@ -1,11 +1,7 @@
-use Rattle.std.proofs.Common.{◌+◌, List, sym, ap, subst, ◌∙◌}
-use Rattle.std.specs.Option.{option_map}
-use Rattle.t1_document.specs.declared.documents.Place.{Place}
-use Rattle.t1_document.specs.Joins.{new_texts}
-use Rattle.t1_document.specs.Groups.{outcome_in}
-use Rattle.t1_document.proofs.JoinLoops.{Puts, text_put, none_put, puts_same}
+use Rattle.std.{proofs.Common.{◌+◌, List, sym, ap, subst, ◌∙◌}, specs.Option.{option_map}}
+use Rattle.t1_document.specs.{declared.documents.Place.{Place}, Joins.{new_texts}, Groups.{outcome_in}}
+use Rattle.t1_document.proofs.{JoinLoops.{Puts, text_put, none_put, puts_same}, documents.Document.new_texts.Goals.{in-Some+in_ok-put-in-Some, in-None}}
 use Rattle.t1_document.proofs.documents.Document.new_texts.Goals as goal
-use Rattle.t1_document.proofs.documents.Document.new_texts.Goals.{in-Some+in_ok-put-in-Some, in-None}
 
 pub places-preserved : goal.places-preserved
 places-preserved c =

@@ -1,17 +1,8 @@
-use Rattle.std.proofs.Common.{◌≡◌, [], ◌∷◌, ◌++◌, List, ℕ, map, Some, None, sym, ap, ◌∙◌}
-use Rattle.std.specs.Ordering.{nat_cmp}
-use Rattle.std.specs.Cmp.Lexicographic.{slice_cmp}
-use Rattle.std.specs.BTreeMap.{get_by}
-use Rattle.std.specs.Global.{Vec}
-use Rattle.std.proofs.lemmas.List.{map-append}
-use Rattle.std.proofs.lemmas.Map.Text.{btree_map_updates_str}
-use Rattle.t1_document.specs.declared.documents.Place.{Place as CodePlace}
-use Rattle.t1_document.specs.Documents.{Place}
-use Rattle.t1_document.specs.Groups.{places_of}
-use Rattle.t1_document.specs.Views.{place_view}
-use Rattle.t1_document.proofs.JoinLoops.{place_added}
+use Rattle.std.proofs.{Common.{◌≡◌, [], ◌∷◌, ◌++◌, List, ℕ, map, Some, None, sym, ap, ◌∙◌}, lemmas.List.{map-append}, lemmas.Map.Text.{btree_map_updates_str}}
+use Rattle.std.specs.{Ordering.{nat_cmp}, Cmp.Lexicographic.{slice_cmp}, BTreeMap.{get_by}, Global.{Vec}}
+use Rattle.t1_document.specs.{declared.documents.Place.{Place as CodePlace}, Documents.{Place}, Groups.{places_of}, Views.{place_view}}
+use Rattle.t1_document.proofs.{JoinLoops.{place_added}, groups.Groups.add.Goals.{in-Some, in-None}}
 use Rattle.t1_document.proofs.groups.Groups.add.Goals as goal
-use Rattle.t1_document.proofs.groups.Groups.add.Goals.{in-Some, in-None}
 
 pub returns-in-Ok : goal.returns-in-Ok
 returns-in-Ok c =

@@ -1,5 +1,4 @@
-use Rattle.std.proofs.Common.{Some}
-use Rattle.std.proofs.lemmas.Map.Text.{btree_map_updates_str}
+use Rattle.std.proofs.{Common.{Some}, lemmas.Map.Text.{btree_map_updates_str}}
 use Rattle.t1_document.proofs.joins.Joins.put.Goals as goal
 
 pub returns-in-Ok : goal.returns-in-Ok

@@ -1,7 +1,4 @@
-use Rattle.std.proofs.Common.{◌≡◌, Bool, true, false, cond, ℕ, List, Option, Some, Bor, refl, ap, ◌∙◌}
-use Rattle.std.specs.Option.{option_map}
-use Rattle.std.specs.Str.{bytes_eq}
-use Rattle.std.proofs.lemmas.Map.Text.{btree_map_updates_str}
+use Rattle.std.{proofs.{Common.{◌≡◌, Bool, true, false, cond, ℕ, List, Option, Some, Bor, refl, ap, ◌∙◌}, lemmas.Map.Text.{btree_map_updates_str}}, specs.{Option.{option_map}, Str.{bytes_eq}}}
 use Rattle.t1_document.proofs.texts.Texts.put.Goals as goal
 
 -- what a look-up lends, behind a look-up of one text more

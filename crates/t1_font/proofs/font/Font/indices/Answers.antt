@@ -1,7 +1,5 @@
-use Rattle.std.proofs.Common.{◌≡◌, ◌≤◌, ℕ, List, [], ◌∷◌, length, sym, ap, subst, ◌∙◌, arith}
-use Rattle.std.specs.FinMap.{entries}
-use Rattle.t1_font.specs.declared.font.Font.TheInside.{Inside}
-use Rattle.t1_font.specs.FontValue.{Numbered, total, subr_weight, weight_limit}
+use Rattle.std.{proofs.Common.{◌≡◌, ◌≤◌, ℕ, List, [], ◌∷◌, length, sym, ap, subst, ◌∙◌, arith}, specs.FinMap.{entries}}
+use Rattle.t1_font.specs.{declared.font.Font.TheInside.{Inside}, FontValue.{Numbered, total, subr_weight, weight_limit}}
 use Rattle.t1_font.proofs.font.Font.indices.Goals as goal
 
 -- Subrs weigh at least one each

@@ -1,7 +1,5 @@
-use Rattle.std.proofs.Common.{◌≡◌, ◌≤◌, ℕ, length, sym, ap, subst, ◌∙◌}
-use Rattle.std.specs.FinMap.{entries, len-entries}
-use Rattle.t1_font.specs.declared.font.Font.TheInside.{Inside}
-use Rattle.t1_font.specs.FontValue.{Named, count_limit}
+use Rattle.std.{proofs.Common.{◌≡◌, ◌≤◌, ℕ, length, sym, ap, subst, ◌∙◌}, specs.FinMap.{entries, len-entries}}
+use Rattle.t1_font.specs.{declared.font.Font.TheInside.{Inside}, FontValue.{Named, count_limit}}
 use Rattle.t1_font.proofs.font.Font.names.Goals as goal
 
 pub invariant_of-result : goal.invariant_of-result

@@ -1,6 +1,5 @@
 use Rattle.std.proofs.Common.{sym, ap, ◌∙◌}
-use Rattle.t1_font.specs.FontModel.{subr_at}
-use Rattle.t1_font.proofs.FontReaders.{subrs_seen}
+use Rattle.t1_font.{specs.FontModel.{subr_at}, proofs.FontReaders.{subrs_seen}}
 use Rattle.t1_font.proofs.font.Font.subr.Goals as goal
 
 pub returns-clause-shown : goal.returns-clause-shown

@@ -1,12 +1,7 @@
-use Rattle.std.proofs.Common.{◌∙◌, ap, drop}
-use Rattle.std.proofs.lemmas.Cmp.{nat_cmp_total}
-use Rattle.std.specs.FinMap as fin
-use Rattle.std.specs.FinSet.{nat_cmp-IsAntisymmetric}
-use Rattle.std.specs.Ordering.{nat_cmp}
+use Rattle.std.{proofs.{Common.{◌∙◌, ap, drop}, lemmas.Cmp.{nat_cmp_total}}, specs.{FinSet.{nat_cmp-IsAntisymmetric}, Ordering.{nat_cmp}}}
 use Rattle.t1_join.specs.Entries.{entry_by}
-use Rattle.t1_font.specs.Gathering.{Entries, gathered_codes, gathered_subrs, gathered_glyphs}
-use Rattle.t1_font.proofs.Buffers.{pushed}
-use Rattle.t1_font.proofs.Lasts.{settled_map}
+use Rattle.t1_font.{specs.Gathering.{Entries, gathered_codes, gathered_subrs, gathered_glyphs}, proofs.{Buffers.{pushed}, Lasts.{settled_map}}}
+use Rattle.std.specs.FinMap as fin
 use Rattle.t1_font.proofs.gathered.Gathered.keep_code.Goals as goal
 
 pub returns : goal.returns

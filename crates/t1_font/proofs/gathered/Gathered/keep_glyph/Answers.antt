@@ -1,18 +1,9 @@
-use Rattle.std.proofs.Common.{ℕ, List, ◌≡◌, ◌∙◌, ◌≤◌, ap, arith, sym, subst, ◌+◌, ◌-◌, length, drop, map}
-use Rattle.std.proofs.lemmas.Cmp.{nat_list_cmp_total}
-use Rattle.std.specs.Cmp.Lexicographic.{on_texts}
+use Rattle.std.{proofs.{Common.{ℕ, List, ◌≡◌, ◌∙◌, ◌≤◌, ap, arith, sym, subst, ◌+◌, ◌-◌, length, drop, map}, lemmas.Cmp.{nat_list_cmp_total}}, specs.Cmp.Lexicographic.{on_texts}}
+use Rattle.t1_font.specs.{declared.ranges.Range.{Range}, Charstrings.{plain_of}, Entries.{map_of, AreSettled}, FontValue.{name_cmp}, Gathering.{Entries, gathered_codes, gathered_glyphs}}
+use Rattle.t1_font.specs.{Places.{ending, bytes_at_place}, Ranges.{bytes_at, by_name, named_at, IsInside, AllInside, NamesInside}}
+use Rattle.t1_font.proofs.Buffers.{Decrypted, Named, pushed, with_one, names_with_one, all_longer, names_wider, entries_stay, names_stay, rest_stays, plain_at, plain_inside, name_at, name_inside}
+use Rattle.t1_font.proofs.{Buffers.{goes_on, same_length}, Lasts.{settled_map, settled_all}, canonical.FontAgain.{name_same}}
 use Rattle.std.specs.FinMap as fin
-use Rattle.t1_font.specs.declared.ranges.Range.{Range}
-use Rattle.t1_font.specs.Charstrings.{plain_of}
-use Rattle.t1_font.specs.Entries.{map_of, AreSettled}
-use Rattle.t1_font.specs.FontValue.{name_cmp}
-use Rattle.t1_font.specs.Gathering.{Entries, gathered_codes, gathered_glyphs}
-use Rattle.t1_font.specs.Places.{ending, bytes_at_place}
-use Rattle.t1_font.specs.Ranges.{bytes_at, by_name, named_at, IsInside, AllInside, NamesInside}
-use Rattle.t1_font.proofs.Buffers.{Decrypted, Named, pushed, with_one, names_with_one, all_longer, names_wider, entries_stay}
-use Rattle.t1_font.proofs.Buffers.{names_stay, rest_stays, plain_at, plain_inside, name_at, name_inside, goes_on, same_length}
-use Rattle.t1_font.proofs.Lasts.{settled_map, settled_all}
-use Rattle.t1_font.proofs.canonical.FontAgain.{name_same}
 use Rattle.t1_font.proofs.gathered.Gathered.keep_glyph.Goals as goal
 
 now_long : (c : goal.After-self-3-1) → c.len-3.result ≡ length c.decrypt_in.new.buffer.items
@@ -89,7 +80,8 @@ returns c =
     ∙ (pushed (named_at now) nat_list_cmp_total name_same c.settle.new.entries.items (c.part_at-name.result, _)
     ∙ ((λ i. fin.insert (map_of {R = name_cmp} (names_stay _ _ _ _ _ _ _ _ d c.settle.new.entries.items settled.0 settled.1 i))
     (name_at _ _ _ _ _ _ _ _ d _ _ (named_so c) i) (plain_at _ _ _ _ _ _ _ _ d i))
-    ∙ ap (λ m. fin.insert m (bytes_at_place (drop c.self.inside.at was) c.args.name) (plain_of c.args.len_iv (bytes_at_place (drop c.self.inside.at was) c.args.body)))
+    ∙ ap (λ m. fin.insert m (bytes_at_place (drop c.self.inside.at was) c.args.name)
+    (plain_of c.args.len_iv (bytes_at_place (drop c.self.inside.at was) c.args.body)))
     (settled_so c))) in
     (λ i. record {
       rest = (ap (λ n. drop (n - c.args.left) now) (now_long c) ∙ rest_stays _ _ _ _ _ _ _ _ d) i;

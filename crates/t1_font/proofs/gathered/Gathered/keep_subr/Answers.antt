@@ -1,15 +1,8 @@
-use Rattle.std.proofs.Common.{◌≡◌, ◌∙◌, ◌≤◌, ap, arith, sym, subst, ◌+◌, ◌-◌, length, drop, map}
-use Rattle.std.proofs.lemmas.Cmp.{nat_cmp_total}
-use Rattle.std.specs.FinMap as fin
-use Rattle.std.specs.FinSet.{nat_cmp-IsAntisymmetric}
-use Rattle.std.specs.Ordering.{nat_cmp}
-use Rattle.t1_font.specs.Charstrings.{plain_of}
-use Rattle.t1_font.specs.Entries.{map_of}
-use Rattle.t1_font.specs.Gathering.{Entries, gathered_codes}
-use Rattle.t1_font.specs.Places.{ending, bytes_at_place}
-use Rattle.t1_font.specs.Ranges.{bytes_at, numbered_at, IsInside, AllInside}
+use Rattle.std.{proofs.{Common.{◌≡◌, ◌∙◌, ◌≤◌, ap, arith, sym, subst, ◌+◌, ◌-◌, length, drop, map}, lemmas.Cmp.{nat_cmp_total}}, specs.{FinSet.{nat_cmp-IsAntisymmetric}, Ordering.{nat_cmp}}}
+use Rattle.t1_font.specs.{Charstrings.{plain_of}, Entries.{map_of}, Gathering.{Entries, gathered_codes}, Places.{ending, bytes_at_place}, Ranges.{bytes_at, numbered_at, IsInside, AllInside}}
 use Rattle.t1_font.proofs.Buffers.{Decrypted, pushed, with_one, all_longer, names_wider, entries_stay, names_stay, rest_stays, plain_at, plain_inside, goes_on, same_length}
 use Rattle.t1_font.proofs.Lasts.{settled_map, settled_all}
+use Rattle.std.specs.FinMap as fin
 use Rattle.t1_font.proofs.gathered.Gathered.keep_subr.Goals as goal
 
 now_long : (c : goal.After-self-3-1) → c.len-2.result ≡ length c.decrypt_in.new.buffer.items

@@ -1,13 +1,6 @@
-use Rattle.std.proofs.Common.{◌∙◌, ap, sym}
-use Rattle.std.specs.Prelude.{unwrap_or}
-use Rattle.std.specs.Ordering.{nat_cmp}
-use Rattle.std.specs.Cmp.{nat_cmp_total}
-use Rattle.std.specs.FinSet.{nat_cmp-IsAntisymmetric}
+use Rattle.std.{proofs.Common.{◌∙◌, ap, sym}, specs.{Prelude.{unwrap_or}, Ordering.{nat_cmp}, Cmp.{nat_cmp_total}, FinSet.{nat_cmp-IsAntisymmetric}}}
 use Rattle.t1_join.specs.Entries.{entries_by}
-use Rattle.t1_font.specs.FontValue.{notdef}
-use Rattle.t1_font.specs.Gathering.{Entries, name_in}
-use Rattle.t1_font.specs.Entries.{last_value}
-use Rattle.t1_font.proofs.MapLaws.{get-map_of}
+use Rattle.t1_font.{specs.{FontValue.{notdef}, Gathering.{Entries, name_in}, Entries.{last_value}}, proofs.MapLaws.{get-map_of}}
 use Rattle.t1_font.proofs.gathered.Gathered.name_at.Goals as goal
 
 pub returns : goal.returns

@@ -1,6 +1,5 @@
 use Rattle.std.proofs.Common.{drop, sym, ◌∙◌}
-use Rattle.t1_font.specs.Gathering.{gathered_codes, gathered_subrs, gathered_glyphs}
-use Rattle.t1_font.proofs.HeldLemmas.{none_numbered, none_named}
+use Rattle.t1_font.{specs.Gathering.{gathered_codes, gathered_subrs, gathered_glyphs}, proofs.HeldLemmas.{none_numbered, none_named}}
 use Rattle.t1_font.proofs.gathered.Gathered.new.Goals as goal
 
 pub returns : goal.returns

@@ -1,9 +1,5 @@
-use Rattle.std.proofs.Common.{◌∙◌, drop}
-use Rattle.std.proofs.lemmas.Cmp.{nat_cmp_total}
-use Rattle.std.specs.FinSet.{nat_cmp-IsAntisymmetric}
-use Rattle.std.specs.Ordering.{nat_cmp}
-use Rattle.t1_font.specs.Gathering.{gathered_subrs, gathered_glyphs}
-use Rattle.t1_font.proofs.Lasts.{settled_map}
+use Rattle.std.{proofs.{Common.{◌∙◌, drop}, lemmas.Cmp.{nat_cmp_total}}, specs.{FinSet.{nat_cmp-IsAntisymmetric}, Ordering.{nat_cmp}}}
+use Rattle.t1_font.{specs.Gathering.{gathered_subrs, gathered_glyphs}, proofs.Lasts.{settled_map}}
 use Rattle.t1_font.proofs.gathered.Gathered.settle_codes.Goals as goal
 
 pub returns : goal.returns

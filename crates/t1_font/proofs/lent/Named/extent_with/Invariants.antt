@@ -1,8 +1,6 @@
 use Rattle.std.proofs.Common.{length}
+use Rattle.t1_font.{specs.{FontValue.{glyph_weight}, Maps.{merged}}, proofs.Weights.{Summing, Counting}}
 use Rattle.std.specs.FinMap as fin
-use Rattle.t1_font.specs.FontValue.{glyph_weight}
-use Rattle.t1_font.specs.Maps.{merged}
-use Rattle.t1_font.proofs.Weights.{Summing, Counting}
 use Rattle.t1_font.proofs.lent.Named.extent_with.Given as goal
 
 abbrev pub invariant-bodies : goal.invariant-bodies

@@ -1,8 +1,6 @@
-use Rattle.std.proofs.Common.{◌≡◌}
+use Rattle.std.{proofs.Common.{◌≡◌}, specs.Str.{bytes_eq}}
+use Rattle.t1_font.{specs.FontValue.{name_cmp}, proofs.TablePasses.{meets, left}}
 use Rattle.std.specs.FinMap as fin
-use Rattle.std.specs.Str.{bytes_eq}
-use Rattle.t1_font.specs.FontValue.{name_cmp}
-use Rattle.t1_font.proofs.TablePasses.{meets, left}
 use Rattle.t1_font.proofs.lent.Named.first_differing.Given as goal
 
 abbrev pub invariant-pass : goal.invariant-pass

@@ -1,15 +1,6 @@
-use Rattle.std.proofs.Common.{rules, ap, sym, ◌∙◌, map}
-use Rattle.std.specs.FinMap.{entries}
-use Rattle.std.specs.List.{slice_get}
-use Rattle.std.specs.Option.{option_and_then}
-use Rattle.std.specs.Cmp.Lexicographic.{nat_list_cmp_total}
-use Rattle.std.proofs.lemmas.Fn.{always_returns_same}
-use Rattle.t1_font.specs.FontValue.{name_cmp}
-use Rattle.t1_font.specs.Ranges.{bytes_at}
-use Rattle.t1_font.proofs.canonical.FontAgain.{name_same}
-use Rattle.t1_font.specs.Lent.{named_entries, lent_glyph}
-use Rattle.t1_font.specs.Ranges.{named_at}
-use Rattle.t1_font.proofs.LentTables.{found_place}
+use Rattle.std.proofs.{Common.{rules, ap, sym, ◌∙◌, map}, lemmas.Fn.{always_returns_same}}
+use Rattle.std.specs.{FinMap.{entries}, List.{slice_get}, Option.{option_and_then}, Cmp.Lexicographic.{nat_list_cmp_total}}
+use Rattle.t1_font.{specs.{FontValue.{name_cmp}, Ranges.{bytes_at, named_at}, Lent.{named_entries, lent_glyph}}, proofs.{canonical.FontAgain.{name_same}, LentTables.{found_place}}}
 use Rattle.t1_font.proofs.lent.Named.place_of.Goals as goal
 
 pub returns-in-Stored : goal.returns-in-Stored

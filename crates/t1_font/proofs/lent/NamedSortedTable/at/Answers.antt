@@ -1,7 +1,5 @@
 use Rattle.std.proofs.Common.{ap, refl}
-use Rattle.t1_font.specs.Lent.{named_entries}
-use Rattle.t1_font.specs.Ranges.{named_at}
-use Rattle.t1_font.proofs.LentTables.{stands, stands_not}
+use Rattle.t1_font.{specs.{Lent.{named_entries}, Ranges.{named_at}}, proofs.LentTables.{stands, stands_not}}
 use Rattle.t1_font.proofs.lent.NamedSortedTable.at.Goals as goal
 
 pub returns-in_err-places-in-Stored-clause-entry : goal.returns-in_err-places-in-Stored-clause-entry

@@ -1,8 +1,5 @@
-use Rattle.std.proofs.Common.{map}
-use Rattle.std.specs.FinMap.{from_sorted}
-use Rattle.std.specs.Ordering.{nat_cmp}
-use Rattle.t1_font.specs.Lent.{stub_at}
-use Rattle.t1_font.proofs.even_fonts.Filled.{EachLeft}
+use Rattle.std.{proofs.Common.{map}, specs.{FinMap.{from_sorted}, Ordering.{nat_cmp}}}
+use Rattle.t1_font.{specs.Lent.{stub_at}, proofs.even_fonts.Filled.{EachLeft}}
 use Rattle.t1_font.proofs.lent.Numbered.are_among.Given as goal
 
 abbrev pub invariant-entries : goal.invariant-entries

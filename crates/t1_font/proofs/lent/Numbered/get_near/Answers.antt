@@ -1,6 +1,4 @@
-use Rattle.std.proofs.Common.{sym, ap, ◌∙◌}
-use Rattle.std.specs.Cmp.{nat_cmp_total}
-use Rattle.std.specs.FinMap.{get, nat_cmp-IsAntisymmetric}
+use Rattle.std.{proofs.Common.{sym, ap, ◌∙◌}, specs.{Cmp.{nat_cmp_total}, FinMap.{get, nat_cmp-IsAntisymmetric}}}
 use Rattle.t1_font.proofs.LentTables.{value_at}
 use Rattle.t1_font.proofs.lent.Numbered.get_near.Goals as goal
 

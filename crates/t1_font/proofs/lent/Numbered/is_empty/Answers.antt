@@ -1,6 +1,4 @@
-use Rattle.std.proofs.Common.{ap, ◌∙◌}
-use Rattle.std.specs.Prelude.{◌==◌}
-use Rattle.std.specs.FinMap.{entries, len-entries}
+use Rattle.std.{proofs.Common.{ap, ◌∙◌}, specs.{Prelude.{◌==◌}, FinMap.{entries, len-entries}}}
 use Rattle.t1_font.proofs.even_fonts.Filled.{none_counted}
 use Rattle.t1_font.proofs.lent.Numbered.is_empty.Goals as goal
 

@@ -1,13 +1,6 @@
-use Rattle.std.proofs.Common.{◌≡◌, rules, ap, subst, sym, ◌∙◌, map}
-use Rattle.std.specs.FinMap.{entries, get}
-use Rattle.std.specs.List.{slice_get}
-use Rattle.std.specs.Option.{option_and_then, option_map}
-use Rattle.std.specs.Cmp.{nat_cmp_total}
-use Rattle.std.specs.FinMap.{nat_cmp-IsAntisymmetric}
-use Rattle.std.proofs.lemmas.List.Sorted.{answers_always}
-use Rattle.t1_font.specs.FontValue.{Numbered}
-use Rattle.t1_font.specs.Lent.{numbered_entries, lent_number, filled_at}
-use Rattle.t1_font.proofs.LentTables.{found_place, same_table}
+use Rattle.std.proofs.{Common.{◌≡◌, rules, ap, subst, sym, ◌∙◌, map}, lemmas.List.Sorted.{answers_always}}
+use Rattle.std.specs.{FinMap.{entries, get, nat_cmp-IsAntisymmetric}, List.{slice_get}, Option.{option_and_then, option_map}, Cmp.{nat_cmp_total}}
+use Rattle.t1_font.{specs.{FontValue.{Numbered}, Lent.{numbered_entries, lent_number, filled_at}}, proofs.LentTables.{found_place, same_table}}
 use Rattle.t1_font.proofs.lent.Numbered.place_of.Goals as goal
 
 pub returns-in-Stored : goal.returns-in-Stored

@@ -1,12 +1,7 @@
-use Rattle.std.proofs.Common.{◌≡◌, List, ℕ, map, refl, sym, ap, ◌∷◌, [], ◌∙◌}
-use Rattle.std.proofs.lemmas.Map.Text.{is_eq-slice_cmp}
-use Rattle.std.specs.Ordering.{nat_cmp, is_eq}
-use Rattle.std.specs.FinMap as fin
+use Rattle.std.{proofs.{Common.{◌≡◌, List, ℕ, map, refl, sym, ap, ◌∷◌, [], ◌∙◌}, lemmas.Map.Text.{is_eq-slice_cmp}}, specs.Ordering.{nat_cmp, is_eq}}
 use Rattle.t1_join.specs.TableMeaning.{Rises}
-use Rattle.t1_font.specs.FontValue.{Numbered, name_cmp}
-use Rattle.t1_font.specs.declared.lent.NumberedForm.{NumberedForm}
-use Rattle.t1_font.specs.declared.lent.NumberedForm.TheVariants.{Filled}
-use Rattle.t1_font.specs.Lent.{filled_at, numbered_entries}
+use Rattle.t1_font.specs.{FontValue.{Numbered, name_cmp}, declared.lent.NumberedForm.{NumberedForm}, declared.lent.NumberedForm.TheVariants.{Filled}, Lent.{filled_at, numbered_entries}}
+use Rattle.std.specs.FinMap as fin
 use Rattle.t1_font.proofs.lent.Numbered.same_numbers.Goals as goal
 
 keys_of : (own : Numbered) (indices : List ℕ) → map (λ e. e.0) (map (filled_at own) indices) ≡ indices

@@ -1,6 +1,5 @@
 use Rattle.std.specs.FinMap as fin
-use Rattle.t1_font.specs.FontValue.{subr_weight}
-use Rattle.t1_font.proofs.Weights.{Summing}
+use Rattle.t1_font.{specs.FontValue.{subr_weight}, proofs.Weights.{Summing}}
 use Rattle.t1_font.proofs.lent.Numbered.weight.Given as goal
 
 abbrev pub invariant-bodies : goal.invariant-bodies

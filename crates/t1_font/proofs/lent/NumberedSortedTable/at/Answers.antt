@@ -1,7 +1,5 @@
-use Rattle.std.proofs.Common.{ap, sym, ◌∙◌, map}
-use Rattle.std.specs.Option.{option_map}
-use Rattle.t1_font.specs.Lent.{numbered_entries, lent_number}
-use Rattle.t1_font.proofs.LentTables.{stands_copied}
+use Rattle.std.{proofs.Common.{ap, sym, ◌∙◌, map}, specs.Option.{option_map}}
+use Rattle.t1_font.{specs.Lent.{numbered_entries, lent_number}, proofs.LentTables.{stands_copied}}
 use Rattle.t1_font.proofs.lent.NumberedSortedTable.at.Goals as goal
 
 pub returns-in-Made-clause-entry : goal.returns-in-Made-clause-entry

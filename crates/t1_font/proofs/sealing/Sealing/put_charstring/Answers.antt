@@ -1,10 +1,6 @@
-use Rattle.std.proofs.Common.{◌≡◌, ◌++◌, List, ℕ, length, sym, ap, ◌∙◌, arith}
-use Rattle.std.specs.Prelude.{replicate}
-use Rattle.std.proofs.lemmas.Grind.{common_steps}
-use Rattle.t1_bytes.specs.Cipher.{encrypted}
-use Rattle.t1_bytes.specs.Keys.{key_behind}
-use Rattle.t1_font.specs.Canon.{sealed_body}
-use Rattle.t1_font.proofs.Sealings.{whole, new_is, next_is, before_new, inside_new, text_new}
+use Rattle.std.{proofs.{Common.{◌≡◌, ◌++◌, List, ℕ, length, sym, ap, ◌∙◌, arith}, lemmas.Grind.{common_steps}}, specs.Prelude.{replicate}}
+use Rattle.t1_bytes.specs.{Cipher.{encrypted}, Keys.{key_behind}}
+use Rattle.t1_font.{specs.Canon.{sealed_body}, proofs.Sealings.{whole, new_is, next_is, before_new, inside_new, text_new}}
 use Rattle.t1_font.proofs.sealing.Sealing.put_charstring.Goals as goal
 
 grown : (c : goal.After-self-2-1) → c.extend_from_slice.new.self.items ≡ c.self.inside.bytes.items ++ (replicate c.args.len_iv 0 ++ c.args.plain.now)

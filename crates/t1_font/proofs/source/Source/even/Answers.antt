@@ -1,10 +1,5 @@
 use Rattle.std.proofs.Common.{◌≡◌, sym, ap, subst, ◌∙◌, arith}
-use Rattle.t1_font.specs.declared.source.Source.TheInside.{Inside}
-use Rattle.t1_font.specs.FontValue.{FontValue}
-use Rattle.t1_font.specs.IsFont.{IsFont}
-use Rattle.t1_font.specs.Sources.{source_value}
-use Rattle.t1_font.specs.Evening.{even}
-use Rattle.t1_font.proofs.even_fonts.Evened.{even_is_font}
+use Rattle.t1_font.{specs.{declared.source.Source.TheInside.{Inside}, FontValue.{FontValue}, IsFont.{IsFont}, Sources.{source_value}, Evening.{even}}, proofs.even_fonts.Evened.{even_is_font}}
 use Rattle.t1_font.proofs.source.Source.even.Goals as goal
 
 pub invariant_of-result-2 : goal.invariant_of-result-2

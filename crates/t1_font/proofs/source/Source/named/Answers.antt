@@ -1,15 +1,8 @@
-use Rattle.std.proofs.Common.{◌≡◌, ℕ, List, sym, ap, subst, ◌∙◌}
-use Rattle.std.specs.Prelude.{nat_le}
-use Rattle.std.proofs.lemmas.Bool.{cond-true, cond-false, and_parts}
+use Rattle.std.{proofs.{Common.{◌≡◌, ℕ, List, sym, ap, subst, ◌∙◌}, lemmas.Bool.{cond-true, cond-false, and_parts}}, specs.Prelude.{nat_le}}
 use Rattle.t1_bytes.specs.Laws.{AreBytes}
-use Rattle.t1_font.specs.declared.even_texts.ClearTexts.{ClearTexts}
-use Rattle.t1_font.specs.FontValue.{FontValue, weight, weight_limit}
-use Rattle.t1_font.specs.IsFont.{IsFont}
-use Rattle.t1_font.specs.EvenTexts.{both_fit}
-use Rattle.t1_font.specs.FontBoxes.{with_texts}
+use Rattle.t1_font.specs.{declared.even_texts.ClearTexts.{ClearTexts}, FontValue.{FontValue, weight, weight_limit}, IsFont.{IsFont}, EvenTexts.{both_fit}, FontBoxes.{with_texts}}
 use Rattle.t1_font.specs.FontNames.{clear_named, font_named, can_be_named}
-use Rattle.t1_font.proofs.even_fonts.BoxFonts.{fitting_is_font}
-use Rattle.t1_font.proofs.even_fonts.BoxLists.{some_is, none_is}
+use Rattle.t1_font.proofs.{even_fonts.BoxFonts.{fitting_is_font}, even_fonts.BoxLists.{some_is, none_is}}
 use Rattle.t1_font.proofs.source.Source.named.Goals as goal
 
 -- the two texts that were made

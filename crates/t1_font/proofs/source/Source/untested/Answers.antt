@@ -1,9 +1,5 @@
 use Rattle.std.proofs.Common.{◌≡◌, sym, ap, subst}
-use Rattle.t1_font.specs.declared.source.Source.TheInside.{Inside}
-use Rattle.t1_font.specs.FontValue.{FontValue}
-use Rattle.t1_font.specs.IsFont.{IsFont}
-use Rattle.t1_font.specs.Sources.{source_value}
-use Rattle.t1_font.proofs.Untested.{untested_is_font}
+use Rattle.t1_font.{specs.{declared.source.Source.TheInside.{Inside}, FontValue.{FontValue}, IsFont.{IsFont}, Sources.{source_value}}, proofs.Untested.{untested_is_font}}
 use Rattle.t1_font.proofs.source.Source.untested.Goals as goal
 
 pub invariant_of-result-2 : goal.invariant_of-result-2

@@ -1,13 +1,8 @@
-use Rattle.std.proofs.Common.{◌≡◌, ℕ, List, sym, ap, subst, ◌∙◌, refl}
-use Rattle.std.proofs.lemmas.Bool.{cond-true, cond-false}
+use Rattle.std.proofs.{Common.{◌≡◌, ℕ, List, sym, ap, subst, ◌∙◌, refl}, lemmas.Bool.{cond-true, cond-false}}
 use Rattle.t1_bytes.specs.Laws.{AreBytes}
-use Rattle.t1_font.specs.declared.even_texts.ClearTexts.{ClearTexts}
-use Rattle.t1_font.specs.FontValue.{FontValue}
-use Rattle.t1_font.specs.IsFont.{IsFont}
-use Rattle.t1_font.specs.FontBoxes.{side_in, clear_of, clear_with, with_texts, font_with, can_have}
+use Rattle.t1_font.specs.{declared.even_texts.ClearTexts.{ClearTexts}, FontValue.{FontValue}, IsFont.{IsFont}, FontBoxes.{side_in, clear_of, clear_with, with_texts, font_with, can_have}}
 use Rattle.t1_font.specs.BoxViews.{box_view}
-use Rattle.t1_font.proofs.even_fonts.BoxFonts.{had_is_font}
-use Rattle.t1_font.proofs.even_fonts.BoxLists.{some_is, none_is}
+use Rattle.t1_font.proofs.{even_fonts.BoxFonts.{had_is_font}, even_fonts.BoxLists.{some_is, none_is}}
 use Rattle.t1_font.proofs.source.Source.with_box.Goals as goal
 
 -- the two texts that were made

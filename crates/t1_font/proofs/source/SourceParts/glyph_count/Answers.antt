@@ -1,8 +1,6 @@
-use Rattle.std.proofs.Common.{ap, sym, ◌∙◌, map, length}
-use Rattle.std.proofs.lemmas.List.{length-map}
+use Rattle.std.proofs.{Common.{ap, sym, ◌∙◌, map, length}, lemmas.List.{length-map}}
+use Rattle.t1_font.specs.{FontValue.{FontValue, name_cmp}, Ranges.{named_at}}
 use Rattle.std.specs.FinMap as fin
-use Rattle.t1_font.specs.FontValue.{FontValue, name_cmp}
-use Rattle.t1_font.specs.Ranges.{named_at}
 use Rattle.t1_font.proofs.source.SourceParts.glyph_count.Goals as goal
 
 pub returns : goal.returns

@@ -1,10 +1,5 @@
-use Rattle.std.proofs.Common.{sym, ap, ◌∙◌, map, refl, unwrap_or}
-use Rattle.std.specs.Cmp.{nat_cmp_total, nat_cmp_is}
-use Rattle.std.specs.FinMap.{get, nat_cmp-IsAntisymmetric}
-use Rattle.std.specs.declared.cmp.Ordering.TheVariants.{Less}
-use Rattle.t1_font.specs.Cut.{stub}
-use Rattle.t1_font.specs.Ranges.{numbered_at}
-use Rattle.t1_font.proofs.LentTables.{value_at, none_behind}
+use Rattle.std.{proofs.Common.{sym, ap, ◌∙◌, map, refl, unwrap_or}, specs.{Cmp.{nat_cmp_total, nat_cmp_is}, FinMap.{get, nat_cmp-IsAntisymmetric}, declared.cmp.Ordering.TheVariants.{Less}}}
+use Rattle.t1_font.{specs.{Cut.{stub}, Ranges.{numbered_at}}, proofs.LentTables.{value_at, none_behind}}
 use Rattle.t1_font.proofs.stored.StoredSubrs.get_or_stub.Goals as goal
 
 pub returns-in-Some : goal.returns-in-Some

@@ -1,12 +1,6 @@
-use Rattle.std.proofs.Common.{rules, ap, ◌∙◌, map, refl}
-use Rattle.std.specs.FinMap.{entries}
-use Rattle.std.specs.List.{slice_get}
-use Rattle.std.specs.Option.{option_and_then}
-use Rattle.std.specs.Cmp.{nat_cmp_total}
-use Rattle.std.specs.FinMap.{nat_cmp-IsAntisymmetric}
-use Rattle.std.proofs.lemmas.List.Sorted.{answers_always}
-use Rattle.t1_font.specs.Ranges.{numbered_at}
-use Rattle.t1_font.proofs.LentTables.{found_place}
+use Rattle.std.proofs.{Common.{rules, ap, ◌∙◌, map, refl}, lemmas.List.Sorted.{answers_always}}
+use Rattle.std.specs.{FinMap.{entries, nat_cmp-IsAntisymmetric}, List.{slice_get}, Option.{option_and_then}, Cmp.{nat_cmp_total}}
+use Rattle.t1_font.{specs.Ranges.{numbered_at}, proofs.LentTables.{found_place}}
 use Rattle.t1_font.proofs.stored.StoredSubrs.place_of.Goals as goal
 
 pub returns : goal.returns

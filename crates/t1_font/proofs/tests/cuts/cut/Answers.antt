@@ -1,13 +1,7 @@
-use Rattle.std.proofs.Common.{ℕ, Bool, List, ap, subst, ◌∙◌}
-use Rattle.std.proofs.lemmas.Result.{IfOk-weaker}
-use Rattle.std.specs.Ordering.{nat_cmp}
-use Rattle.std.specs.BTreeSet.{contains}
-use Rattle.std.specs.FinSet as sets
+use Rattle.std.{proofs.{Common.{ℕ, Bool, List, ap, subst, ◌∙◌}, lemmas.Result.{IfOk-weaker}}, specs.{Ordering.{nat_cmp}, BTreeSet.{contains}}}
 use Rattle.t1_bytes.specs.declared.form.Form.TheVariants.{Pfb}
-use Rattle.t1_font.specs.FontValue.{FontValue}
-use Rattle.t1_font.specs.IsFont.{IsFont}
-use Rattle.t1_font.specs.Cut.{set_of_names}
-use Rattle.t1_font.specs.Canon.{canon}
+use Rattle.t1_font.specs.{FontValue.{FontValue}, IsFont.{IsFont}, Cut.{set_of_names}, Canon.{canon}}
+use Rattle.std.specs.FinSet as sets
 use Rattle.t1_font.proofs.tests.cuts.cut.Goals as goal
 
 pub returns : goal.returns

@@ -1,12 +1,6 @@
-use Rattle.std.proofs.Common.{subst, sym}
-use Rattle.std.proofs.lemmas.Result.{IfOk-weaker}
-use Rattle.std.specs.Ordering.{nat_cmp}
-use Rattle.std.specs.BTreeSet.{contains}
+use Rattle.std.{proofs.{Common.{subst, sym}, lemmas.Result.{IfOk-weaker}}, specs.{Ordering.{nat_cmp}, BTreeSet.{contains}}}
+use Rattle.t1_font.{specs.{Cut.{set_of_names}, FontValue.{FontValue}, Parts.{HasShellOf}}, proofs.PartsOfOne.{cut_shell}}
 use Rattle.std.specs.FinSet as sets
-use Rattle.t1_font.specs.Cut.{set_of_names}
-use Rattle.t1_font.specs.FontValue.{FontValue}
-use Rattle.t1_font.specs.Parts.{HasShellOf}
-use Rattle.t1_font.proofs.PartsOfOne.{cut_shell}
 use Rattle.t1_font.proofs.tests.cuts.cut_font.Goals as goal
 
 pub returns : goal.returns

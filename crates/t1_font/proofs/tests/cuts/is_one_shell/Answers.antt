@@ -1,10 +1,6 @@
-use Rattle.std.proofs.Common.{◌≡◌, ℕ, Bool, true, false, not, List, refl, sym, ◌∙◌, ap}
-use Rattle.std.specs.Cmp.Lexicographic.{same_text}
+use Rattle.std.{proofs.Common.{◌≡◌, ℕ, Bool, true, false, not, List, refl, sym, ◌∙◌, ap}, specs.Cmp.Lexicographic.{same_text}}
 use Rattle.t1_bytes.specs.declared.form.Form.TheVariants.{Pfb}
-use Rattle.t1_font.specs.FontValue.{FontValue, Encoding, Word, Codes}
-use Rattle.t1_font.specs.Cut.{restrict_encoding, restrict}
-use Rattle.t1_font.specs.Encodings.{SameKind}
-use Rattle.t1_font.proofs.canonical.RoundTrip.{one_canon}
+use Rattle.t1_font.{specs.{FontValue.{FontValue, Encoding, Word, Codes}, Cut.{restrict_encoding, restrict}, Encodings.{SameKind}}, proofs.canonical.RoundTrip.{one_canon}}
 use Rattle.t1_font.proofs.tests.cuts.is_one_shell.Goals as goal
 
 -- Encodings whose cuts are one are the same word or two tables

@@ -1,8 +1,7 @@
 use Rattle.std.proofs.Common.{◌≡◌, ℕ, true, List}
+use Rattle.t1_font.specs.{FontValue.{notdef}, Cut.{set_of_names}}
 use Rattle.std.specs.FinMap as fin
 use Rattle.std.specs.FinSet as sets
-use Rattle.t1_font.specs.FontValue.{notdef}
-use Rattle.t1_font.specs.Cut.{set_of_names}
 use Rattle.t1_font.proofs.tests.cuts.known.Given as goal
 
 abbrev pub invariant-names : goal.invariant-names

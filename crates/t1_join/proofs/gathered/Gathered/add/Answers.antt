@@ -1,7 +1,6 @@
 use Rattle.std.proofs.Common.{ap, sym, ◌∙◌, refl}
+use Rattle.t1_join.{specs.TableMeaning.{first_meanings}, proofs.EntryLemmas.{has_entries, meaning_insert}}
 use Rattle.std.specs.FinMap as fin
-use Rattle.t1_join.specs.TableMeaning.{first_meanings}
-use Rattle.t1_join.proofs.EntryLemmas.{has_entries, meaning_insert}
 use Rattle.t1_join.proofs.gathered.Gathered.add.Goals as goal
 
 pub returns-then-contains_key-clause-ok : goal.returns-then-contains_key-clause-ok

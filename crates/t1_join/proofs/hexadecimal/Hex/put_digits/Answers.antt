@@ -1,7 +1,4 @@
-use Rattle.std.proofs.Common.{◌≡◌, ◌++◌, ◌∙◌, ℕ, List, length, take, drop, map, sym, ap, arith}
-use Rattle.std.specs.Char.{to_ascii_lowercase}
-use Rattle.std.proofs.lemmas.Grind.{common_steps}
-use Rattle.std.proofs.lemmas.List.{take_at, drop_at}
+use Rattle.std.{proofs.{Common.{◌≡◌, ◌++◌, ◌∙◌, ℕ, List, length, take, drop, map, sym, ap, arith}, lemmas.Grind.{common_steps}, lemmas.List.{take_at, drop_at}}, specs.Char.{to_ascii_lowercase}}
 use Rattle.t1_join.proofs.Hexadecimals.{lowered}
 use Rattle.hex.specs.Hex.{encode_lower}
 use Rattle.t1_join.proofs.hexadecimal.Hex.put_digits.Goals as goal

@@ -1,9 +1,5 @@
 use Rattle.std.proofs.Common.{subst}
-use Rattle.t1_join.specs.Meaning.{of_number}
-use Rattle.t1_join.specs.ListingMeaning.{IsListing}
-use Rattle.t1_join.specs.ListingText.{subr, glyph}
-use Rattle.t1_join.specs.LineMeaning.{line_entry, IsEntry}
-use Rattle.t1_join.proofs.ListingLemmas.{entry_listed, table_added}
+use Rattle.t1_join.{specs.{Meaning.{of_number}, ListingMeaning.{IsListing}, ListingText.{subr, glyph}, LineMeaning.{line_entry, IsEntry}}, proofs.ListingLemmas.{entry_listed, table_added}}
 use Rattle.t1_join.proofs.listing.Lines.add.Goals as goal
 
 pub invariant_of-self : goal.invariant_of-self

@@ -1,5 +1,4 @@
-use Rattle.std.proofs.Common.{take}
-use Rattle.std.specs.Fmt.{HasWritten, IsPlainFormatter}
+use Rattle.std.{proofs.Common.{take}, specs.Fmt.{HasWritten, IsPlainFormatter}}
 use Rattle.t1_join.specs.Shown.{shown}
 use Rattle.t1_join.proofs.shown.ShownDisplay.fmt.Given as goal
 

@@ -1,10 +1,5 @@
-use Rattle.std.proofs.Common.{sym, ◌∙◌, ◌≡◌}
-use Rattle.std.specs.Borrow.{Bor}
-use Rattle.std.specs.Option.{option_map, option_copied}
-use Rattle.t1_join.specs.Meaning.{meaning_cmp, same_meaning}
-use Rattle.t1_join.specs.Passes.{first_met}
-use Rattle.t1_join.specs.TableMeaning.{entry_meanings}
-use Rattle.t1_join.proofs.Conflicts.{conflict_is, read_copied}
+use Rattle.std.{proofs.Common.{sym, ◌∙◌, ◌≡◌}, specs.{Borrow.{Bor}, Option.{option_map, option_copied}}}
+use Rattle.t1_join.{specs.{Meaning.{meaning_cmp, same_meaning}, Passes.{first_met}, TableMeaning.{entry_meanings}}, proofs.Conflicts.{conflict_is, read_copied}}
 use Rattle.t1_join.proofs.tables.Table.conflict.Goals as goal
 
 pub returns : goal.returns

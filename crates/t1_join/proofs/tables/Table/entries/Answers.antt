@@ -1,7 +1,6 @@
 use Rattle.std.proofs.Common.{ap, sym, ◌∙◌}
+use Rattle.t1_join.specs.{Meaning.{meaning_cmp}, TableMeaning.{entry_meanings}}
 use Rattle.std.specs.FinMap as fin
-use Rattle.t1_join.specs.Meaning.{meaning_cmp}
-use Rattle.t1_join.specs.TableMeaning.{entry_meanings}
 use Rattle.t1_join.proofs.tables.Table.entries.Goals as goal
 
 pub returns : goal.returns

@@ -1,10 +1,6 @@
-use Rattle.std.proofs.Common.{ap, sym, ◌∙◌}
+use Rattle.std.proofs.{Common.{ap, sym, ◌∙◌}, lemmas.Cmp.{nat_list_cmp_total}}
+use Rattle.t1_join.{specs.{Meaning.{meaning_cmp}, TableMeaning.{entry_meanings}}, proofs.{EntryLemmas.{same_by_cmp}, Merges.{rises_merge, merged_from_sorted}}}
 use Rattle.std.specs.FinMap as fin
-use Rattle.std.proofs.lemmas.Cmp.{nat_list_cmp_total}
-use Rattle.t1_join.specs.Meaning.{meaning_cmp}
-use Rattle.t1_join.specs.TableMeaning.{entry_meanings}
-use Rattle.t1_join.proofs.EntryLemmas.{same_by_cmp}
-use Rattle.t1_join.proofs.Merges.{rises_merge, merged_from_sorted}
 use Rattle.t1_join.proofs.tables.Table.entries_with.Goals as goal
 
 pub returns : goal.returns

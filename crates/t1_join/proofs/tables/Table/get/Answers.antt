@@ -1,11 +1,6 @@
-use Rattle.std.proofs.Common.{rules, sym, ap, subst, ◌∙◌, Some, Ok, Err}
-use Rattle.std.specs.declared.cmp.Ordering.{Ordering}
-use Rattle.std.specs.FinMap.{get}
-use Rattle.std.specs.List.Sorted.{IsBinarySearchResult}
-use Rattle.std.proofs.lemmas.Cmp.{nat_list_cmp_total}
-use Rattle.std.proofs.lemmas.Fn.{always_returns_same}
-use Rattle.t1_join.specs.TableMeaning.{TableMeaning, pair_meaning}
-use Rattle.t1_join.proofs.Searches.{searched}
+use Rattle.std.proofs.{Common.{rules, sym, ap, subst, ◌∙◌, Some, Ok, Err}, lemmas.Cmp.{nat_list_cmp_total}, lemmas.Fn.{always_returns_same}}
+use Rattle.std.specs.{declared.cmp.Ordering.{Ordering}, FinMap.{get}, List.Sorted.{IsBinarySearchResult}}
+use Rattle.t1_join.{specs.TableMeaning.{TableMeaning, pair_meaning}, proofs.Searches.{searched}}
 use Rattle.t1_join.proofs.tables.Table.get.Goals as goal
 
 -- the closure keeps the key that it captures, so each call compares with the key

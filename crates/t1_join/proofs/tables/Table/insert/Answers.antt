@@ -1,11 +1,6 @@
-use Rattle.std.proofs.Common.{ap, sym, List, subst, ◌∙◌, Ok, Err}
-use Rattle.std.specs.declared.cmp.Ordering.{Ordering}
+use Rattle.std.{proofs.{Common.{ap, sym, List, subst, ◌∙◌, Ok, Err}, lemmas.Cmp.{nat_list_cmp_total}}, specs.{declared.cmp.Ordering.{Ordering}, List.Sorted.{IsBinarySearchResult}}}
+use Rattle.t1_join.{specs.{Meaning.{meaning_cmp}, TableMeaning.{meaning_of_entries, entry_meanings, pair_meaning, Rises}}, proofs.Places.{rises_placed, map_placed, rises_replaced, map_replaced}}
 use Rattle.std.specs.FinMap as fin
-use Rattle.std.specs.List.Sorted.{IsBinarySearchResult}
-use Rattle.std.proofs.lemmas.Cmp.{nat_list_cmp_total}
-use Rattle.t1_join.specs.Meaning.{meaning_cmp}
-use Rattle.t1_join.specs.TableMeaning.{meaning_of_entries, entry_meanings, pair_meaning, Rises}
-use Rattle.t1_join.proofs.Places.{rises_placed, map_placed, rises_replaced, map_replaced}
 use Rattle.t1_join.proofs.tables.Table.insert.Given as given
 use Rattle.t1_join.proofs.tables.Table.insert.Goals as goal
 

@@ -1,5 +1,4 @@
-use Rattle.t1_join.specs.Meaning.{meaning_cmp}
-use Rattle.t1_join.proofs.Sorted.{no_entries}
+use Rattle.t1_join.{specs.Meaning.{meaning_cmp}, proofs.Sorted.{no_entries}}
 use Rattle.t1_join.proofs.tables.Table.new.Goals as goal
 
 pub returns : goal.returns

@@ -1,11 +1,5 @@
-use Rattle.std.proofs.Common.{rules, sym, ◌∙◌, true≢false}
-use Rattle.std.specs.Ordering.{is_lt}
-use Rattle.std.proofs.lemmas.Fn.{always_returns_same}
-use Rattle.std.proofs.lemmas.List.MinMax.{ranks_by}
-use Rattle.std.proofs.lemmas.List.Sorted.{IsPermutation-map}
-use Rattle.t1_join.specs.TableMeaning.{entry_meanings, pair_meaning}
-use Rattle.t1_join.proofs.EntryLemmas.{sorted_meanings}
-use Rattle.t1_join.proofs.AnyOrder.{table_of, still_apart, rise_from_sorted}
+use Rattle.std.{proofs.{Common.{rules, sym, ◌∙◌, true≢false}, lemmas.Fn.{always_returns_same}, lemmas.List.MinMax.{ranks_by}, lemmas.List.Sorted.{IsPermutation-map}}, specs.Ordering.{is_lt}}
+use Rattle.t1_join.{specs.TableMeaning.{entry_meanings, pair_meaning}, proofs.{EntryLemmas.{sorted_meanings}, AnyOrder.{table_of, still_apart, rise_from_sorted}}}
 use Rattle.t1_join.proofs.tables.Table.of_entries.Goals as goal
 
 pub invariant_of-result : goal.invariant_of-result

@@ -1,6 +1,5 @@
 use Rattle.std.proofs.Common.{◌≡◌, ◌++◌, sym, ap, ◌∙◌, append-nil}
-use Rattle.t1_join.specs.TableMeaning.{meaning_of_entries}
-use Rattle.t1_join.proofs.EntryLemmas.{sorted_meanings, map_of_sorted}
+use Rattle.t1_join.{specs.TableMeaning.{meaning_of_entries}, proofs.EntryLemmas.{sorted_meanings, map_of_sorted}}
 use Rattle.t1_join.proofs.tables.Table.of_map.Goals as goal
 
 pub invariant_of-result : goal.invariant_of-result

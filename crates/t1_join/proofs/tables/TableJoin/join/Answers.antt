@@ -1,7 +1,5 @@
-use Rattle.std.proofs.lemmas.Cmp.{nat_list_cmp_total}
-use Rattle.std.specs.FinMap.{nat_cmp-IsAntisymmetric, slice_cmp-IsAntisymmetric}
-use Rattle.t1_join.specs.TableMeaning.{entry_meanings}
-use Rattle.t1_join.proofs.Merges.{rises_merge, merged_from_sorted}
+use Rattle.std.{proofs.lemmas.Cmp.{nat_list_cmp_total}, specs.FinMap.{nat_cmp-IsAntisymmetric, slice_cmp-IsAntisymmetric}}
+use Rattle.t1_join.{specs.TableMeaning.{entry_meanings}, proofs.Merges.{rises_merge, merged_from_sorted}}
 use Rattle.t1_join.proofs.tables.TableJoin.join.Goals as goal
 
 pub invariant_of-result : goal.invariant_of-result

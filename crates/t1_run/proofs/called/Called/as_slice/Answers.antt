@@ -1,6 +1,5 @@
 use Rattle.std.proofs.Common.{sym, subst, ℕ, List, ◌≤◌}
-use Rattle.t1_run.specs.Called.{times}
-use Rattle.t1_run.proofs.Indices.{once_listed}
+use Rattle.t1_run.{specs.Called.{times}, proofs.Indices.{once_listed}}
 use Rattle.t1_run.proofs.called.Called.as_slice.Goals as goal
 
 pub returns-clause-once : goal.returns-clause-once

@@ -1,7 +1,5 @@
-use Rattle.std.proofs.Common.{◌≡◌, sym, ap, subst, ◌∙◌, ℕ, List, [], ◌∷◌, nat_cmp}
-use Rattle.std.specs.BTreeSet.{insert_key}
-use Rattle.t1_run.specs.Run.{with_indices}
-use Rattle.t1_run.proofs.Indices.{with_listed, some_listed, with_indices-append}
+use Rattle.std.{proofs.Common.{◌≡◌, sym, ap, subst, ◌∙◌, ℕ, List, [], ◌∷◌, nat_cmp}, specs.BTreeSet.{insert_key}}
+use Rattle.t1_run.{specs.Run.{with_indices}, proofs.Indices.{with_listed, some_listed, with_indices-append}}
 use Rattle.t1_run.proofs.called.Called.insert.Goals as goal
 
 pub returns-then-is_in-clause-added : goal.returns-then-is_in-clause-added

@@ -1,6 +1,5 @@
 use Rattle.std.proofs.Common.{refl}
-use Rattle.t1_run.specs.Run.{run_glyph}
-use Rattle.t1_run.proofs.Endings.{answered}
+use Rattle.t1_run.{specs.Run.{run_glyph}, proofs.Endings.{answered}}
 use Rattle.t1_run.proofs.composed.VecMarkOutline.of.Goals as goal
 
 pub returns-clause-ending : goal.returns-clause-ending

@@ -1,5 +1,4 @@
-use Rattle.t1_run.specs.Machine.{state_of, step_of}
-use Rattle.t1_run.proofs.Limits.{executed_keeps}
+use Rattle.t1_run.{specs.Machine.{state_of, step_of}, proofs.Limits.{executed_keeps}}
 use Rattle.t1_run.proofs.machine.Machine.perform.Goals as goal
 
 pub returns-in-Cmd-clause-within : goal.returns-in-Cmd-clause-within

@@ -1,6 +1,5 @@
 use Rattle.std.proofs.Common.{ap, ◌∙◌, ℕ, List}
-use Rattle.t1_subset.specs.{ClosureNames.{push_new}, NameSets.{lent}}
-use Rattle.t1_subset.proofs.closing.Closures.{lent_insert}
+use Rattle.t1_subset.{specs.{ClosureNames.{push_new}, NameSets.{lent}}, proofs.closing.Closures.{lent_insert}}
 use Rattle.t1_subset.proofs.closure_names.ClosureNames.add.Goals as goal
 
 pub returns : goal.returns

@@ -1,5 +1,4 @@
-use Rattle.std.proofs.Common.{◌++◌, ◌∙◌, ap, sym, codes}
-use Rattle.std.proofs.Output.{has_written_of_eq}
+use Rattle.std.proofs.{Common.{◌++◌, ◌∙◌, ap, sym, codes}, Output.{has_written_of_eq}}
 use Rattle.t1_join.specs.Shown.{shown}
 use Rattle.t1_subset.specs.FaultTexts.{conflict_text}
 use Rattle.t1_subset.proofs.conflict.ConflictDisplay.fmt.Goals as goal

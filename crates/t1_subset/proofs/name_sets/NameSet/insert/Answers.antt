@@ -1,8 +1,7 @@
 use Rattle.std.proofs.Common.{◌∙◌, ap}
-use Rattle.std.specs.FinSet as sets
 use Rattle.t1_font.specs.FontValue.{name_cmp}
-use Rattle.t1_subset.specs.NameSets.{set_by}
-use Rattle.t1_subset.proofs.closing.NameSets.{set_insert}
+use Rattle.t1_subset.{specs.NameSets.{set_by}, proofs.closing.NameSets.{set_insert}}
+use Rattle.std.specs.FinSet as sets
 use Rattle.t1_subset.proofs.name_sets.NameSet.insert.Goals as goal
 
 pub returns-clause-ok : goal.returns-clause-ok

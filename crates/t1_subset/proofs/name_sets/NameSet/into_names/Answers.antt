@@ -1,6 +1,4 @@
-use Rattle.std.proofs.Common.{◌≡◌, ◌∙◌, sym, subst}
-use Rattle.std.proofs.lemmas.Map.Iter.{rest_all}
-use Rattle.std.specs.List.Sorted.{IsStrictlySortedBy}
+use Rattle.std.{proofs.{Common.{◌≡◌, ◌∙◌, sym, subst}, lemmas.Map.Iter.{rest_all}}, specs.List.Sorted.{IsStrictlySortedBy}}
 use Rattle.t1_subset.proofs.closing.NameSets.{sorted_names, by_bytes, all_taken}
 use Rattle.t1_subset.proofs.name_sets.NameSet.into_names.Goals as goal
 

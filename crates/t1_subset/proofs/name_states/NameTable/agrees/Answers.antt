@@ -1,7 +1,6 @@
 use Rattle.std.proofs.Common.{sym, ◌∙◌, true≢false}
+use Rattle.t1_algebra.{specs.NameStates.{charstrings_differ, one_lacks}, proofs.Tables.{names_agree, none_of, none_is}}
 use Rattle.std.specs.FinMap as maps
-use Rattle.t1_algebra.specs.NameStates.{charstrings_differ, one_lacks}
-use Rattle.t1_algebra.proofs.Tables.{names_agree, none_of, none_is}
 use Rattle.t1_subset.proofs.name_states.NameTable.agrees.Goals as goal
 
 pub returns-then-is_none : goal.returns-then-is_none

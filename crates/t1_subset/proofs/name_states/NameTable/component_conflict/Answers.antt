@@ -1,11 +1,8 @@
-use Rattle.std.proofs.Common.{sym, subst}
-use Rattle.std.specs.Cmp.Lexicographic.{nat_list_cmp_total}
-use Rattle.std.specs.FinMap as maps
+use Rattle.std.{proofs.Common.{sym, subst}, specs.Cmp.Lexicographic.{nat_list_cmp_total}}
 use Rattle.t1_font.specs.FontValue.{name_cmp}
-use Rattle.t1_algebra.specs.Searches.{IsLowest}
-use Rattle.t1_algebra.specs.NameStates.{lacks, one_lacks}
-use Rattle.t1_algebra.proofs.Sets.{name_same}
+use Rattle.t1_algebra.{specs.{Searches.{IsLowest}, NameStates.{lacks, one_lacks}}, proofs.Sets.{name_same}}
 use Rattle.t1_subset.proofs.state_tables.LowestKeys.{lower_of}
+use Rattle.std.specs.FinMap as maps
 use Rattle.t1_subset.proofs.name_states.NameTable.component_conflict.Goals as goal
 
 pub returns : goal.returns

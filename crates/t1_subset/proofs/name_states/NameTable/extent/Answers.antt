@@ -1,7 +1,7 @@
 use Rattle.std.proofs.Common.{◌+◌, refl, sym, ◌∙◌, ap}
-use Rattle.std.specs.FinMap as maps
 use Rattle.t1_font.specs.{FontModel.{clamp}, FontValue.{total}}
 use Rattle.t1_algebra.{specs.StateTables.{name_adds, name_counts}, proofs.Sums.{names_total, names_count}}
+use Rattle.std.specs.FinMap as maps
 use Rattle.t1_subset.proofs.name_states.NameTable.extent.Goals as goal
 
 pub returns : goal.returns

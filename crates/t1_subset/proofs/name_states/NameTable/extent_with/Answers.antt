@@ -1,7 +1,6 @@
 use Rattle.std.proofs.Common.{◌+◌, refl, sym, ◌∙◌, ap}
 use Rattle.t1_font.specs.FontModel.{clamp}
-use Rattle.t1_algebra.specs.StateTables.{name_adds}
-use Rattle.t1_algebra.proofs.Sums.{joined_total, joined_count}
+use Rattle.t1_algebra.{specs.StateTables.{name_adds}, proofs.Sums.{joined_total, joined_count}}
 use Rattle.t1_subset.proofs.name_states.NameTable.extent_with.Goals as goal
 
 pub returns : goal.returns

@@ -1,7 +1,6 @@
 use Rattle.std.proofs.Common.{sym, ◌∙◌, refl, true, false, true≢false}
+use Rattle.t1_algebra.{specs.NameStates.{one_lacks}, proofs.Tables.{names_agree, none_of, none_is, not_passed, passed, are_joined}}
 use Rattle.std.specs.FinMap as maps
-use Rattle.t1_algebra.specs.NameStates.{one_lacks}
-use Rattle.t1_algebra.proofs.Tables.{names_agree, none_of, none_is, not_passed, passed, are_joined}
 use Rattle.t1_subset.proofs.name_states.NameTable.join_if_agreed.Goals as goal
 
 pub returns-then-is_some : goal.returns-then-is_some

@@ -1,12 +1,8 @@
-use Rattle.std.proofs.Common.{◌≡◌, refl, sym, ◌∙◌}
-use Rattle.std.specs.Cmp.{first_so, second_so}
-use Rattle.std.specs.Cmp.Lexicographic.{nat_list_cmp_total}
-use Rattle.std.specs.FinMap as maps
+use Rattle.std.{proofs.Common.{◌≡◌, refl, sym, ◌∙◌}, specs.{Cmp.{first_so, second_so}, Cmp.Lexicographic.{nat_list_cmp_total}}}
 use Rattle.t1_font.proofs.MapLemmas.{entries_all}
-use Rattle.t1_algebra.specs.NameStates.{lacks, lacks_in}
-use Rattle.t1_algebra.proofs.Sets.{name_same}
-use Rattle.t1_algebra.proofs.Tables.{seeks_in}
+use Rattle.t1_algebra.{specs.NameStates.{lacks, lacks_in}, proofs.{Sets.{name_same}, Tables.{seeks_in}}}
 use Rattle.t1_subset.proofs.state_tables.LowestKeys.{lowest_entry}
+use Rattle.std.specs.FinMap as maps
 use Rattle.t1_subset.proofs.name_states.NameTable.lacked.Goals as goal
 
 pub returns : goal.returns

@@ -1,8 +1,7 @@
-use Rattle.std.proofs.Common.{◌≡◌, ◌+◌, ◌*◌, ℕ, length, min, arith, sym, ◌∙◌, ap}
-use Rattle.std.proofs.lemmas.List.{length-map}
-use Rattle.std.specs.FinMap as maps
+use Rattle.std.proofs.{Common.{◌≡◌, ◌+◌, ◌*◌, ℕ, length, min, arith, sym, ◌∙◌, ap}, lemmas.List.{length-map}}
 use Rattle.t1_font.specs.FontModel.{clamp}
 use Rattle.t1_algebra.specs.StateTables.{shared_weight}
+use Rattle.std.specs.FinMap as maps
 use Rattle.t1_subset.proofs.shared.Shared.weight.Goals as goal
 
 -- a sum of two numbers that were cut off is cut off, too

@@ -1,8 +1,7 @@
-use Rattle.std.proofs.Common.{◌≡◌, ◌∙◌, ap, sym, map, List, [], Bor, ℕ, nat_cmp}
-use Rattle.std.specs.Cmp.{nat_cmp_total}
-use Rattle.std.specs.FinMap as maps
+use Rattle.std.{proofs.Common.{◌≡◌, ◌∙◌, ap, sym, map, List, [], Bor, ℕ, nat_cmp}, specs.Cmp.{nat_cmp_total}}
 use Rattle.t1_font.specs.FontValue.{Numbered}
 use Rattle.t1_algebra.proofs.Words.{nat_cmp-IsAntisymmetric}
+use Rattle.std.specs.FinMap as maps
 use Rattle.t1_subset.proofs.shared.Shared.without_subrs.Goals as goal
 
 -- the map of no entries has none

@@ -1,9 +1,6 @@
-use Rattle.std.proofs.Common.{ap, sym, ◌∙◌, subst, refl}
-use Rattle.std.specs.FinMap.{keys}
-use Rattle.std.specs.Option.{option_map}
-use Rattle.t1_font.specs.{IsFont.{IsFont}}
-use Rattle.t1_algebra.specs.{Profile.{profile}, StateTables.{states_of}}
-use Rattle.t1_algebra.proofs.FontStates.{font_made}
+use Rattle.std.{proofs.Common.{ap, sym, ◌∙◌, subst, refl}, specs.{FinMap.{keys}, Option.{option_map}}}
+use Rattle.t1_font.specs.IsFont.{IsFont}
+use Rattle.t1_algebra.{specs.{Profile.{profile}, StateTables.{states_of}}, proofs.FontStates.{font_made}}
 use Rattle.t1_subset.proofs.state_value.States.into_font.Goals as goal
 
 pub of_parts-requires : goal.of_parts-requires
