@@ -6,20 +6,8 @@ ghost use Rattle.t1_bytes.specs.Texts.{file_text, hex_lines, trailer};
 
 use crate::form::Form;
 use crate::hexadecimal::{lines_len, spread_hex_lines, trailer};
-use crate::pfb::{AROUND, put_segments};
+use crate::pfb::{AROUND, put_front, put_segments};
 use std::alloc::{AllocError, Global};
-
-/// Puts bytes in front of those that a vector has.
-pub(crate) fn put_front(bytes: &mut Vec<u8>, front: &[u8]) -> Result<(), AllocError>
-    ensures { OnOk result (bytes.new.items ≡ front.now ++ bytes.old.items) }
-{
-    let len = bytes.len();
-    bytes.resize(len.saturating_add(front.len()), 0)?;
-    bytes.copy_within(0..len, front.len());
-    let (first, _) = bytes.as_mut_slice().split_at_mut(front.len());
-    first.copy_from_slice(front);
-    Ok(())
-}
 
 /// Makes the PFA file of a cipher in the cipher's own vector: the clear part, lines of the cipher's digits, and the trailer.
 fn put_lines(out: &mut Vec<u8>, clear: &[u8]) -> Result<(), AllocError>

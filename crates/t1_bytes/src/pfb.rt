@@ -10,7 +10,6 @@ ghost use Rattle.byteorder.specs.Endian.{little_bytes};
 ghost use Rattle.t1_bytes.specs.Texts.{segment_text, pfb_text};
 ghost use Rattle.t1_bytes.specs.Faults.{Gives, Refuses};
 
-use crate::around::put_front;
 use crate::fault::BytesFault;
 use crate::texts::{count_at, fixed_at};
 use byteorder::{ByteOrder, LittleEndian};
@@ -27,6 +26,18 @@ const BINARY: u8 = 2;
 
 /// The kind of the segment that ends the file. It has no length and no data.
 const END: u8 = 3;
+
+/// Puts bytes in front of those that a vector has.
+pub(crate) fn put_front(bytes: &mut Vec<u8>, front: &[u8]) -> Result<(), AllocError>
+    ensures { OnOk result (bytes.new.items ≡ front.now ++ bytes.old.items) }
+{
+    let len = bytes.len();
+    bytes.resize(len.saturating_add(front.len()), 0)?;
+    bytes.copy_within(0..len, front.len());
+    let (first, _) = bytes.as_mut_slice().split_at_mut(front.len());
+    first.copy_from_slice(front);
+    Ok(())
+}
 
 /// The data of a text or binary segment, and what stands after it.
 fn segment_at(bytes: &[u8]) -> Option<(&[u8], &[u8])>

@@ -2,8 +2,8 @@
 use Rattle.std.specs.{Prelude.{◌≡◌, ℕ, ◌<◌, nat_lt, Bool, true, false, ◌⊎◌, min, List, [], Option, Some, None, IsSome, if◌then◌else◌}, Coded.{Coded, code_by, coded×, coded⊎, coded_ℕ, coded_option}}
 use Rattle.std.specs.{FinMap.{get}, Option.{option_map}}
 use Rattle.std.proofs.{Common.{inl, inr, refl}, lemmas.Bool.{ltb-true}}
-use Rattle.t1_font.specs.{declared.shell.KeptSubrs.{KeptSubrs}, declared.font.LentEncoding.{LentEncoding}, declared.font.Part.{Part}}
-use Rattle.t1_font.specs.declared.font.Part.TheVariants.{Head, ClearTail, Private, Middle, Tail, SubrsRd, SubrsPut, SubrsDef, GlyphsRd, GlyphsDef}
+use Rattle.t1_font.specs.{declared.shell.KeptSubrs.{KeptSubrs}, declared.font.LentEncoding.{LentEncoding}, declared.shell.Part.{Part}}
+use Rattle.t1_font.specs.declared.shell.Part.TheVariants.{Head, ClearTail, Private, Middle, Tail, SubrsRd, SubrsPut, SubrsDef, GlyphsRd, GlyphsDef}
 use Rattle.t1_font.specs.{FontValue.{FontValue, Shell, SubrsShell, Encoding, Word, Codes, Numbered, Named, declared_count}, Codes.{bytes_code, numbered_code, named_code}}
 use Rattle.t1_font.specs.declared.shell.Shell.TheInside as shells
 use Rattle.t1_font.specs.declared.font.LentEncoding.TheVariants as lent

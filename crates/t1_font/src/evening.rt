@@ -1,6 +1,6 @@
 //! Sources made even: fonts that other programs cut get even texts, and declare one count of Subrs.
 
-ghost use Rattle.std.specs.Prelude.{◌≡◌, ◌++◌, ◌∷◌, [], IfOk, OnOk};
+ghost use Rattle.std.specs.Prelude.{◌≡◌, IfOk};
 ghost use Rattle.std.specs.Option.{option_map};
 ghost use Rattle.t1_font.specs.FontValue.{declared_count};
 ghost use Rattle.t1_font.specs.FontModel.{subrs_view};
@@ -9,7 +9,7 @@ ghost use Rattle.t1_font.specs.Evening.{raised, even_shell, even, largest_count,
 use crate::even_texts::{ClearTexts, KeptText, even_clear, even_text, squeezed_text};
 use crate::font_boxes::even_boxes;
 use crate::shell::{KeptSubrs, Shell};
-use crate::source::{Source, SourceParts};
+use crate::source::{Source, SourceParts, keep};
 use std::alloc::{AllocError, Global};
 
 /// A table of Subrs that declares at least this many.
@@ -100,6 +100,7 @@ impl Source {
             encoding,
             buffer,
             subrs,
+            likely,
             glyphs,
         } = self.parts;
         Ok(Source {
@@ -108,6 +109,7 @@ impl Source {
                 encoding,
                 buffer,
                 subrs,
+                likely,
                 glyphs,
             },
         })
@@ -126,16 +128,6 @@ fn largest_count(sources: &[Source]) -> u16
         }
     }
     largest
-}
-
-/// One more source.
-pub(crate) fn keep(sources: &mut Vec<Source>, source: Source) -> Result<(), AllocError>
-    ensures { OnOk result (sources.new.items ≡ sources.old.items ++ source ∷ []) }
-{
-    match sources.push(source) {
-        Ok(_) => Ok(()),
-        Err(_) => Err(AllocError),
-    }
 }
 
 /// The sources with even texts ([`Source::even`]), each with the largest declared count among them.

@@ -25,6 +25,7 @@ use crate::private::{PrivateParts, private_parts};
 use crate::read_shell::kept_shell;
 use crate::repeats::{ByName, ByNumber, last_entries};
 use crate::source::{KeptEncoding, Source, SourceParts, keep_codes};
+use crate::stored::likely_places;
 use crate::subrs::SubrsParts;
 use std::alloc::{AllocError, Global};
 use t1_bytes::{Cipher, EEXEC_KEY, EEXEC_LEAD, FILE_LIMIT, decrypt, find_cipher, flatten_vec};
@@ -138,11 +139,13 @@ fn source_parts(
     };
     let glyphs = last_entries(gathered.glyphs, names)?;
     let subrs = last_entries(gathered.subrs, ByNumber)?;
+    let likely = likely_places(alloc, subrs.as_slice())?;
     Ok(SourceParts {
         shell,
         encoding,
         buffer,
         subrs,
+        likely,
         glyphs,
     })
 }

@@ -10,7 +10,7 @@ ghost use Rattle.t1_font.specs.Joins.{IsOverLimits};
 
 use crate::lent::{Named, NamedEntries, Numbered, NumberedEntries};
 use crate::limits::{COUNT_LIMIT, WEIGHT_LIMIT};
-use crate::shell::Shell;
+use crate::shell::{Part, Shell};
 use std::marker::Model;
 use t1_run::{Glyphs, Subroutines};
 
@@ -63,31 +63,6 @@ impl<'a> Model for Font<'a> {
     ghost view = { λ f. f.parts };
 
     ghost invariant = { λ f. IsFont f.parts };
-}
-
-/// A kept text, or a kept word or phrase of a table.
-#[derive(Clone, Copy, Debug, PartialEq, Eq)]
-pub enum Part {
-    /// The clear text before the Encoding.
-    Head,
-    /// The clear text after the Encoding, through `eexec`.
-    ClearTail,
-    /// The private text before Subrs, or before CharStrings if there are no Subrs.
-    Private,
-    /// The private text between Subrs and CharStrings.
-    Middle,
-    /// The private text after CharStrings, through the first `closefile`.
-    Tail,
-    /// The word before the bytes of each Subr, often `RD`.
-    SubrsRd,
-    /// The phrase after the bytes of each Subr, often `NP`.
-    SubrsPut,
-    /// The phrase that closes the table of Subrs, often `ND`.
-    SubrsDef,
-    /// The word before the bytes of each glyph, often `RD`.
-    GlyphsRd,
-    /// The phrase after the bytes of each glyph, often `ND`.
-    GlyphsDef,
 }
 
 impl<'a> Font<'a> {
@@ -239,11 +214,11 @@ impl<'a> Font<'a> {
 }
 
 impl<'a> FontParts<'a> {
-    /// The plain charstring of a Subr. If all Subrs below it are present, its place is its index.
+    /// The plain charstring of a Subr.
     fn subr(&self, index: u16) -> Option<&'a [u8]>
         ensures { option_map (λ b. b.now) result ≡ fin.get self.now.subrs index }
     {
-        self.subrs.get_near(index as usize, index)
+        self.subrs.get_likely(index)
     }
 
     /// The weight, as far as 64 bits hold it.

@@ -13,13 +13,12 @@ ghost use Rattle.t1_font.specs.FontValue.{weight, texts_weight, weight_limit};
 ghost use Rattle.t1_font.specs.BoxViews.{box_view, kept_view, numbers_view, box_place_view, side_view, are_alike, wanted_box};
 
 use crate::even_texts::{ClearTexts, both_fit, even_clear, same_both};
-use crate::evening::keep;
 use crate::file::are_bytes;
 use crate::joined_boxes::{FontBox, KeptBox, joined_box};
 use crate::limits::WEIGHT_LIMIT;
 use crate::numbers::number_at;
 use crate::shell::Shell;
-use crate::source::{Source, SourceParts, glyphs_weight, subrs_weight};
+use crate::source::{Source, SourceParts, glyphs_weight, keep, subrs_weight};
 use std::alloc::{AllocError, Global};
 use t1_bytes::texts::{count_at, find_from, fixed_at, gap_at, white_at};
 
@@ -399,6 +398,7 @@ impl Source {
             encoding,
             buffer,
             subrs,
+            likely,
             glyphs,
         } = self.parts;
         let mut shell = shell;
@@ -410,6 +410,7 @@ impl Source {
                 encoding,
                 buffer,
                 subrs,
+                likely,
                 glyphs,
             },
         }

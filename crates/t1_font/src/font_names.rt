@@ -5,10 +5,10 @@ ghost use Rattle.std.specs.Option.{option_map};
 ghost use Rattle.t1_font.specs.FontNames.{around_name, text_named, clear_named, can_be_named, named, evened_named};
 
 use crate::even_texts::{ClearTexts, both_fit};
-use crate::evening::{even_shells, keep};
+use crate::evening::even_shells;
 use crate::file::are_bytes;
 use crate::font_boxes::is_light;
-use crate::source::{Source, SourceParts};
+use crate::source::{Source, SourceParts, keep};
 use crate::tags::around_name;
 use std::alloc::{AllocError, Global};
 

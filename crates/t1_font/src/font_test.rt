@@ -347,6 +347,7 @@ impl Source {
             encoding,
             buffer,
             subrs,
+            likely,
             glyphs,
         } = self.parts;
         let shell = untested_shell(shell, head);
@@ -356,6 +357,7 @@ impl Source {
                 encoding,
                 buffer,
                 subrs,
+                likely,
                 glyphs,
             },
         })

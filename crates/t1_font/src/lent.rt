@@ -195,8 +195,24 @@ impl<'a> Numbered<'a> {
         self.len() == 0
     }
 
+    /// Where a number stands if it has an entry, in all likelihood.
+    #[inline(always)]
+    fn likely_place(&self, number: u16) -> usize {
+        match &self.form {
+            NumberedForm::Stored(own) => own.likely_place(number),
+            _ => number as usize,
+        }
+    }
+
+    /// The byte string at a number, which is looked for first where it likely stands.
+    pub(crate) fn get_likely(&self, number: u16) -> Option<&'a [u8]>
+        ensures { option_map (λ b. b.now) result ≡ fin.get self.now number }
+    {
+        self.get_near(self.likely_place(number), number)
+    }
+
     /// The byte string at a number, which is looked for at this place first.
-    pub fn get_near(&self, place: usize, number: u16) -> Option<&'a [u8]>
+    pub(crate) fn get_near(&self, place: usize, number: u16) -> Option<&'a [u8]>
         ensures { option_map (λ b. b.now) result ≡ fin.get self.now number }
     {
         match self.at(place) {

@@ -13,9 +13,12 @@ use crate::font::FontParts;
 use crate::lent::{Named, Numbered};
 use crate::sealing::Sealing;
 use crate::shell::{KeptSubrs, Shell};
-use crate::writing::MARKERS;
 use std::alloc::{AllocError, Global};
 use t1_bytes::{EEXEC_LEAD, Form, room_around};
+
+/// How many bytes of a text stand outside the entries and the kept texts at most: the markers, the phrase that closes
+/// Subrs, lead bytes and ends of lines.
+pub(crate) const MARKERS: usize = 256;
 
 /// How many bytes an entry has at most beside its name, its bytes and the kept words: the end of the line, `dup`, two
 /// numbers and the blanks between them.

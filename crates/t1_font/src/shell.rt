@@ -4,8 +4,32 @@ ghost use Rattle.std.specs.Prelude.{◌≡◌, is_some};
 ghost use Rattle.t1_font.specs.FontValue.{declared_count, texts_weight};
 ghost use Rattle.t1_font.specs.FontModel.{clamp, part_of, of_subrs};
 
-use crate::font::Part;
 use std::marker::Model;
+
+/// A kept text, or a kept word or phrase of a table.
+#[derive(Clone, Copy, Debug, PartialEq, Eq)]
+pub enum Part {
+    /// The clear text before the Encoding.
+    Head,
+    /// The clear text after the Encoding, through `eexec`.
+    ClearTail,
+    /// The private text before Subrs, or before CharStrings if there are no Subrs.
+    Private,
+    /// The private text between Subrs and CharStrings.
+    Middle,
+    /// The private text after CharStrings, through the first `closefile`.
+    Tail,
+    /// The word before the bytes of each Subr, often `RD`.
+    SubrsRd,
+    /// The phrase after the bytes of each Subr, often `NP`.
+    SubrsPut,
+    /// The phrase that closes the table of Subrs, often `ND`.
+    SubrsDef,
+    /// The word before the bytes of each glyph, often `RD`.
+    GlyphsRd,
+    /// The phrase after the bytes of each glyph, often `ND`.
+    GlyphsDef,
+}
 
 /// What is kept of a table of Subrs beside its Subrs.
 #[derive(Drop)]

@@ -1,6 +1,6 @@
 //! A font that owns its bytes.
 
-ghost use Rattle.std.specs.Prelude.{◌≡◌, ◌+◌, map, filter, IfOk};
+ghost use Rattle.std.specs.Prelude.{◌≡◌, ◌+◌, ◌++◌, ◌∷◌, [], map, filter, IfOk, OnOk};
 ghost use Rattle.std.specs.Ordering.{nat_cmp};
 ghost use Rattle.std.specs.FinMap.{from_sorted, entries, len};
 ghost use Rattle.t1_join.specs.TableMeaning.{Rises};
@@ -29,13 +29,14 @@ pub(crate) enum KeptEncoding {
 }
 
 /// The parts of a font that owns them, which together need not make one. Names of glyphs and charstrings are ranges of
-/// the buffer.
+/// the buffer. Subrs are looked for where they likely stand ([`likely_places`](crate::stored::likely_places)).
 #[derive(Drop)]
 pub(crate) struct SourceParts {
     pub(crate) shell: Shell,
     pub(crate) encoding: KeptEncoding,
     pub(crate) buffer: Vec<u8>,
     pub(crate) subrs: Vec<(u16, Range)>,
+    pub(crate) likely: Vec<u16>,
     pub(crate) glyphs: Vec<(Range, Range)>,
 }
 
@@ -88,6 +89,16 @@ impl Source {
     {
         let parts = self.parts.lent(alloc)?;
         Ok(Font { parts })
+    }
+}
+
+/// One more source.
+pub(crate) fn keep(sources: &mut Vec<Source>, source: Source) -> Result<(), AllocError>
+    ensures { OnOk result (sources.new.items ≡ sources.old.items ++ source ∷ []) }
+{
+    match sources.push(source) {
+        Ok(_) => Ok(()),
+        Err(_) => Err(AllocError),
     }
 }
 
@@ -159,7 +170,7 @@ impl SourceParts {
         Ok(FontParts {
             shell: &self.shell,
             encoding: self.encoding(alloc)?,
-            subrs: Numbered::stored(StoredSubrs::new(&self.buffer, &self.subrs)),
+            subrs: Numbered::stored(StoredSubrs::new(&self.buffer, &self.subrs, &self.likely)),
             glyphs: Named::stored(&self.buffer, &self.glyphs),
         })
     }

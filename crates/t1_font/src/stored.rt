@@ -12,13 +12,41 @@ ghost use Rattle.t1_font.specs.Ranges.{numbered_at};
 
 use crate::ranges::Range;
 use crate::stub::STUB;
+use std::alloc::{AllocError, Global};
 use std::marker::Model;
 
-/// Charstrings by index as they stand in a source: its buffer, and the place of each there.
+/// Charstrings by index as they stand in a source: its buffer, and the place of each there; and, by index, where each likely stands
+/// among these places.
 #[derive(Drop)]
 pub(crate) struct StoredSubrs<'a> {
     buffer: &'a [u8],
     places: &'a [(u16, Range)],
+    likely: &'a [u16],
+}
+
+/// Where the entry of each index up to the last one stands, so that a look-up needs no search; an index without an entry has any
+/// place. There are none where each entry's place is its index. Whoever takes a place looks whether the index stands there.
+pub(crate) fn likely_places(
+    alloc: Global,
+    entries: &[(u16, Range)],
+) -> Result<Vec<u16>, AllocError> {
+    let mut likely = Vec::new(alloc);
+    let Some((last, _)) = entries.last() else {
+        return Ok(likely);
+    };
+    let count = *last as usize + 1;
+    if count == entries.len() {
+        return Ok(likely);
+    }
+    likely.resize(count, 0)?;
+    let mut place = 0u16;
+    'entries: for (index, _) in entries {
+        if let Some(at) = likely.get_mut(*index as usize) {
+            *at = place;
+        }
+        place = place.saturating_add(1);
+    }
+    Ok(likely)
 }
 
 impl<'a> Model for StoredSubrs<'a> {
@@ -40,12 +68,16 @@ impl<'a> Model for StoredSubrs<'a> {
 }
 
 impl<'a> StoredSubrs<'a> {
-    /// The table of a source, as it stands there.
-    pub(crate) fn new(buffer: &'a [u8], places: &'a [(u16, Range)]) -> Self
+    /// The table of a source, as it stands there, with the places of [`likely_places`].
+    pub(crate) fn new(buffer: &'a [u8], places: &'a [(u16, Range)], likely: &'a [u16]) -> Self
         requires { Rises nat_cmp (map (numbered_at buffer.now) places.now) }
         ensures { result ≡ fin.from_sorted (map (numbered_at buffer.now) places.now) }
     {
-        StoredSubrs { buffer, places }
+        StoredSubrs {
+            buffer,
+            places,
+            likely,
+        }
     }
 
     /// The same entries, lent once more.
@@ -55,6 +87,7 @@ impl<'a> StoredSubrs<'a> {
         StoredSubrs {
             buffer: self.buffer,
             places: self.places,
+            likely: self.likely,
         }
     }
 
@@ -75,6 +108,15 @@ impl<'a> StoredSubrs<'a> {
     {
         let (index, body) = self.places.get(place)?;
         Some((*index, body.of(self.buffer)))
+    }
+
+    /// Where an index stands if it has an entry, in all likelihood.
+    #[inline(always)]
+    pub(crate) fn likely_place(&self, index: u16) -> usize {
+        match self.likely.get(index as usize) {
+            Some(place) => *place as usize,
+            None => index as usize,
+        }
     }
 
     /// The place of an index, if it has an entry.
@@ -108,13 +150,13 @@ impl<'a> StoredSubrs<'a> {
         }
     }
 
-    /// The charstring at an index, or a stub if there is none. Most tables have each index up to the last one, and nothing behind it,
-    /// so both is looked at before an index is searched.
+    /// The charstring at an index, or a stub if there is none. It is looked for where it likely stands, and an index behind the last one
+    /// has none, so few are searched.
     #[inline(always)]
     pub(crate) fn get_or_stub(&self, index: u16) -> &'a [u8]
         ensures { result.now ≡ unwrap_or (fin.get self.now index) stub }
     {
-        match self.at(index as usize) {
+        match self.at(self.likely_place(index)) {
             Some((there, body)) if there == index => return body,
             _ => {}
         }

@@ -10,6 +10,7 @@ mod even_texts;
 mod evening;
 mod faults;
 mod growths;
+mod likely;
 mod limits;
 mod long;
 mod mends;

@@ -12,14 +12,10 @@ ghost use Rattle.t1_font.specs.Canon.{encoding_pieces, canon_clear, canon_privat
 
 use crate::font::{Font, FontParts, LentEncoding};
 use crate::lent::Numbered;
-use crate::private_writing::private_cipher;
+use crate::private_writing::{MARKERS, private_cipher};
 use itoa::Buffer;
 use std::alloc::{AllocError, Global};
 use t1_bytes::{Form, file_around};
-
-/// How many bytes of a text stand outside the entries and the kept texts at most: the markers, the phrase that closes
-/// Subrs, lead bytes and ends of lines.
-pub(crate) const MARKERS: usize = 256;
 
 /// What stands between `/Encoding` and the names of a table.
 const TABLE_START: &[u8; 49] = b"256 array

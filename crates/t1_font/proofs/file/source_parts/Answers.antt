@@ -4,20 +4,20 @@ use Rattle.t1_font.specs.{Answers.{encoding_view}, Entries.{AreLast}, FontValue.
 use Rattle.t1_font.proofs.{Buffers.{all_longer, names_wider}, Lasts.{all_last, lasts_rise, lasts_map}, canonical.FontAgain.{name_same}}
 use Rattle.t1_font.proofs.file.source_parts.Goals as goal
 
-subrs_inside : (c : goal.In_ok-subrs) → AllInside (length c.gathered.inside.buffer.items) c.gathered.inside.subrs.items
+subrs_inside : (c : goal.In_ok-likely) → AllInside (length c.gathered.inside.buffer.items) c.gathered.inside.subrs.items
 subrs_inside c =
     all_longer c.gathered.inside.at (length c.gathered.inside.buffer.items) c.gathered.inside.subrs.items c.gathered.invariant.at c.gathered.invariant.subrs
 
-names_inside : (c : goal.In_ok-subrs) → NamesInside (length c.gathered.inside.buffer.items) c.gathered.inside.glyphs.items
+names_inside : (c : goal.In_ok-likely) → NamesInside (length c.gathered.inside.buffer.items) c.gathered.inside.glyphs.items
 names_inside c =
     names_wider c.gathered.inside.at (length c.gathered.inside.buffer.items) c.gathered.inside.glyphs.items c.gathered.invariant.at c.gathered.invariant.names
 
-glyphs_inside : (c : goal.In_ok-subrs) → AllInside (length c.gathered.inside.buffer.items) c.gathered.inside.glyphs.items
+glyphs_inside : (c : goal.In_ok-likely) → AllInside (length c.gathered.inside.buffer.items) c.gathered.inside.glyphs.items
 glyphs_inside c =
     all_longer c.gathered.inside.at (length c.gathered.inside.buffer.items) c.gathered.inside.glyphs.items c.gathered.invariant.at c.gathered.invariant.glyphs
 
 -- the glyphs that are kept
-last_so : (c : goal.In_ok-subrs) → AreLast (by_name c.gathered.inside.buffer.items) c.gathered.inside.glyphs.items c.in_ok-glyphs.glyphs.items
+last_so : (c : goal.In_ok-likely) → AreLast (by_name c.gathered.inside.buffer.items) c.gathered.inside.glyphs.items c.in_ok-glyphs.glyphs.items
 last_so c = subst (λ (b : List ℕ). AreLast (by_name b) c.gathered.inside.glyphs.items c.in_ok-glyphs.glyphs.items)
     c.as_slice.ensures.value c.in_ok-glyphs.ensures
 

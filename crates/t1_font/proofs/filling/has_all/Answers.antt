@@ -14,7 +14,7 @@ lent_there (Some b) = refl
 pub others-preserved : goal.others-preserved
 others-preserved c =
     let m = c.args.table.now in
-    let there : contains_key m c.in-Some.number ≡ true = sym (ap is_some c.get_near.ensures) ∙ (lent_there c.get_near.result ∙ c.if-is_none.ensures) in
+    let there : contains_key m c.in-Some.number ≡ true = sym (ap is_some c.get_likely.ensures) ∙ (lent_there c.get_likely.result ∙ c.if-is_none.ensures) in
     let more = rest_more lent_number _ _ _ _ c.in-Some.is c.next.ensures.steps in
     one_known m c.args.others.now (c.in-Some.number, c.in-Some.field-0-1.now) c.next.new.self there
     (subst (EachLeft m c.args.others.now) more c.others.invariant)
@@ -22,7 +22,7 @@ others-preserved c =
 pub returns-then-is_none : goal.returns-then-is_none
 returns-then-is_none c =
     let m = c.args.table.now in
-    let none : contains_key m c.in-Some.number ≡ false = sym (ap is_some c.get_near.ensures) ∙ (lent_there c.get_near.result ∙ c.if-is_none.ensures) in
+    let none : contains_key m c.in-Some.number ≡ false = sym (ap is_some c.get_likely.ensures) ∙ (lent_there c.get_likely.result ∙ c.if-is_none.ensures) in
     let more = rest_more lent_number _ _ _ _ c.in-Some.is c.next.ensures.steps in
     one_unknown m c.args.others.now (c.in-Some.number, c.in-Some.field-0-1.now) c.next.new.self none
     (subst (EachLeft m c.args.others.now) more c.others.invariant)

@@ -1,0 +1,33 @@
+//! Where Subrs likely stand, which no clause says, since each look-up tests what it finds.
+
+use crate::ranges::Range;
+use crate::stored::likely_places;
+use std::alloc::{AllocError, Global};
+use std::test::Fail;
+
+/// The likely places of entries with these indices.
+fn places(alloc: Global, indices: &[u16]) -> Result<Vec<u16>, AllocError> {
+    let mut entries = Vec::new(alloc);
+    for index in indices {
+        entries.push((*index, Range { start: 0, end: 0 }))?;
+    }
+    likely_places(alloc, entries.as_slice())
+}
+
+#[test]
+fn likely_places_of_indices(rt: HostRuntime) -> Result<(), Fail> {
+    const ROWS: &[(&[u16], &[u16])] = &[
+        (&[], &[]),
+        (&[0], &[]),
+        (&[0, 1, 2], &[]),
+        (&[2], &[0, 0, 0]),
+        (&[0, 3], &[0, 0, 0, 1]),
+        (&[1, 2, 5, 6], &[0, 0, 1, 0, 0, 2, 3]),
+    ];
+    for (indices, want) in ROWS {
+        assert!(rt; places(rt.alloc(), indices)?.as_slice() == *want);
+    }
+    let last = places(rt.alloc(), &[7, 65_534])?;
+    assert!(rt; last.len() == 65_535 && last[7] == 0 && last[65_534] == 1);
+    Ok(())
+}
