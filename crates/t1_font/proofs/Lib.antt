@@ -33,7 +33,6 @@ pub mod CutEntries
 pub mod CutLoops
 pub mod LentTables
 pub mod FilledTables
-pub mod TablePasses
 pub mod even_fonts
 pub mod Untested
 pub mod FontTests

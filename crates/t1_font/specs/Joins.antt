@@ -1,12 +1,8 @@
 -- A font of the entries of two, and why these are not one font.
-use Rattle.std.specs.{Prelude.{◌<◌, ◌⊎◌, ℕ, cond, drop, List, Option, unwrap_or}, declared.cmp.Ordering.{Ordering}, Str.{bytes_eq}, FinMap.{FinMap, get, len, entries}}
-use Rattle.t1_join.specs.Passes.{first_met, merge}
+use Rattle.std.specs.{Prelude.{◌<◌, ◌⊎◌, cond, List, ℕ, Option, unwrap_or}, Str.{bytes_eq}, FinMap.{get, len, entries}}
+use Rattle.t1_join.specs.Passes.{first_met}
 use Rattle.t1_font.specs.{declared.parts.PartsFault.{PartsFault}, declared.parts.PartsFault.TheVariants.{Limit, Memory}, FontValue.{FontValue, Named, name_cmp, count_limit, weight_limit, weight}}
 use Rattle.t1_font.specs.{Cut.{stub}, Encodings.{join_encodings}, Maps.{map_values, merged}}
-
--- what two tables have from two places on, upwards by key; of a key that both have, the first's entry
-abbrev pub merged_from : {K X : Type 0} {R : K → K → Ordering} → FinMap R X → FinMap R X → ℕ → ℕ → List (K × X)
-merged_from {R = R} m n i j = merge R (drop i (entries m)) (drop j (entries n))
 
 -- the smallest name for which both tables have a glyph, with different charstrings
 abbrev pub differing_name : Named → Named → Option (List ℕ)

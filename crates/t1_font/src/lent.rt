@@ -19,10 +19,10 @@ ghost use Rattle.t1_font.specs.Ranges.{named_at};
 
 use crate::ranges::Range;
 use crate::stored::StoredSubrs;
-use crate::tables::SortedTable;
 use std::alloc::{AllocError, Global};
 use std::cmp::Ordering;
 use std::marker::Model;
+use t1_join::SortedTable;
 
 /// The weight of a Subr of this many bytes, as far as 64 bits hold it. A Subr of no bytes weighs as much as one of one
 /// byte.
@@ -153,7 +153,7 @@ impl<'a> Numbered<'a> {
     }
 
     /// How many entries the table has.
-    #[tactic(auto, using(crate::proofs::LentTables::count_is, crate::proofs::LentTables::same_table))]
+    #[tactic(auto, using(t1_join::proofs::TablePlaces::count_is, crate::proofs::LentTables::same_table))]
     pub fn len(&self) -> usize
         ensures { result ≡ fin.len self.now }
     {
@@ -260,24 +260,27 @@ impl<'a> Numbered<'a> {
     }
 }
 
-impl<'a> SortedTable for Numbered<'a> {
+impl<'t, 'a> SortedTable for &'t Numbered<'a> {
     ghost use Rattle.std.specs.Prelude.{ℕ};
     ghost use Rattle.std.specs.Ordering.{nat_cmp};
+    ghost use Rattle.t1_join.specs.Meaning.{of_number};
     ghost use Rattle.t1_font.specs.Lent.{lent_number};
 
     ghost Key = { ℕ };
 
+    ghost meaning = { of_number };
+
     ghost order = { nat_cmp };
 
-    ghost table = { λ m. m };
+    ghost table = { λ m. m.now };
 
     type Entry = (u16, &'a [u8]);
 
     ghost entry = { lent_number };
 
     #[inline(always)]
-    #[tactic(auto, using(crate::proofs::LentTables::stands, crate::proofs::LentTables::stands_not, crate::proofs::LentTables::stands_copied, crate::proofs::LentTables::same_table))]
-    fn at(&self, place: usize) -> Option<(u16, &'a [u8])> {
+    #[tactic(auto, using(t1_join::proofs::TablePlaces::stands, t1_join::proofs::TablePlaces::stands_not, t1_join::proofs::TablePlaces::stands_copied, crate::proofs::LentTables::same_table))]
+    fn at(self, place: usize) -> Option<(u16, &'a [u8])> {
         match &self.form {
             NumberedForm::Stored(own) => own.at(place),
             NumberedForm::Filled { own, indices } => {
@@ -291,6 +294,11 @@ impl<'a> SortedTable for Numbered<'a> {
     #[inline(always)]
     fn compare(one: &(u16, &'a [u8]), other: &(u16, &'a [u8])) -> Ordering {
         one.0.cmp(&other.0)
+    }
+
+    #[inline(always)]
+    fn same(one: &(u16, &'a [u8]), other: &(u16, &'a [u8])) -> bool {
+        one.1 == other.1
     }
 }
 
@@ -340,7 +348,7 @@ impl<'t, 'a> Iterator for NumberedEntries<'t, 'a> {
     ghost remaining = { λ s. at_most (length s) };
 
     #[inline(always)]
-    #[tactic(auto, using(crate::proofs::LentTables::from_place, crate::proofs::LentTables::past_all))]
+    #[tactic(auto, using(t1_join::proofs::TablePasses::from_place, t1_join::proofs::TablePasses::past_all))]
     fn next(&mut self) -> Option<(u16, &'a [u8])> {
         let entry = self.table.at(self.place)?;
         self.place += 1;
@@ -352,21 +360,21 @@ impl<'t, 'a> Iterator for NumberedEntries<'t, 'a> {
 ///
 /// It refers to the vector and not to its bytes, so a table of glyphs takes two words for each.
 #[derive(Clone, Copy)]
-pub(crate) struct Glyph<'a> {
+pub struct Glyph<'a> {
     buffer: &'a Vec<u8>,
     places: &'a (Range, Range),
 }
 
 impl<'a> Glyph<'a> {
     /// Its name.
-    pub(crate) fn name(self) -> &'a [u8]
+    pub fn name(self) -> &'a [u8]
         ensures { result.now ≡ (lent_glyph self.entry).0 }
     {
         self.places.0.of(self.buffer.as_slice())
     }
 
     /// Its charstring.
-    pub(crate) fn body(self) -> &'a [u8]
+    pub fn body(self) -> &'a [u8]
         ensures { result.now ≡ (lent_glyph self.entry).1 }
     {
         self.places.1.of(self.buffer.as_slice())
@@ -439,7 +447,7 @@ impl<'a> Named<'a> {
     }
 
     /// How many glyphs the table has.
-    #[tactic(auto, using(crate::proofs::LentTables::count_is))]
+    #[tactic(auto, using(t1_join::proofs::TablePlaces::count_is))]
     pub fn len(&self) -> usize
         ensures { result ≡ fin.len self.now }
     {
@@ -502,23 +510,25 @@ impl<'a> Named<'a> {
     }
 }
 
-impl<'a> SortedTable for Named<'a> {
+impl<'t, 'a> SortedTable for &'t Named<'a> {
     ghost use Rattle.std.specs.Prelude.{List, ℕ};
     ghost use Rattle.t1_font.specs.FontValue.{name_cmp};
     ghost use Rattle.t1_font.specs.Lent.{lent_glyph};
 
     ghost Key = { List ℕ };
 
+    ghost meaning = { λ n. n };
+
     ghost order = { name_cmp };
 
-    ghost table = { λ m. m };
+    ghost table = { λ m. m.now };
 
     type Entry = Glyph<'a>;
 
     ghost entry = { lent_glyph };
 
-    #[tactic(auto, using(crate::proofs::LentTables::stands, crate::proofs::LentTables::stands_not, crate::proofs::LentTables::stands_copied))]
-    fn at(&self, place: usize) -> Option<Glyph<'a>> {
+    #[tactic(auto, using(t1_join::proofs::TablePlaces::stands, t1_join::proofs::TablePlaces::stands_not, t1_join::proofs::TablePlaces::stands_copied))]
+    fn at(self, place: usize) -> Option<Glyph<'a>> {
         match &self.form {
             NamedForm::Stored { buffer, places } => {
                 let places = places.get(place)?;
@@ -531,6 +541,11 @@ impl<'a> SortedTable for Named<'a> {
     #[inline(always)]
     fn compare(one: &Glyph<'a>, other: &Glyph<'a>) -> Ordering {
         one.name().cmp(other.name())
+    }
+
+    #[inline(always)]
+    fn same(one: &Glyph<'a>, other: &Glyph<'a>) -> bool {
+        one.body() == other.body()
     }
 }
 
@@ -562,7 +577,7 @@ impl<'t, 'a> Iterator for NamedEntries<'t, 'a> {
 
     ghost remaining = { λ s. at_most (length s) };
 
-    #[tactic(auto, using(crate::proofs::LentTables::from_place, crate::proofs::LentTables::past_all))]
+    #[tactic(auto, using(t1_join::proofs::TablePasses::from_place, t1_join::proofs::TablePasses::past_all))]
     fn next(&mut self) -> Option<(&'a [u8], &'a [u8])> {
         let glyph = self.table.at(self.place)?;
         self.place += 1;

@@ -12,9 +12,9 @@ use crate::font::{Font, FontParts, LentEncoding};
 use crate::lent::Numbered;
 use crate::passes::join_glyphs;
 use crate::stub::STUB;
-use crate::tables::push_both;
 use std::alloc::{AllocError, Global};
 use std::fmt;
+use t1_join::push_both;
 
 /// Why the entries of two fonts don't make one font.
 #[derive(Clone, Copy, Debug, PartialEq, Eq)]
@@ -53,7 +53,7 @@ impl From<AllocError> for PartsFault {
 }
 
 /// The codes of both fonts, in one pass over both tables. If both have a code, the first's name stands.
-#[tactic(auto, using(crate::proofs::TablePasses::put_out, crate::proofs::TablePasses::merge_rises, crate::proofs::TablePasses::merge_is, std::proofs::lemmas::Cmp::nat_cmp_total, crate::proofs::canonical::FontAgain::number_same))]
+#[tactic(auto, using(t1_join::proofs::TablePasses::put_out, t1_join::proofs::TablePasses::merge_rises, t1_join::proofs::TablePasses::merge_is, std::proofs::lemmas::Cmp::nat_cmp_total, crate::proofs::canonical::FontAgain::number_same))]
 pub(crate) fn join_codes<'a>(
     alloc: Global,
     first: &Numbered<'a>,
@@ -62,7 +62,7 @@ pub(crate) fn join_codes<'a>(
     ensures { IfOk result (λ m. m ≡ merged first.now second.now) }
 {
     let mut all = Vec::with_capacity(alloc, first.len().saturating_add(second.len()))?;
-    push_both(&mut all, first, second, (0, 0))?;
+    push_both(&mut all, first, second, 0, 0)?;
     Ok(Numbered::made(all))
 }
 

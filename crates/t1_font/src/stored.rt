@@ -92,7 +92,7 @@ impl<'a> StoredSubrs<'a> {
     }
 
     /// How many there are.
-    #[tactic(auto, using(crate::proofs::LentTables::count_is))]
+    #[tactic(auto, using(t1_join::proofs::TablePlaces::count_is))]
     pub(crate) fn len(&self) -> usize
         ensures { result ≡ fin.len self.now }
     {
@@ -101,7 +101,7 @@ impl<'a> StoredSubrs<'a> {
 
     /// The entry at a place; places are counted upwards by index, from 0. The place after an entry fits in a `usize`.
     #[inline(always)]
-    #[tactic(auto, using(crate::proofs::LentTables::stands, crate::proofs::LentTables::stands_not))]
+    #[tactic(auto, using(t1_join::proofs::TablePlaces::stands, t1_join::proofs::TablePlaces::stands_not))]
     pub(crate) fn at(&self, place: usize) -> Option<(u16, &'a [u8])>
         ensures entry { option_map lent_number result ≡ slice_get (fin.entries self.now) place }
         ensures short { IfSome result (λ _. place < 18446744073709551615) }

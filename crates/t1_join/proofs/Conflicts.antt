@@ -1,28 +1,10 @@
 -- The first conflict that one pass over two sorted lists meets is the smallest.
-use Rattle.std.proofs.Common.{◌≡◌, refl, sym, ap, ◌∙◌, subst, ℕ, ◌≤◌, Bool, true, false, cond, T, List, [], ◌∷◌, map, length, drop, Option, Some, None, inl, inr, ◌⊎◌, true≢false}
-use Rattle.std.proofs.{lemmas.List.{drop_all}, lemmas.Cmp.{nat_list_cmp_total}}
+use Rattle.std.proofs.{Common.{◌≡◌, refl, sym, ap, ◌∙◌, subst, Bool, true, false, cond, T, List, [], ◌∷◌, Option, Some, None, true≢false}, lemmas.Cmp.{nat_list_cmp_total}}
 use Rattle.std.specs.{declared.cmp.Ordering.{Ordering}, declared.cmp.Ordering.TheVariants.{Less, Equal, Greater}, FinMap.Entries.{by_order, below_all}}
-use Rattle.std.specs.{FinMap.{find, get, from_sorted, get-from_sorted}, Option.{option_map, option_copied, MatchOption}, Borrow.{Bor}, Ordering.{is_eq, ordering_reverse}}
+use Rattle.std.specs.{FinMap.{find, get, entries, entries_sorted, get-entries}, Ordering.{is_eq, ordering_reverse}}
 use Rattle.std.specs.Cmp.{IsTotalOrder, alike_right, tied_itself}
 use Rattle.t1_join.specs.{Meaning.{Meaning, meaning_cmp, same_meaning}, Join.{State, states_agree}, TableMeaning.{Rises, TableMeaning, TablesAgree, IsFirstConflict}, Passes.{met, first_met}}
 use Rattle.t1_join.proofs.{Sorted.{both_true, make_both, is_lt_from}, Merges.{Below-less, below_tied, find_below}}
-
-module _ {K X Y : Type 0} (R : K → K → Ordering) (same : X → X → Bool) (v : Y → K × X) where
-  -- what is left meets what all meets
-  abbrev pub Meeting : List Y → List Y → ℕ → ℕ → Type 0
-  Meeting es fs i j = first_met R same (map v (drop i es)) (map v (drop j fs)) ≡ first_met R same (map v es) (map v fs)
-
-  nothing_met : (xs : List (K × X)) → first_met R same xs [] ≡ None
-  nothing_met [] = refl
-  nothing_met (x ∷ xs) = refl
-
-  -- where one of the lists is used up, no conflict is met
-  pub meets_nothing : (es fs : List Y) (i j : ℕ) → (length es ≤ i) ⊎ (length fs ≤ j) → Meeting es fs i j → first_met R same (map v es) (map v fs) ≡ None
-  meets_nothing es fs i j (inl k) h = sym h ∙ ap (λ (a : List Y). first_met R same (map v a) (map v (drop j fs))) (drop_all i es k)
-  meets_nothing es fs i j (inr k) h =
-      sym h ∙ ap (λ (a : List Y). first_met R same (map v (drop i es)) (map v a)) (drop_all j fs k) ∙ nothing_met (map v (drop i es))
-
--- ---- what a pass over lists whose keys rise says of their maps
 
 -- at each key the states agree, or k is the smallest at which they do not
 abbrev pub Says : {K : Type 0} → (K → K → Ordering) → (K → Bool) → Option K → Type 0
@@ -107,29 +89,23 @@ alike None y = refl
 alike (Some v) None = refl
 alike (Some v) (Some w) = refl
 
-module _ {B : Type 0} (f : B → Meaning) (es fs : List (Meaning × Meaning)) (m n : TableMeaning)
-    (g : Rises meaning_cmp es) (h : Rises meaning_cmp fs) (is_m : from_sorted es ≡ m) (is_n : from_sorted fs ≡ n) where
-  agreed : (q : Meaning) → states_agree (get m q) (get n q) ≡ both_agree same_meaning (find meaning_cmp q es) (find meaning_cmp q fs)
-  agreed q =
-      (λ i. states_agree (get (sym is_m i) q) (get (sym is_n i) q))
-      ∙ (λ i. states_agree (get-from_sorted meaning_cmp es q g i) (get-from_sorted meaning_cmp fs q h i))
-      ∙ sym (alike (find meaning_cmp q es) (find meaning_cmp q fs))
+module _ (m n : TableMeaning) where
+  abbrev agreed_at : Meaning → Bool
+  agreed_at q = both_agree same_meaning (find meaning_cmp q (entries m)) (find meaning_cmp q (entries n))
 
-  -- what the pass over two tables meets is their first conflict, and they join where it meets none
-  pub conflict_is : (r : Option B) → option_map f r ≡ first_met meaning_cmp same_meaning es fs →
-      MatchOption r (TablesAgree m n) (λ k. IsFirstConflict m n (f k))
-  conflict_is None is =
-      let says : Says meaning_cmp (λ q. both_agree same_meaning (find meaning_cmp q es) (find meaning_cmp q fs)) None =
-      subst (λ (k : Option Meaning). Says meaning_cmp (λ q. both_agree same_meaning (find meaning_cmp q es) (find meaning_cmp q fs)) k)
-      (sym is) (says_first nat_list_cmp_total same_meaning es fs g h) in
-      λ q. agreed q ∙ says q
-  conflict_is (Some k) is =
-      let says : Says meaning_cmp (λ q. both_agree same_meaning (find meaning_cmp q es) (find meaning_cmp q fs)) (Some (f k)) =
-      subst (λ (k : Option Meaning). Says meaning_cmp (λ q. both_agree same_meaning (find meaning_cmp q es) (find meaning_cmp q fs)) k)
-      (sym is) (says_first nat_list_cmp_total same_meaning es fs g h) in
-      record { differs = λ a. true≢false (sym a ∙ agreed (f k) ∙ says.0); first = λ p l. agreed p ∙ says.1 p l }
+  agreed : (q : Meaning) → states_agree (get m q) (get n q) ≡ agreed_at q
+  agreed q = (λ i. states_agree (get-entries m q i) (get-entries n q i)) ∙ sym (alike (find meaning_cmp q (entries m)) (find meaning_cmp q (entries n)))
 
--- a key that is copied from a borrow stays the same
-pub read_copied : {K : Type 0} (f : K → Meaning) (r : Option (Bor K)) → option_map f (option_copied r) ≡ option_map (λ (k : Bor K). f k.now) r
-read_copied f None = refl
-read_copied f (Some k) = refl
+  told : (r : Option Meaning) → r ≡ first_met meaning_cmp same_meaning (entries m) (entries n) → Says meaning_cmp agreed_at r
+  told r is = subst (Says meaning_cmp agreed_at) (sym is)
+      (says_first nat_list_cmp_total same_meaning (entries m) (entries n) (entries_sorted m) (entries_sorted n))
+
+  -- where the pass over two tables meets nothing, they join
+  pub no_conflict : None ≡ first_met meaning_cmp same_meaning (entries m) (entries n) → TablesAgree m n
+  no_conflict is = λ q. agreed q ∙ told None is q
+
+  -- what it meets is their first conflict
+  pub conflict_is : (k : Meaning) → Some k ≡ first_met meaning_cmp same_meaning (entries m) (entries n) → IsFirstConflict m n k
+  conflict_is k is =
+      let says = told (Some k) is in
+      record { differs = λ a. true≢false (sym a ∙ agreed k ∙ says.0); first = λ p l. agreed p ∙ says.1 p l }

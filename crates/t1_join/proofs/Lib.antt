@@ -13,6 +13,8 @@ pub mod WrittenLemmas
 pub mod ConflictLemmas
 pub mod Searches
 pub mod Merges
+pub mod TablePlaces
+pub mod TablePasses
 pub mod Conflicts
 pub mod Places
 pub mod AnyOrder

@@ -1,50 +1,8 @@
--- One pass over two lists of entries whose keys rise.
-use Rattle.std.proofs.Common.{◌≡◌, refl, sym, ap, ◌∙◌, ℕ, ◌≤◌, arith, Bool, true, false, cond, ◌⊎◌, T, List, [], ◌∷◌, ◌++◌, map, length, take, take_all, drop, ◌-◌, Option, Some, None, inl, inr}
-use Rattle.std.proofs.lemmas.List.{map-append, append-nil, drop_all, length-drop}
+-- One pass over two lists of entries whose keys rise makes the entries of both of their maps.
+use Rattle.std.proofs.Common.{◌≡◌, refl, sym, ap, ◌∙◌, Bool, true, false, cond, T, List, [], ◌∷◌, ◌++◌, Option, Some, None}
 use Rattle.std.specs.{declared.cmp.Ordering.{Ordering}, declared.cmp.Ordering.TheVariants.{Less, Equal, Greater}, Ordering.{ordering_reverse, is_eq}, Cmp.{IsTotalOrder, alike_right}}
 use Rattle.std.specs.{FinMap.{find, from_sorted, from_entries, entries, entries-from_sorted, get-from_sorted, get-from_entries, IsAntisymmetric, same_map}, FinMap.Entries.{below_all, by_order}}
 use Rattle.t1_join.{specs.{TableMeaning.{Rises}, Passes.{weave, merge}}, proofs.Sorted.{both_true, make_both, lt_is, is_lt_from}}
-
--- ---- the loop: what is out, and then the merge of what is left, is the merge of all
-
-module _ {K X Y : Type 0} (R : K → K → Ordering) (v : Y → K × X) where
-  -- so far, and with what is left of both
-  abbrev pub Merging : List Y → List Y → List Y → ℕ → ℕ → Type 0
-  Merging es fs out i j = map v out ++ merge R (map v (drop i es)) (map v (drop j fs)) ≡ merge R (map v es) (map v fs)
-
-  nothing_more : (xs : List (K × X)) → merge R xs [] ≡ xs
-  nothing_more [] = refl
-  nothing_more (x ∷ xs) = ap (λ (a : List (K × X)). x ∷ a) (nothing_more xs)
-
-  left : (out es fs : List Y) (w : List (K × X)) → (es ≡ []) ⊎ (fs ≡ []) → map v out ++ merge R (map v es) (map v fs) ≡ w → map v ((out ++ es) ++ fs) ≡ w
-  left out es fs w (inl none) h =
-      ap (λ (a : List Y). map v ((out ++ a) ++ fs)) none ∙ ap (λ (a : List Y). map v (a ++ fs)) (append-nil out) ∙ map-append v out fs
-      ∙ ap (λ (a : List Y). map v out ++ merge R (map v a) (map v fs)) (sym none) ∙ h
-  left out es fs w (inr none) h =
-      ap (λ (a : List Y). map v ((out ++ es) ++ a)) none ∙ ap (map v) (append-nil (out ++ es)) ∙ map-append v out es
-      ∙ ap (λ (a : List (K × X)). map v out ++ a) (sym (nothing_more (map v es)))
-      ∙ ap (λ (a : List Y). map v out ++ merge R (map v es) (map v a)) (sym none) ∙ h
-
-  -- what stands from i on, as a slice has it
-  rest_of : (xs : List Y) (i : ℕ) → take (length xs - i) (drop i xs) ≡ drop i xs
-  rest_of xs i = take_all (length xs - i) (drop i xs) (omega (arith, length-drop i xs))
-
-  -- where one list is used up, the rest of both ends the merge
-  pub ended : (es fs out : List Y) (i j : ℕ) → (length es ≤ i) ⊎ (length fs ≤ j) → Merging es fs out i j →
-      map v ((out ++ take (length es - i) (drop i es)) ++ take (length fs - j) (drop j fs)) ≡ merge R (map v es) (map v fs)
-  ended es fs out i j (inl h) m = rw (rest_of es i, rest_of fs j) (left out (drop i es) (drop j fs) _ (inl (drop_all i es h)) m)
-  ended es fs out i j (inr h) m = rw (rest_of es i, rest_of fs j) (left out (drop i es) (drop j fs) _ (inr (drop_all j fs h)) m)
-
-  -- the same where copies of both rests come after what is out
-  pub ended_by_copies : (es fs out : List Y) (i j : ℕ) → (length es ≤ i) ⊎ (length fs ≤ j) → Merging es fs out i j → (once twice : List Y) →
-      map v once ≡ map v out ++ map v (take (length es - i) (drop i es)) → map v twice ≡ map v once ++ map v (take (length fs - j) (drop j fs)) →
-      map v twice ≡ merge R (map v es) (map v fs)
-  ended_by_copies es fs out i j over m once twice p q =
-      q ∙ ap (λ (a : List (K × X)). a ++ map v (take (length fs - j) (drop j fs))) (p ∙ sym (map-append v out (take (length es - i) (drop i es))))
-      ∙ sym (map-append v (out ++ take (length es - i) (drop i es)) (take (length fs - j) (drop j fs)))
-      ∙ ended es fs out i j over m
-
--- ---- the merge of two lists whose keys rise is that of their maps
 
 -- the first of two values that is there
 abbrev first_of : {X : Type 0} → Option X → Option X → Option X
@@ -156,29 +114,3 @@ module _ {K X : Type 0} {R : K → K → Ordering} (o : IsTotalOrder R) where
       found_both : (q : K) (es fs : List (K × X)) → find R q (es ++ fs) ≡ first_of (find R q es) (find R q fs)
       found_both q [] fs = refl
       found_both q (e ∷ es) fs = ap (cond (is_eq (R q e.0)) (Some e.1)) (found_both q es fs) ∙ find_in (is_eq (R q e.0)) e.1 (find R q es) (find R q fs)
-
--- ---- keys that are seen by what they stand for
-
-module _ {K M X : Type 0} (k : K → M) (R : K → K → Ordering) (S : M → M → Ordering) (by : (x y : K) → R x y ≡ S (k x) (k y)) where
-  -- an entry by what its key stands for
-  abbrev pub keyed : K × X → M × X
-  keyed e = (k e.0, e.1)
-
-  -- a merge step is the same by what the keys stand for
-  weave_keys : (e : K × X) (rest : List (K × X) → List (K × X)) (seen : List (M × X) → List (M × X)) (fs : List (K × X)) →
-      ((gs : List (K × X)) → seen (map keyed gs) ≡ map keyed (rest gs)) → weave S (keyed e) seen (map keyed fs) ≡ map keyed (weave R e rest fs)
-  weave_keys e rest seen [] h = ap (λ (a : List (M × X)). keyed e ∷ a) (h [])
-  weave_keys e rest seen (f ∷ fs) h =
-      ap (λ r. by_order r (keyed e ∷ seen (map keyed (f ∷ fs))) (keyed e ∷ seen (map keyed fs)) (keyed f ∷ weave S (keyed e) seen (map keyed fs)))
-      (sym (by e.0 f.0))
-      ∙ (elim (R e.0 f.0) as (λ r. by_order r (keyed e ∷ seen (map keyed (f ∷ fs))) (keyed e ∷ seen (map keyed fs))
-      (keyed f ∷ weave S (keyed e) seen (map keyed fs)) ≡ map keyed (by_order r (e ∷ rest (f ∷ fs)) (e ∷ rest fs) (f ∷ weave R e rest fs))) [
-        | Less ↦ ap (λ (a : List (M × X)). keyed e ∷ a) (h (f ∷ fs))
-        | Equal ↦ ap (λ (a : List (M × X)). keyed e ∷ a) (h fs)
-        | Greater ↦ ap (λ (a : List (M × X)). keyed f ∷ a) (weave_keys e rest seen fs h)
-      ])
-
-  -- a merge of the keys is one of what they stand for
-  pub merge_keys : (es fs : List (K × X)) → merge S (map keyed es) (map keyed fs) ≡ map keyed (merge R es fs)
-  merge_keys [] fs = refl
-  merge_keys (e ∷ es) fs = weave_keys e (merge R es) (merge S (map keyed es)) fs (merge_keys es)

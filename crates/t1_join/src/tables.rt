@@ -1,17 +1,16 @@
 //! Tables: finite maps, joined key by key.
-ghost use Rattle.std.specs.Prelude.{◌≡◌, ◌≤◌, ◌∷◌, ◌++◌, ◌↔◌, [], length, IsTrue, OnOk, OnErr, IfOk, MatchOption};
+ghost use Rattle.std.specs.Prelude.{◌≡◌, ◌≤◌, ◌↔◌, length, IsTrue, OnOk, OnErr, IfOk, MatchOption};
 ghost use Rattle.std.specs.Option.{option_map, option_copied};
 ghost use Rattle.std.specs.List.{insert};
 ghost use Rattle.std.specs.List.Sorted.{IsStrictlySortedBy, IsBinarySearchResult, IsSearchInRange};
 ghost use Rattle.std.specs.Map.{keys_of};
 ghost use Rattle.std.specs.FinMap as fin;
-ghost use Rattle.t1_join.specs.Meaning.{meaning_cmp, same_meaning};
-ghost use Rattle.t1_join.specs.Passes.{first_met, merge};
 ghost use Rattle.t1_join.specs.TableMeaning.{TablesAgree, IsFirstConflict, joined_table, entry_meanings, first_meanings, pair_meaning};
 ghost use Rattle.t1_join.specs.Unsorted.{KeysDiffer, IsTableOf};
 
 use crate::keys::{Kept, Key};
 use crate::partial::Join;
+use crate::passes::{Both, SortedTable, differing_place};
 use std::alloc::{AllocError, Global};
 use std::cmp::Ordering;
 use std::collections::BTreeMap;
@@ -115,13 +114,10 @@ impl<K: Key + Drop, V: Kept + Drop> Table<K, V> {
     }
 
     /// The entries of both tables, upwards by key: the first table's entry if both have the key.
-    pub fn entries_with<'t>(&'t self, other: &'t Table<K, V>) -> BothEntries<'t, K, V>
+    pub fn entries_with<'t>(&'t self, other: &'t Table<K, V>) -> Both<&'t Table<K, V>>
         ensures { result ≡ fin.entries (joined_table self.now other.now) }
     {
-        BothEntries {
-            first: &self.entries,
-            second: &other.entries,
-        }
+        Both::of(self, other)
     }
 
     /// The smallest key whose places do not join.
@@ -129,7 +125,41 @@ impl<K: Key + Drop, V: Kept + Drop> Table<K, V> {
         ensures { MatchOption result (TablesAgree self.now other.now)
             (λ k. IsFirstConflict self.now other.now (K.meaning k.now)) }
     {
-        first_conflict(&self.entries, &other.entries)
+        let place = differing_place(self, other)?;
+        let (key, _) = self.at(place)?;
+        Some(key)
+    }
+}
+
+impl<'t, K: Key, V: Kept> SortedTable for &'t Table<K, V> {
+    ghost use Rattle.t1_join.specs.Meaning.{Meaning, meaning_cmp};
+    ghost use Rattle.t1_join.specs.TableMeaning.{pair_meaning};
+
+    ghost Key = { Meaning };
+
+    ghost meaning = { λ q. q };
+
+    ghost order = { meaning_cmp };
+
+    ghost table = { λ t. t.now };
+
+    type Entry = &'t (K, V);
+
+    ghost entry = { λ e. pair_meaning K.meaning V.meaning e.now };
+
+    #[inline(always)]
+    fn at(self, place: usize) -> Option<&'t (K, V)> {
+        self.entries.get(place)
+    }
+
+    #[inline(always)]
+    fn compare(one: &&'t (K, V), other: &&'t (K, V)) -> Ordering {
+        one.0.cmp(&other.0)
+    }
+
+    #[inline(always)]
+    fn same(one: &&'t (K, V), other: &&'t (K, V)) -> bool {
+        one.1.same(&other.1)
     }
 }
 
@@ -171,30 +201,6 @@ fn keys_rise<K: Key, V>(entries: &[(K, V)]) -> bool
     entries.is_sorted_by(|one, other| matches!(one.0.cmp(&other.0), Ordering::Less))
 }
 
-/// The first key at which one pass over both tables meets two different values.
-fn first_conflict<'t, K: Key, V: Kept>(first: &'t [(K, V)], second: &[(K, V)]) -> Option<&'t K>
-    ensures { option_map K.meaning (option_copied result)
-        ≡ first_met meaning_cmp same_meaning (entry_meanings K.meaning V.meaning first.now)
-        (entry_meanings K.meaning V.meaning second.now) }
-{
-    let mut i = 0;
-    let mut j = 0;
-    'pass: while i < first.len() && j < second.len() {
-        match first[i].0.cmp(&second[j].0) {
-            Ordering::Less => i += 1,
-            Ordering::Greater => j += 1,
-            Ordering::Equal => {
-                if !first[i].1.same(&second[j].1) {
-                    return Some(&first[i].0);
-                }
-                i += 1;
-                j += 1;
-            }
-        }
-    }
-    None
-}
-
 /// An entry with the same meanings.
 fn copy_entry<K: Key + Drop, V: Kept + Drop>(
     alloc: Global,
@@ -208,55 +214,21 @@ fn copy_entry<K: Key + Drop, V: Kept + Drop>(
     Ok((key, value))
 }
 
-/// Adds copies of these entries at the end.
-fn add_copies<K: Key + Drop, V: Kept + Drop>(
+/// Copies of the entries of both tables, upwards by key: the first table's if both have a key.
+#[tactic(auto, using(crate::proofs::TablePasses::all_out))]
+fn copy_both<K: Key + Drop, V: Kept + Drop>(
     alloc: Global,
-    all: &mut Vec<(K, V)>,
-    entries: &[(K, V)],
-) -> Result<(), AllocError>
-    ensures { OnOk result (entry_meanings K.meaning V.meaning all.new.items
-        ≡ entry_meanings K.meaning V.meaning all.old.items
-        ++ entry_meanings K.meaning V.meaning entries.now) }
-{
-    for entry in entries {
-        all.push(copy_entry(alloc, entry)?)?;
-    }
-    Ok(())
-}
-
-/// Copies of the entries of both, upwards by key, in one pass with two positions: the first table's if both have a key.
-fn merge_entries<K: Key + Drop, V: Kept + Drop>(
-    alloc: Global,
-    first: &[(K, V)],
-    second: &[(K, V)],
+    first: &Table<K, V>,
+    second: &Table<K, V>,
 ) -> Result<Vec<(K, V)>, AllocError>
     ensures { IfOk result (λ all. entry_meanings K.meaning V.meaning all.items
-        ≡ merge meaning_cmp (entry_meanings K.meaning V.meaning first.now)
-        (entry_meanings K.meaning V.meaning second.now)) }
+        ≡ fin.entries (joined_table first.now second.now)) }
 {
-    let room = first.len().saturating_add(second.len());
+    let room = first.entries.len().saturating_add(second.entries.len());
     let mut all = Vec::with_capacity(alloc, room)?;
-    let mut i = 0;
-    let mut j = 0;
-    'pass: while i < first.len() && j < second.len() {
-        match first[i].0.cmp(&second[j].0) {
-            Ordering::Less => {
-                all.push(copy_entry(alloc, &first[i])?)?;
-                i += 1;
-            }
-            Ordering::Equal => {
-                all.push(copy_entry(alloc, &first[i])?)?;
-                i += 1;
-                j += 1;
-            }
-            Ordering::Greater => {
-                all.push(copy_entry(alloc, &second[j])?)?;
-                j += 1;
-            }
-        }
+    for entry in first.entries_with(second) {
+        all.push(copy_entry(alloc, entry)?)?;
     }
-    add_copies(alloc, &mut all, &first[i..])?;
-    add_copies(alloc, &mut all, &second[j..])?;
     Ok(all)
 }
 
@@ -280,7 +252,7 @@ impl<K: Key + Drop, V: Kept + Drop> Join for Table<K, V> {
 
     fn join(&self, alloc: Global, other: &Table<K, V>) -> Result<Table<K, V>, AllocError> {
         Ok(Table {
-            entries: merge_entries(alloc, &self.entries, &other.entries)?,
+            entries: copy_both(alloc, self, other)?,
         })
     }
 }
@@ -316,75 +288,6 @@ impl<'a, K: Key, V: Kept> Iterator for Entries<'a, K, V> {
 
     fn next(&mut self) -> Option<(&'a K, &'a V)> {
         let (key, value) = self.inner.next()?;
-        Some((key, value))
-    }
-}
-
-/// An entry and what is left of two lists.
-type Taken<'a, K, V> = (&'a (K, V), &'a [(K, V)], &'a [(K, V)]);
-
-/// Takes the entry with the lower key; if both lists begin with the same key, it takes the first list's entry and drops
-/// the second's.
-fn lower<'a, K: Key, V: Kept>(first: &'a [(K, V)], second: &'a [(K, V)]) -> Option<Taken<'a, K, V>>
-    ensures { MatchOption result
-        (merge meaning_cmp (entry_meanings K.meaning V.meaning first.now)
-        (entry_meanings K.meaning V.meaning second.now)
-        ≡ []) (λ t. merge meaning_cmp (entry_meanings K.meaning V.meaning first.now)
-        (entry_meanings K.meaning V.meaning second.now)
-        ≡ pair_meaning K.meaning V.meaning t.0.now
-        ∷ merge meaning_cmp (entry_meanings K.meaning V.meaning t.1.now)
-        (entry_meanings K.meaning V.meaning t.2.now)) }
-{
-    let Some((one, ones)) = first.split_first() else {
-        let (other, others) = second.split_first()?;
-        return Some((other, first, others));
-    };
-    let Some((other, others)) = second.split_first() else {
-        return Some((one, ones, second));
-    };
-    match one.0.cmp(&other.0) {
-        Ordering::Less => Some((one, ones, second)),
-        Ordering::Equal => Some((one, ones, others)),
-        Ordering::Greater => Some((other, first, others)),
-    }
-}
-
-/// The entries of two tables, upwards by key: the first table's entry if both have the key.
-#[derive(Drop)]
-pub struct BothEntries<'a, K: Key, V: Kept> {
-    first: &'a [(K, V)],
-    second: &'a [(K, V)],
-}
-
-impl<'a, K: Key, V: Kept> Model for BothEntries<'a, K, V> {
-    ghost use Rattle.std.specs.Prelude.{List};
-    ghost use Rattle.t1_join.specs.Meaning.{Meaning, meaning_cmp};
-    ghost use Rattle.t1_join.specs.Passes.{merge};
-    ghost use Rattle.t1_join.specs.TableMeaning.{entry_meanings};
-
-    ghost Value = { List (Meaning × Meaning) };
-
-    ghost view = { λ s. merge meaning_cmp
-        (entry_meanings K.meaning V.meaning s.first.now)
-        (entry_meanings K.meaning V.meaning s.second.now) };
-}
-
-impl<'a, K: Key, V: Kept> Iterator for BothEntries<'a, K, V> {
-    type Item = (&'a K, &'a V);
-
-    ghost use Rattle.std.specs.Prelude.{length};
-    ghost use Rattle.std.specs.Iterator.{at_most};
-    ghost use Rattle.std.specs.Map.Iter.{TakesFirst};
-    ghost use Rattle.t1_join.specs.TableMeaning.{lent_meanings};
-
-    ghost next_gives = { TakesFirst (lent_meanings K.meaning V.meaning) };
-
-    ghost remaining = { λ s. at_most (length s) };
-
-    fn next(&mut self) -> Option<(&'a K, &'a V)> {
-        let ((key, value), first, second) = lower(self.first, self.second)?;
-        self.first = first;
-        self.second = second;
         Some((key, value))
     }
 }

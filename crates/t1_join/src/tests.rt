@@ -8,6 +8,7 @@ use crate::laws;
 use crate::listing::{self, JoinFault, ListFault, Listing};
 use crate::many::join_all;
 use crate::partial::Join;
+use crate::passes::push_both;
 use crate::tables::Table;
 use std::alloc::{AllocError, Global};
 use std::test::Fail;
@@ -37,7 +38,7 @@ fn holds(table: &Numbered, key: u16, byte: u8) -> bool {
     }
 }
 
-// The number of keys of either table, if they join and one pass over both meets as many: through the bounds alone.
+// The number of keys of either table, if they join and each pass over both meets as many: through the bounds alone.
 fn keys_of_both<K: Key + Drop, V: Kept + Drop>(
     alloc: Global,
     left: &Table<K, V>,
@@ -48,7 +49,10 @@ fn keys_of_both<K: Key + Drop, V: Kept + Drop>(
     }
     let joined = left.join(alloc, right)?.entries().count();
     let met = left.entries_with(right).count();
-    Ok(if joined == met { Some(joined) } else { None })
+    let mut lent = Vec::new(alloc);
+    push_both(&mut lent, left, right, 0, 0)?;
+    let as_many = joined == met && joined == lent.len();
+    Ok(if as_many { Some(joined) } else { None })
 }
 
 // The table that keeps the last value of a key, and each key once.
@@ -79,7 +83,8 @@ fn small_with(
     Ok((small.conflict(&other).copied(), count))
 }
 
-// meets Table::join Ok at 5, 59992 keys
+// meets Table::join Ok at 5, 60002 keys
+// meets push_both Ok at 5, 60002 entries
 #[test]
 fn tables(rt: HostRuntime) -> Result<(), Fail> {
     assert!(rt;
@@ -90,7 +95,7 @@ fn tables(rt: HostRuntime) -> Result<(), Fail> {
         (9, 12, 1, Some(10), None, "one key in conflict"),
         (9, 12, 2, Some(9), None, "the smallest key in conflict"),
         (12, 13, 2, None, Some(5), "one entry"),
-        (12, 60_000, 2, None, Some(59_992), "many entries"),
+        (12, 60_010, 2, None, Some(60_002), "many entries"),
     ];
     for &(from, to, byte, conflict, count, what) in ROWS {
         let answer = small_with(rt.alloc(), from, to, byte)?;

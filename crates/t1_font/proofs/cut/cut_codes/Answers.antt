@@ -1,7 +1,7 @@
 use Rattle.std.proofs.{Common.{◌++◌, [], unwrap_or, ap, sym, ◌∙◌, map}, lemmas.Map.Iter.{rest_all}}
 use Rattle.std.specs.{Prelude.{filter}, Cmp.{nat_cmp_total}, FinMap.{get, contains_key, retain_keys, nat_cmp-IsAntisymmetric}}
-use Rattle.t1_join.proofs.Sorted.{rises_of, map_of}
-use Rattle.t1_font.{specs.Lent.{lent_number}, proofs.{CutEntries.{entries-retain_values}, LentTables.{all_out}}}
+use Rattle.t1_join.proofs.{Sorted.{rises_of, map_of}, TablePasses.{all_out}}
+use Rattle.t1_font.{specs.Lent.{lent_number}, proofs.CutEntries.{entries-retain_values}}
 use Rattle.t1_font.proofs.cut.cut_codes.Goals as goal
 
 pub codes-init : goal.codes-init

@@ -1,6 +1,6 @@
 use Rattle.std.{proofs.{Common.{◌++◌, nat_cmp, ap, sym, ◌∙◌, map, cond, List, ℕ}, lemmas.Map.Iter.{rest_all}}, specs.{BTreeSet.{contains}, Cmp.{nat_cmp_total}, FinMap.{nat_cmp-IsAntisymmetric}}}
-use Rattle.t1_join.proofs.Sorted.{rises_of, map_of}
-use Rattle.t1_font.{specs.{Lent.{lent_number}, Cut.{stub}, Maps.{map_values}}, proofs.{MapLemmas.{entries-map_values}, LentTables.{all_out}}}
+use Rattle.t1_join.proofs.{Sorted.{rises_of, map_of}, TablePasses.{all_out}}
+use Rattle.t1_font.{specs.{Lent.{lent_number}, Cut.{stub}, Maps.{map_values}}, proofs.MapLemmas.{entries-map_values}}
 use Rattle.t1_font.proofs.cut.cut_subrs.Goals as goal
 
 pub bodies-init : goal.bodies-init

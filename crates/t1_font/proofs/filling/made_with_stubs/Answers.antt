@@ -1,6 +1,6 @@
 use Rattle.std.{proofs.{Common.{◌≡◌, ap, subst, ◌∙◌, map, List, ℕ}, lemmas.List.{drop_all}}, specs.{Prelude.{nat_lt, IfOk}, FinMap.{retain_keys}}}
-use Rattle.t1_join.proofs.Sorted.{rises_of, map_of}
-use Rattle.t1_font.{specs.{Evening.{stubs_at, below_count}, FontValue.{Numbered}, Lent.{lent_number, stub_at}, Maps.{merged}}, proofs.{FilledTables.{stubs_before}, LentTables.{all_out}}}
+use Rattle.t1_join.proofs.{Sorted.{rises_of, map_of}, TablePasses.{all_out}}
+use Rattle.t1_font.{specs.{Evening.{stubs_at, below_count}, FontValue.{Numbered}, Lent.{lent_number, stub_at}, Maps.{merged}}, proofs.FilledTables.{stubs_before}}
 use Rattle.t1_font.proofs.filling.made_with_stubs.Goals as goal
 
 pub made-stubs-requires : goal.made-stubs-requires

@@ -1,7 +1,7 @@
 use Rattle.std.{proofs.Common.{◌≡◌, ◌++◌, ◌∙◌, None, map, refl, sym, ap}, specs.{Cmp.Lexicographic.{nat_list_cmp_total}, Str.{bytes_eq}}}
-use Rattle.t1_join.proofs.Sorted.{rises_of, map_of}
+use Rattle.t1_join.proofs.{Sorted.{rises_of, map_of}, TablePasses.{ahead, meets, first_ends, second_ends, merged_entries}}
 use Rattle.t1_font.specs.{FontValue.{name_cmp}, Lent.{lent_glyph}, Maps.{merged}}
-use Rattle.t1_font.proofs.{TablePasses.{ahead, meets, first_ends, second_ends, merged_entries}, canonical.FontAgain.{name_same}, passes.join_same_glyphs.Goals.{in_default, in_default-2}}
+use Rattle.t1_font.proofs.{canonical.FontAgain.{name_same}, passes.join_same_glyphs.Goals.{in_default, in_default-2}}
 use Rattle.std.specs.FinMap as fin
 use Rattle.t1_font.proofs.passes.join_same_glyphs.Goals as goal
 

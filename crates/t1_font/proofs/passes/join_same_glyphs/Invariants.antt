@@ -1,5 +1,6 @@
 use Rattle.std.{proofs.Common.{◌≡◌, ◌++◌, map}, specs.Str.{bytes_eq}}
-use Rattle.t1_font.{specs.{FontValue.{name_cmp}, Lent.{lent_glyph}, Maps.{merged}}, proofs.TablePasses.{ahead, meets, left}}
+use Rattle.t1_join.proofs.TablePasses.{ahead, meets, left}
+use Rattle.t1_font.specs.{FontValue.{name_cmp}, Lent.{lent_glyph}, Maps.{merged}}
 use Rattle.std.specs.FinMap as fin
 use Rattle.t1_font.proofs.passes.join_same_glyphs.Given as goal
 

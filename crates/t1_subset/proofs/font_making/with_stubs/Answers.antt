@@ -1,6 +1,6 @@
 use Rattle.std.{proofs.{Common.{◌++◌, ap, sym, ◌∙◌, map, List, ℕ}, lemmas.Map.Iter.{rest_all}}, specs.{Cmp.{nat_cmp_total}, FinMap.{nat_cmp-IsAntisymmetric}}}
-use Rattle.t1_join.proofs.Sorted.{rises_of, map_of}
-use Rattle.t1_font.{specs.{Lent.{lent_number}, Maps.{map_values}}, proofs.{MapLemmas.{entries-map_values}, LentTables.{all_out}}}
+use Rattle.t1_join.proofs.{Sorted.{rises_of, map_of}, TablePasses.{all_out}}
+use Rattle.t1_font.{specs.{Lent.{lent_number}, Maps.{map_values}}, proofs.MapLemmas.{entries-map_values}}
 use Rattle.t1_algebra.specs.StateTables.{state_or_stub}
 use Rattle.t1_subset.proofs.font_making.with_stubs.Goals as goal
 

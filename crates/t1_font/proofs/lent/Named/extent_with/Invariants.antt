@@ -6,4 +6,4 @@ use Rattle.t1_font.proofs.lent.Named.extent_with.Given as goal
 abbrev pub invariant-bodies : goal.invariant-bodies
 invariant-bodies l =
     let both = fin.entries (merged l.fn.self l.fn.other) in
-    Summing (glyph_weight l.len_iv) both l.before l.weight l.body-iterator × Counting (length both) l.count l.body-iterator
+    Summing (glyph_weight l.len_iv) both l.before l.weight l.glyph-iterator × Counting (length both) l.count l.glyph-iterator

@@ -1,6 +1,7 @@
 use Rattle.std.proofs.{Common.{rules, ap, sym, ◌∙◌, map}, lemmas.Fn.{always_returns_same}}
 use Rattle.std.specs.{FinMap.{entries}, List.{slice_get}, Option.{option_and_then}, Cmp.Lexicographic.{nat_list_cmp_total}}
-use Rattle.t1_font.{specs.{FontValue.{name_cmp}, Ranges.{bytes_at, named_at}, Lent.{named_entries, lent_glyph}}, proofs.{canonical.FontAgain.{name_same}, LentTables.{found_place}}}
+use Rattle.t1_join.proofs.TablePlaces.{found_place}
+use Rattle.t1_font.{specs.{FontValue.{name_cmp}, Ranges.{bytes_at, named_at}, Lent.{named_entries, lent_glyph}}, proofs.canonical.FontAgain.{name_same}}
 use Rattle.t1_font.proofs.lent.Named.place_of.Goals as goal
 
 pub returns-in-Stored : goal.returns-in-Stored

@@ -1,6 +1,7 @@
 use Rattle.std.proofs.{Common.{◌≡◌, rules, ap, subst, sym, ◌∙◌, map}, lemmas.List.Sorted.{answers_always}}
 use Rattle.std.specs.{FinMap.{entries, get, nat_cmp-IsAntisymmetric}, List.{slice_get}, Option.{option_and_then, option_map}, Cmp.{nat_cmp_total}}
-use Rattle.t1_font.{specs.{FontValue.{Numbered}, Lent.{numbered_entries, lent_number, filled_at}}, proofs.LentTables.{found_place, same_table}}
+use Rattle.t1_join.proofs.TablePlaces.{found_place}
+use Rattle.t1_font.{specs.{FontValue.{Numbered}, Lent.{numbered_entries, lent_number, filled_at}}, proofs.LentTables.{same_table}}
 use Rattle.t1_font.proofs.lent.Numbered.place_of.Goals as goal
 
 pub returns-in-Stored : goal.returns-in-Stored

@@ -1,5 +1,6 @@
 use Rattle.std.{proofs.Common.{sym, ap, ◌∙◌, map, refl, unwrap_or}, specs.{Cmp.{nat_cmp_total, nat_cmp_is}, FinMap.{get, nat_cmp-IsAntisymmetric}, declared.cmp.Ordering.TheVariants.{Less}}}
-use Rattle.t1_font.{specs.{Cut.{stub}, Ranges.{numbered_at}}, proofs.LentTables.{value_at, none_behind}}
+use Rattle.t1_join.proofs.TablePlaces.{none_behind}
+use Rattle.t1_font.{specs.{Cut.{stub}, Ranges.{numbered_at}}, proofs.LentTables.{value_at}}
 use Rattle.t1_font.proofs.stored.StoredSubrs.get_or_stub.Goals as goal
 
 pub returns-in-Some : goal.returns-in-Some

@@ -1,6 +1,7 @@
 use Rattle.std.proofs.{Common.{rules, ap, ◌∙◌, map, refl}, lemmas.List.Sorted.{answers_always}}
 use Rattle.std.specs.{FinMap.{entries, nat_cmp-IsAntisymmetric}, List.{slice_get}, Option.{option_and_then}, Cmp.{nat_cmp_total}}
-use Rattle.t1_font.{specs.Ranges.{numbered_at}, proofs.LentTables.{found_place}}
+use Rattle.t1_join.proofs.TablePlaces.{found_place}
+use Rattle.t1_font.specs.Ranges.{numbered_at}
 use Rattle.t1_font.proofs.stored.StoredSubrs.place_of.Goals as goal
 
 pub returns : goal.returns

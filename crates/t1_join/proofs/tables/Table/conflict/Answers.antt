@@ -1,12 +1,15 @@
-use Rattle.std.{proofs.Common.{sym, ◌∙◌, ◌≡◌}, specs.{Borrow.{Bor}, Option.{option_map, option_copied}}}
-use Rattle.t1_join.{specs.{Meaning.{meaning_cmp, same_meaning}, Passes.{first_met}, TableMeaning.{entry_meanings}}, proofs.Conflicts.{conflict_is, read_copied}}
+use Rattle.std.{proofs.Common.{ap, ◌∙◌}, specs.Option.{option_map}}
+use Rattle.t1_join.{specs.Meaning.{Meaning}, proofs.Conflicts.{no_conflict, conflict_is}}
 use Rattle.t1_join.proofs.tables.Table.conflict.Goals as goal
+
+pub returns-in_err-place : goal.returns-in_err-place
+returns-in_err-place g c = rw c.from_residual.ensures (no_conflict c.args.self.now c.args.other.now c.in_err-place.ensures)
+
+pub returns-in_err-key : goal.returns-in_err-key
+returns-in_err-key g c = rw c.from_residual-in_err-key.ensures (no_conflict c.args.self.now c.args.other.now
+    (ap (option_map (λ (e : Meaning × Meaning). e.0)) c.in_err-key.ensures.entry ∙ c.in_ok-place.ensures))
 
 pub returns : goal.returns
 returns g c =
-    let mine = entry_meanings g.K.Kept.meaning g.V.Kept.meaning c.self.inside.entries.items in
-    let others = entry_meanings g.K.Kept.meaning g.V.Kept.meaning c.other.inside.entries.items in
-    let met : option_map g.K.Kept.meaning (option_copied c.first_conflict.result) ≡ first_met meaning_cmp same_meaning mine others =
-    rw (← c.deref.ensures.value, ← c.deref-2.ensures.value) c.first_conflict.ensures in
-    conflict_is (λ (k : Bor g.row.K.Denot). g.K.Kept.meaning k.now) mine others c.args.self.now c.args.other.now c.self.invariant
-    c.other.invariant c.self.view_is c.other.view_is c.first_conflict.result (sym (read_copied g.K.Kept.meaning c.first_conflict.result) ∙ met)
+    conflict_is c.args.self.now c.args.other.now (g.K.Kept.meaning c.in_ok-key.field-0.now.0)
+    (ap (option_map (λ (e : Meaning × Meaning). e.0)) c.in_ok-key.ensures.entry ∙ c.in_ok-place.ensures)

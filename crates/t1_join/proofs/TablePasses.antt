@@ -1,10 +1,23 @@
 -- One pass by two places over two tables whose keys rise.
-use Rattle.std.proofs.Common.{◌≡◌, ◌<◌, ℕ, ◌+◌, ◌-◌, arith, Ordering, Bool, true, false, cond, List, [], ◌∷◌, ◌++◌, map, length, drop, Option, Some, None, refl, sym, ap, subst, ◌∙◌}
-use Rattle.std.proofs.{lemmas.List.{append_assoc, map-append}, lemmas.Option.{slice_get_within}}
-use Rattle.std.specs.{declared.cmp.Ordering.TheVariants.{Less, Equal, Greater}, List.{slice_get}, Cmp.{IsTotalOrder}}
-use Rattle.std.specs.{FinMap.{FinMap, IsAntisymmetric, entries, entries_sorted, entries-from_sorted, from_sorted}, FinMap.Entries.{by_order}}
-use Rattle.t1_join.{specs.{Passes.{merge, first_met}, TableMeaning.{Rises}}, proofs.{Merges.{rises_merge, merged_from_sorted}, Sorted.{map_of}}}
-use Rattle.t1_font.{specs.Maps.{merged}, proofs.LentTables.{from_place, past_all}}
+use Rattle.std.proofs.Common.{◌≡◌, ◌<◌, ℕ, suc, ◌+◌, ◌-◌, arith, Ordering, Bool, true, false, cond, List, [], ◌∷◌, ◌++◌, map, length, drop, Option, Some, None, inl, inr, refl, sym, ap, subst, ◌∙◌}
+use Rattle.std.proofs.{Math.Seq.{drop-cons}, lemmas.List.{append_assoc, append-nil, map-append, drop_all}}
+use Rattle.std.proofs.lemmas.Option.{slice_get_within, slice_get_cases, get_or_from_slice_get, none-some}
+use Rattle.std.specs.{declared.cmp.Ordering.TheVariants.{Less, Equal, Greater}, List.{slice_get}, Cmp.{IsTotalOrder}, FinMap.Entries.{by_order}}
+use Rattle.std.specs.FinMap.{FinMap, IsAntisymmetric, entries, entries_sorted, entries-from_sorted, from_sorted, from_entries}
+use Rattle.t1_join.{specs.{Entries.{entries_by}, Passes.{merge, first_met}, TableMeaning.{Rises}}, proofs.{Merges.{rises_merge, merged_from_sorted}, Sorted.{map_of}}}
+
+-- an entry is the first from its place on, and nothing stands where there is none
+module _ {X : Type 0} (es : List X) (i : ℕ) where
+  pub from_place : (x : X) → slice_get es i ≡ Some x → drop i es ≡ x ∷ drop (i + 1) es
+  from_place x h =
+      let next : suc i ≡ i + 1 = omega arith in
+      drop-cons es i x (slice_get_within es i x h) ∙ (λ k. get_or_from_slice_get es i x x h k ∷ drop (next k) es)
+
+  pub past_all : slice_get es i ≡ None → drop i es ≡ []
+  past_all h = elim (slice_get_cases es i).1 [
+    | inl w ↦ absurd (none-some w.0 (sym h ∙ w.2))
+    | inr w ↦ drop_all i es w.0
+  ]
 
 -- how much is left of two lists
 abbrev pub left : {A : Type 0} → List A → List A → ℕ → ℕ → ℕ
@@ -85,6 +98,10 @@ put_next v out more y es rest all so_far is put =
 pub put_out : {Y E : Type 0} (v : Y → E) (none all : List Y) (es : List E) → none ≡ [] → map v all ≡ map v none ++ es → map v all ≡ es
 put_out v none all es is put = put ∙ ap (λ ys. map v ys ++ es) is
 
+-- entries that are out, and nothing is left
+pub all_out : {K X Y : Type 0} (v : Y → K × X) (out : List Y) (left es : List (K × X)) → left ≡ [] → map v out ++ left ≡ es → map v out ≡ es
+all_out {K = K} {X = X} v out left es none h = sym (append-nil (map v out)) ∙ (ap (λ (l : List (K × X)). map v out ++ l) (sym none) ∙ h)
+
 -- where an entry stands, less is left once the pass goes on behind it
 module _ {K X : Type 0} (es fs : List (K × X)) (i j : ℕ) (e f : K × X) (a : slice_get es i ≡ Some e) (b : slice_get fs j ≡ Some f) where
   pub first_nearer : left es fs (i + 1) j < left es fs i j
@@ -101,13 +118,18 @@ module _ {K X : Type 0} {R : K → K → Ordering} (o : IsTotalOrder R) (m n : F
   pub merge_rises : Rises R all
   merge_rises = subst (Rises R) (sym h) (rises_merge o (entries m) (entries n) (entries_sorted m) (entries_sorted n))
 
-  pub merge_is : IsAntisymmetric R → from_sorted all ≡ merged m n
+  pub merge_is : IsAntisymmetric R → from_sorted all ≡ from_entries {R = R} (entries m ++ entries n)
   merge_is same = ap (from_sorted {R = R}) h ∙ (merged_from_sorted o same (entries m) (entries n) (entries_sorted m) (entries_sorted n)
-      ∙ (λ i. merged (map_of (entries m) m refl i) (map_of (entries n) n refl i)))
+      ∙ (λ i. from_entries (entries (map_of (entries m) m refl i) ++ entries (map_of (entries n) n refl i))))
 
 -- the entries of both maps are the merged entries
 pub merged_entries : {K X : Type 0} {R : K → K → Ordering} → IsTotalOrder R → IsAntisymmetric R → (m n : FinMap R X) →
-    entries (merged m n) ≡ merge R (entries m) (entries n)
+    entries (from_entries {R = R} (entries m ++ entries n)) ≡ merge R (entries m) (entries n)
 merged_entries {R = R} o same m n =
     ap entries (sym (merge_is o m n (merge R (entries m) (entries n)) refl same))
     ∙ entries-from_sorted R (merge R (entries m) (entries n)) (merge_rises o m n (merge R (entries m) (entries n)) refl)
+
+-- entries seen by keys that mean themselves stay
+pub entries_same : {K X : Type 0} (es : List (K × X)) → entries_by (λ k. k) (λ x. x) es ≡ es
+entries_same [] = refl
+entries_same (e ∷ es) = λ i. e ∷ entries_same es i

@@ -1,6 +1,7 @@
 use Rattle.std.proofs.Common.{ap, refl}
-use Rattle.t1_font.{specs.{Lent.{named_entries}, Ranges.{named_at}}, proofs.LentTables.{stands, stands_not}}
-use Rattle.t1_font.proofs.lent.NamedSortedTable.at.Goals as goal
+use Rattle.t1_join.proofs.TablePlaces.{stands, stands_not}
+use Rattle.t1_font.specs.{Lent.{named_entries}, Ranges.{named_at}}
+use Rattle.t1_font.proofs.lent.RefNamedSortedTable.at.Goals as goal
 
 pub returns-in_err-places-in-Stored-clause-entry : goal.returns-in_err-places-in-Stored-clause-entry
 returns-in_err-places-in-Stored-clause-entry c =
