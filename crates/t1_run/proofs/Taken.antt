@@ -1,7 +1,7 @@
 -- What is taken out of budgets.
-use Rattle.std.proofs.Common.{◌≡◌, ap, ℕ, ◌+◌, ◌≤◌, List, length, Option, Some, None, arith}
-use Rattle.t1_run.specs.{declared.answer.Hints.{Hints}, declared.answer.Hints.TheVariants.{Replaced, Kept}}
-use Rattle.t1_run.specs.{Run.{Subrs, Outcome, run_glyph}, Budgets.{tokens_by, tokens_of_both, HasFewer, Takes}}
+use Rattle.std.proofs.Common.{◌≡◌, ap, ℕ, ◌+◌, ◌≤◌, max, List, length, Option, Some, None, arith}
+use Rattle.t1_run.specs.{declared.answer.Hints.TheVariants.{Replaced, Kept}}
+use Rattle.t1_run.specs.{Run.{Subrs, Outcome, run_glyph}, Budgets.{tokens_by, tokens_of_longer, tokens_of_both, HasFewer, Takes}}
 
 -- within wider bounds
 pub takes_wider : (least most least' most' : ℕ) (old new : Option ℕ) → least' ≤ least → most ≤ most' → Takes least most old new → Takes least' most' old new
@@ -39,25 +39,20 @@ fewer_than_more tokens more (Some left) above h = omega (arith, above, h)
 
 -- a charstring whose two runs are one, which was executed
 pub one_takes : (subrs : Subrs) (c : List ℕ) (old new : Option ℕ) → run_glyph subrs Kept c ≡ run_glyph subrs Replaced c →
-    Takes (tokens_by Replaced subrs c) (tokens_by Replaced subrs c) old new → (hints : Hints) → Takes (tokens_by hints subrs c) (tokens_of_both subrs c) old new
-one_takes subrs c old new same h Replaced =
-    takes_wider (tokens_by Replaced subrs c) (tokens_by Replaced subrs c) (tokens_by Replaced subrs c) (tokens_of_both subrs c) old new
-    (omega arith) (omega arith) h
-one_takes subrs c old new same h Kept =
-    let alike : tokens_by Kept subrs c ≡ tokens_by Replaced subrs c = ap (λ (o : Outcome). length o.visits) same in
-    takes_wider (tokens_by Replaced subrs c) (tokens_by Replaced subrs c) (tokens_by Kept subrs c) (tokens_of_both subrs c) old new
-    (omega (arith, alike)) (omega arith) h
+    Takes (tokens_by Replaced subrs c) (tokens_by Replaced subrs c) old new → Takes (tokens_of_longer subrs c) (tokens_of_both subrs c) old new
+one_takes subrs c old new same h =
+    let a : ℕ = tokens_by Replaced subrs c in
+    let b : ℕ = tokens_by Kept subrs c in
+    let alike : b ≡ a = ap (λ (o : Outcome). length o.visits) same in
+    takes_wider a a (max a b) (a + b) old new (omega (arith, alike)) (omega arith) h
 
 -- a charstring whose two runs were executed
 pub both_take : (subrs : Subrs) (c : List ℕ) (old mid new : Option ℕ) → Takes (tokens_by Replaced subrs c) (tokens_by Replaced subrs c) old mid →
-    Takes (tokens_by Kept subrs c) (tokens_by Kept subrs c) mid new → (hints : Hints) → Takes (tokens_by hints subrs c) (tokens_of_both subrs c) old new
-both_take subrs c old mid new h k hints =
-    takes_wider (tokens_of_both subrs c) (tokens_of_both subrs c) (tokens_by hints subrs c) (tokens_of_both subrs c) old new (one_of hints) (omega arith)
-    (takes_twice (tokens_by Replaced subrs c) (tokens_by Replaced subrs c) (tokens_by Kept subrs c) (tokens_by Kept subrs c) old mid new h k)
-  where
-    one_of : (hints : Hints) → tokens_by hints subrs c ≤ tokens_of_both subrs c
-    one_of Replaced = omega arith
-    one_of Kept = omega arith
+    Takes (tokens_by Kept subrs c) (tokens_by Kept subrs c) mid new → Takes (tokens_of_longer subrs c) (tokens_of_both subrs c) old new
+both_take subrs c old mid new h k =
+    let a : ℕ = tokens_by Replaced subrs c in
+    let b : ℕ = tokens_by Kept subrs c in
+    takes_wider (a + b) (a + b) (max a b) (a + b) old new (omega arith) (omega arith) (takes_twice a a b b old mid new h k)
 
 -- at least nothing
 pub takes_some : (least most : ℕ) (old new : Option ℕ) → Takes least most old new → Takes 0 most old new

@@ -1,14 +1,18 @@
 -- Budgets of tokens, and what runs take out of them.
-use Rattle.std.specs.{Prelude.{ℕ, ◌+◌, ◌-◌, ◌<◌, ◌≤◌, min, List, length, Option, None, Some}}
+use Rattle.std.specs.{Prelude.{ℕ, ◌+◌, ◌-◌, ◌<◌, ◌≤◌, min, max, List, length, Option, None, Some}}
 use Rattle.t1_run.specs.{declared.answer.Hints.{Hints}, declared.answer.Hints.TheVariants.{Replaced, Kept}, State.{token_limit}, Run.{Subrs, run_glyph}}
 
 -- The tokens that a charstring executes, by what the pop after OtherSubr 3 gives.
 abbrev pub tokens_by : Hints → Subrs → List ℕ → ℕ
 tokens_by hints subrs c = length (run_glyph subrs hints c).visits
 
--- The tokens that it executes where hints are replaced, and those where they are kept.
+-- The tokens that both of its runs execute, where hints are replaced and where they are kept.
 abbrev pub tokens_of_both : Subrs → List ℕ → ℕ
 tokens_of_both subrs c = tokens_by Replaced subrs c + tokens_by Kept subrs c
+
+-- The tokens that the longer of both runs executes.
+abbrev pub tokens_of_longer : Subrs → List ℕ → ℕ
+tokens_of_longer subrs c = max (tokens_by Replaced subrs c) (tokens_by Kept subrs c)
 
 -- Fewer tokens are left than these.
 abbrev pub HasFewer : Option ℕ → ℕ → Type 0

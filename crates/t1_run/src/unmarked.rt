@@ -2,9 +2,8 @@
 
 ghost use Rattle.std.specs.Prelude.{◌≡◌, ◌++◌, IfOk, IfErr, OnOk, OnErr, map, [], true};
 ghost use Rattle.t1_run.specs.Run.{run_glyph, calls_of, calls, calls3, exec, with_executed, with_indices, AddsFirst};
-ghost use Rattle.t1_run.specs.Budgets.{tokens_by, tokens_of_both, HasFewer, Takes};
+ghost use Rattle.t1_run.specs.Budgets.{tokens_by, tokens_of_longer, tokens_of_both, HasFewer, Takes};
 ghost use Rattle.t1_run.specs.declared.budget.Stop.TheVariants.{TooManyTokens};
-ghost use Rattle.t1_run.specs.declared.answer.Hints.{Hints};
 ghost use Rattle.t1_run.specs.Machine.{ending_of};
 ghost use Rattle.t1_run.specs.Drawings.{parts, parts_by, parts_of};
 
@@ -63,8 +62,7 @@ fn both_halts<S: Subroutines>(
     ensures some { OnErr result (AddsFirst
         (calls (S.subrs subrs.now) charstring.now ++ calls3 (S.subrs subrs.now) charstring.now)
         called.old called.new) }
-    ensures takes { OnOk result ((hints : Hints)
-        → Takes (tokens_by hints (S.subrs subrs.now) charstring.now)
+    ensures takes { OnOk result (Takes (tokens_of_longer (S.subrs subrs.now) charstring.now)
         (tokens_of_both (S.subrs subrs.now) charstring.now) budget.old.left budget.new.left) }
     ensures spent { OnErr result (Takes 0 (tokens_of_both (S.subrs subrs.now) charstring.now)
         budget.old.left budget.new.left) }
@@ -100,8 +98,7 @@ pub fn parts_and_executed_within<S: Subroutines>(
     ensures some { OnErr result (AddsFirst
         (calls (S.subrs subrs.now) charstring.now ++ calls3 (S.subrs subrs.now) charstring.now)
         called.old called.new) }
-    ensures takes { OnOk result ((hints : Hints)
-        → Takes (tokens_by hints (S.subrs subrs.now) charstring.now)
+    ensures takes { OnOk result (Takes (tokens_of_longer (S.subrs subrs.now) charstring.now)
         (tokens_of_both (S.subrs subrs.now) charstring.now) budget.old.left budget.new.left) }
     ensures spent { OnErr result (Takes 0 (tokens_of_both (S.subrs subrs.now) charstring.now)
         budget.old.left budget.new.left) }
