@@ -4,6 +4,8 @@ mod Mirrors
 pub mod DrawingLocality
 pub mod Grown
 mod Resumed
+mod Spending
+pub mod Taken
 mod Turns
 mod Pages
 mod Between

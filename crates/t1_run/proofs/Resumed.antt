@@ -1,5 +1,5 @@
 -- Runs that are resumed after others, and runs that are deeper in calls.
-use Rattle.std.proofs.{Common.{◌≡◌, refl, ap, ◌∙◌, ℕ, zero, suc, List, [], ◌∷◌, ◌++◌, map, append_assoc}, lemmas.List.{map-append, append-nil}}
+use Rattle.std.proofs.{Common.{◌≡◌, refl, ap, ◌∙◌, ℕ, zero, suc, List, [], ◌∷◌, ◌++◌, map, length, append_assoc}, lemmas.List.{map-append, append-nil, length-map}}
 use Rattle.t1_run.specs.{State.{State, Ending, Back, Plain, Seac, Failed}, declared.answer.Mark.{Mark}, Run.{Visit, Outcome, ends, after, visiting, one_deeper, deeper, then_run, resume, marks_by}}
 use Rattle.t1_run.specs.Frames.{deeper_by}
 
@@ -105,3 +105,9 @@ one_by (suc n) marks v = one_by n marks (one_deeper v)
 pub marks_by-append : (marks : List Mark) (xs ys : List Visit) → marks_by marks (xs ++ ys) ≡ marks_by (marks_by marks xs) ys
 marks_by-append marks [] ys = refl
 marks_by-append marks (v ∷ xs) ys = marks_by-append v.marks xs ys
+
+-- visits are as many, however deep
+pub length_by : (n : ℕ) (visits : List Visit) → length (visits_by n visits) ≡ length visits
+unfolding visits_by
+length_by zero visits = refl
+length_by (suc n) visits = length_by n (map one_deeper visits) ∙ length-map visits one_deeper

@@ -1,7 +1,9 @@
--- The names of the faults of runs and of drawings, as they are printed.
+-- The names of the faults of runs and of drawings, and why runs within a budget stop, as they are printed.
 use Rattle.std.specs.Prelude.{ℕ, List, codes}
 use Rattle.t1_run.specs.{declared.answer.Fault.{Fault}, declared.drawings.DrawFault.{DrawFault}, declared.drawings.DrawFault.TheVariants.{Run, NoPart, MissingPart, NestedSeac, PartFault, NoGlyph}}
+use Rattle.t1_run.specs.{declared.budget.Stop.{Stop}}
 use Rattle.t1_run.specs.declared.answer.Fault.TheVariants as run
+use Rattle.t1_run.specs.declared.budget.Stop.TheVariants as stop
 
 -- the name of a run's fault
 abbrev pub run_fault_name : Fault → List ℕ
@@ -28,3 +30,8 @@ fault_name MissingPart = codes "MissingPart"
 fault_name NestedSeac = codes "NestedSeac"
 fault_name PartFault = codes "PartFault"
 fault_name NoGlyph = codes "NoGlyph"
+
+-- why a run within a budget stops, as it is printed
+abbrev pub stop_text : Stop → List ℕ
+stop_text stop.TooManyTokens = codes "too many tokens"
+stop_text stop.Memory = codes "out of memory"

@@ -4,6 +4,7 @@ pub mod Run
 pub mod Called
 pub mod Frames
 pub mod Pens
+pub mod Budgets
 pub mod Machine
 pub mod Laws
 pub mod Growth

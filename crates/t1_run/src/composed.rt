@@ -17,7 +17,7 @@ use crate::called::Called;
 use crate::drawings::DrawFault;
 use crate::parts::name_of_code;
 use crate::pens::Blank;
-use crate::run::{Halt, run};
+use crate::run::{Halt, run_freely};
 use crate::subroutines::{Glyphs, Subroutines};
 use std::alloc::{AllocError, Global};
 
@@ -53,7 +53,7 @@ impl<'f> Outline<'f> for Vec<Mark> {
     ) -> Result<(Halt, Vec<Mark>), AllocError> {
         let mut marks = Vec::new(alloc);
         let mut called = Called::new(alloc);
-        let (halt, _) = run(subrs, hints, charstring, &mut marks, &mut called)?;
+        let (halt, _) = run_freely(subrs, hints, charstring, &mut marks, &mut called)?;
         Ok((halt, marks))
     }
 }
@@ -70,7 +70,7 @@ impl<'f> Outline<'f> for &'f [u8] {
         charstring: &'f [u8],
     ) -> Result<(Halt, &'f [u8]), AllocError> {
         let mut called = Called::new(alloc);
-        let (halt, _) = run(subrs, hints, charstring, &mut Blank, &mut called)?;
+        let (halt, _) = run_freely(subrs, hints, charstring, &mut Blank, &mut called)?;
         Ok((halt, charstring))
     }
 }

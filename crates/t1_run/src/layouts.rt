@@ -12,7 +12,7 @@ use crate::called::Called;
 use crate::composed::{Composed, compose};
 use crate::drawings::DrawFault;
 use crate::pens::Pen;
-use crate::run::run;
+use crate::run::run_freely;
 use crate::subroutines::{Glyphs, Subroutines};
 use std::alloc::{AllocError, Global};
 
@@ -114,6 +114,6 @@ pub fn trace<S: Subroutines, P: Pen>(
         (marks_made Hints.Replaced (S.subrs subrs.now) charstring.now)) }
 {
     let mut called = Called::new(alloc);
-    run(subrs, Hints::Replaced, charstring, pen, &mut called)?;
+    run_freely(subrs, Hints::Replaced, charstring, pen, &mut called)?;
     Ok(())
 }

@@ -1,13 +1,17 @@
 //! Runs of charstrings.
 
-ghost use Rattle.std.specs.Prelude.{◌≡◌, ◌≤◌, IfOk, OnOk, OnErr, MatchResult, ◌<◌, List, length, [], ◌∷◌, ◌++◌, Some, true};
+ghost use Rattle.std.specs.Prelude.{◌≡◌, ◌≤◌, ◌+◌, IfOk, IfErr, OnOk, OnErr, MatchResult, ◌<◌, List, length, [], ◌∷◌, ◌++◌, Some, true};
 ghost use Rattle.std.specs.Option.{option_copied};
 ghost use Rattle.t1_run.specs.Limits.{EndsWithinLimits};
 ghost use Rattle.t1_run.specs.Run.{run_glyph, direct_by, direct, direct3, exec, calls_of, with_indices, AddsFirst, index_of, index_taken, charstring_at, call};
-ghost use Rattle.t1_run.specs.Machine.{ending_of, value_of, Runs, IsEntered};
+ghost use Rattle.t1_run.specs.Machine.{ending_of, value_of, left_of, Runs, IsEntered};
+ghost use Rattle.t1_run.specs.Budgets.{tokens_by, HasFewer, Takes};
+ghost use Rattle.t1_run.specs.State.{token_limit};
+ghost use Rattle.t1_run.specs.declared.budget.Stop.TheVariants.{TooManyTokens};
 ghost use Rattle.t1_run.specs.Pens.{Draws};
 
 use crate::answer::{Accent, Curve, Direct, Fault, Hints, Mark, Metrics};
+use crate::budget::{Allowance, Budget, Stop};
 use crate::called::Called;
 use crate::frames::Frame;
 use crate::machine::{Flow, Machine};
@@ -85,13 +89,16 @@ fn draw_flex<P: Pen>(
 
 /// Runs a charstring until a token ends the run; each turn executes the next token of the Subr that was called last, or of
 /// the glyph. It also answers whether the run is the same where hints are kept. The pen draws the marks.
-pub(crate) fn run<'s, S: Subroutines, P: Pen>(
+#[inline(always)]
+fn take_turns<'s, S: Subroutines, P: Pen>(
     subrs: &'s S,
     hints: Hints,
     charstring: &'s [u8],
     pen: &mut P,
     called: &mut Called,
-) -> Result<(Halt, bool), AllocError>
+    allowance: &mut Allowance,
+) -> Result<(Halt, bool), Stop>
+    requires { left_of allowance.now ≡ token_limit }
     ensures runs { IfOk result
         (λ r. Runs (run_glyph (S.subrs subrs.now) hints charstring.now) r.0
         (Draws P.marked (P.page pen.old) (P.page pen.new)) called.old called.new) }
@@ -100,13 +107,21 @@ pub(crate) fn run<'s, S: Subroutines, P: Pen>(
         ≡ run_glyph (S.subrs subrs.now) hints charstring.now) }
     ensures some { OnErr result (AddsFirst (calls_of hints (S.subrs subrs.now) charstring.now)
         called.old called.new) }
+    ensures executed { OnOk result (tokens_by hints (S.subrs subrs.now) charstring.now
+        + allowance.new.allowed ≡ allowance.old.allowed) }
+    ensures more { OnErr result ((allowance.new.allowed ≤ allowance.old.allowed)
+        × (allowance.old.allowed
+        ≤ tokens_by hints (S.subrs subrs.now) charstring.now + allowance.new.allowed)) }
+    ensures refused { IfErr result (λ e. e ≡ TooManyTokens
+        → (0 < allowance.old.withheld)
+        × (allowance.old.allowed < tokens_by hints (S.subrs subrs.now) charstring.now)) }
 {
     let mut machine = Machine::<P>::new();
     let mut callers: ArrayVec<Frame<'s>, LEVELS> = ArrayVec::new();
     let mut top = Frame::new(charstring);
     let mut is_one = true;
     'turns: loop {
-        let Some(flow) = machine.spend(hints, &mut top) else {
+        let Some(flow) = machine.spend(hints, allowance, &mut top)? else {
             return Ok((Halt::Failed(Fault::Unended), is_one));
         };
         match flow {
@@ -140,6 +155,63 @@ pub(crate) fn run<'s, S: Subroutines, P: Pen>(
                 }
             }
         }
+    }
+}
+
+/// Runs a charstring until a token ends the run, or until the budget has no token left for the next. It also answers whether the
+/// run is the same where hints are kept. The pen draws the marks. However it ends, the tokens that were executed are taken out of
+/// the budget.
+pub(crate) fn run<'s, S: Subroutines, P: Pen>(
+    subrs: &'s S,
+    hints: Hints,
+    charstring: &'s [u8],
+    pen: &mut P,
+    called: &mut Called,
+    budget: &mut Budget,
+) -> Result<(Halt, bool), Stop>
+    ensures runs { IfOk result
+        (λ r. Runs (run_glyph (S.subrs subrs.now) hints charstring.now) r.0
+        (Draws P.marked (P.page pen.old) (P.page pen.new)) called.old called.new) }
+    ensures one { IfOk result (λ r. r.1 ≡ true
+        → run_glyph (S.subrs subrs.now) Hints.Kept charstring.now
+        ≡ run_glyph (S.subrs subrs.now) hints charstring.now) }
+    ensures some { OnErr result (AddsFirst (calls_of hints (S.subrs subrs.now) charstring.now)
+        called.old called.new) }
+    ensures takes { OnOk result (Takes (tokens_by hints (S.subrs subrs.now) charstring.now)
+        (tokens_by hints (S.subrs subrs.now) charstring.now) budget.old.left budget.new.left) }
+    ensures spent { OnErr result (Takes 0 (tokens_by hints (S.subrs subrs.now) charstring.now)
+        budget.old.left budget.new.left) }
+    ensures refused { IfErr result (λ e. e ≡ TooManyTokens
+        → HasFewer budget.old.left (tokens_by hints (S.subrs subrs.now) charstring.now)) }
+{
+    let mut allowance = Allowance::of(*budget);
+    let allowed = allowance.allowed;
+    let result = take_turns(subrs, hints, charstring, pen, called, &mut allowance);
+    budget.take(allowed - allowance.allowed);
+    result
+}
+
+/// Runs a charstring until a token ends the run, as [`run`] does, without a budget.
+pub(crate) fn run_freely<'s, S: Subroutines, P: Pen>(
+    subrs: &'s S,
+    hints: Hints,
+    charstring: &'s [u8],
+    pen: &mut P,
+    called: &mut Called,
+) -> Result<(Halt, bool), AllocError>
+    ensures runs { IfOk result
+        (λ r. Runs (run_glyph (S.subrs subrs.now) hints charstring.now) r.0
+        (Draws P.marked (P.page pen.old) (P.page pen.new)) called.old called.new) }
+    ensures one { IfOk result (λ r. r.1 ≡ true
+        → run_glyph (S.subrs subrs.now) Hints.Kept charstring.now
+        ≡ run_glyph (S.subrs subrs.now) hints charstring.now) }
+    ensures some { OnErr result (AddsFirst (calls_of hints (S.subrs subrs.now) charstring.now)
+        called.old called.new) }
+{
+    let mut budget = Budget { left: None };
+    match run(subrs, hints, charstring, pen, called, &mut budget) {
+        Ok(ended) => Ok(ended),
+        Err(_) => Err(AllocError),
     }
 }
 
@@ -179,7 +251,7 @@ fn direct_by<S: Subroutines>(
 {
     let mut marks = Vec::new(alloc);
     let mut called = Called::new(alloc);
-    let (halt, _) = run(subrs, hints, charstring, &mut marks, &mut called)?;
+    let (halt, _) = run_freely(subrs, hints, charstring, &mut marks, &mut called)?;
     Ok(answer_of(halt, marks))
 }
 

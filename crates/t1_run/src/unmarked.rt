@@ -1,11 +1,14 @@
 //! What a glyph needs of its font: the parts that it names and the Subrs that it executes. Its marks are not kept.
 
-ghost use Rattle.std.specs.Prelude.{◌≡◌, ◌++◌, IfOk, OnOk, OnErr, map, [], true};
+ghost use Rattle.std.specs.Prelude.{◌≡◌, ◌++◌, IfOk, IfErr, OnOk, OnErr, map, [], true};
 ghost use Rattle.t1_run.specs.Run.{run_glyph, calls_of, calls, calls3, exec, with_executed, with_indices, AddsFirst};
+ghost use Rattle.t1_run.specs.Budgets.{tokens_by, tokens_of_longer, tokens_of_both, HasFewer, Takes};
+ghost use Rattle.t1_run.specs.declared.budget.Stop.TheVariants.{TooManyTokens};
 ghost use Rattle.t1_run.specs.Machine.{ending_of};
 ghost use Rattle.t1_run.specs.Drawings.{parts, parts_by, parts_of};
 
 use crate::answer::Hints;
+use crate::budget::{Budget, Stop};
 use crate::called::Called;
 use crate::parts::parts_of;
 use crate::pens::Blank;
@@ -21,7 +24,8 @@ fn halt_of<S: Subroutines>(
     hints: Hints,
     charstring: &[u8],
     called: &mut Called,
-) -> Result<(Halt, bool), AllocError>
+    budget: &mut Budget,
+) -> Result<(Halt, bool), Stop>
     ensures parts { IfOk result (λ r. parts_of (ending_of r.0 [])
         ≡ parts_by hints (S.subrs subrs.now) charstring.now) }
     ensures called { OnOk result (called.new
@@ -31,8 +35,14 @@ fn halt_of<S: Subroutines>(
     ensures one { IfOk result (λ r. r.1 ≡ true
         → run_glyph (S.subrs subrs.now) Hints.Kept charstring.now
         ≡ run_glyph (S.subrs subrs.now) hints charstring.now) }
+    ensures takes { OnOk result (Takes (tokens_by hints (S.subrs subrs.now) charstring.now)
+        (tokens_by hints (S.subrs subrs.now) charstring.now) budget.old.left budget.new.left) }
+    ensures spent { OnErr result (Takes 0 (tokens_by hints (S.subrs subrs.now) charstring.now)
+        budget.old.left budget.new.left) }
+    ensures refused { IfErr result (λ e. e ≡ TooManyTokens
+        → HasFewer budget.old.left (tokens_by hints (S.subrs subrs.now) charstring.now)) }
 {
-    run(subrs, hints, charstring, &mut Blank, called)
+    run(subrs, hints, charstring, &mut Blank, called, budget)
 }
 
 /// How a charstring ends where hints are replaced and where they are kept, and which Subrs it executes, added to `called`.
@@ -41,7 +51,8 @@ fn both_halts<S: Subroutines>(
     subrs: &S,
     charstring: &[u8],
     called: &mut Called,
-) -> Result<(Halt, Halt), AllocError>
+    budget: &mut Budget,
+) -> Result<(Halt, Halt), Stop>
     ensures replaced { IfOk result (λ r. parts_of (ending_of r.0 [])
         ≡ parts_by Hints.Replaced (S.subrs subrs.now) charstring.now) }
     ensures kept { IfOk result (λ r. parts_of (ending_of r.1 [])
@@ -51,20 +62,60 @@ fn both_halts<S: Subroutines>(
     ensures some { OnErr result (AddsFirst
         (calls (S.subrs subrs.now) charstring.now ++ calls3 (S.subrs subrs.now) charstring.now)
         called.old called.new) }
+    ensures takes { OnOk result (Takes (tokens_of_longer (S.subrs subrs.now) charstring.now)
+        (tokens_of_both (S.subrs subrs.now) charstring.now) budget.old.left budget.new.left) }
+    ensures spent { OnErr result (Takes 0 (tokens_of_both (S.subrs subrs.now) charstring.now)
+        budget.old.left budget.new.left) }
+    ensures refused { IfErr result (λ e. e ≡ TooManyTokens
+        → HasFewer budget.old.left (tokens_of_both (S.subrs subrs.now) charstring.now)) }
 {
-    let (replaced, is_one) = halt_of(subrs, Hints::Replaced, charstring, called)?;
+    let (replaced, is_one) = halt_of(subrs, Hints::Replaced, charstring, called, budget)?;
     if is_one {
         return Ok((replaced, replaced));
     }
-    let (kept, _) = halt_of(subrs, Hints::Kept, charstring, called)?;
+    let (kept, _) = halt_of(subrs, Hints::Kept, charstring, called, budget)?;
     Ok((replaced, kept))
+}
+
+/// The same as [`parts_and_executed`] within a budget: each token that is executed is taken out of it, and it stops before a token
+/// for which none is left. If both answers after OtherSubr 3 lead to the same run, this is executed once. However it ends, the
+/// budget is lowered by what was executed.
+///
+/// It fails with [`Stop::TooManyTokens`] only if both runs execute more tokens than are left, and else only for want of memory.
+/// It has then added the first few of the indices to `called`, or none.
+#[tactic(auto, using(crate::proofs::Indices::first_all))]
+pub fn parts_and_executed_within<S: Subroutines>(
+    alloc: Global,
+    subrs: &S,
+    charstring: &[u8],
+    called: &mut Called,
+    budget: &mut Budget,
+) -> Result<Vec<&'static str>, Stop>
+    ensures names { IfOk result (λ names. map (λ s. s.now) names.items
+        ≡ parts (S.subrs subrs.now) charstring.now) }
+    ensures executed { OnOk result (called.new
+        ≡ with_executed called.old (S.subrs subrs.now) charstring.now) }
+    ensures some { OnErr result (AddsFirst
+        (calls (S.subrs subrs.now) charstring.now ++ calls3 (S.subrs subrs.now) charstring.now)
+        called.old called.new) }
+    ensures takes { OnOk result (Takes (tokens_of_longer (S.subrs subrs.now) charstring.now)
+        (tokens_of_both (S.subrs subrs.now) charstring.now) budget.old.left budget.new.left) }
+    ensures spent { OnErr result (Takes 0 (tokens_of_both (S.subrs subrs.now) charstring.now)
+        budget.old.left budget.new.left) }
+    ensures refused { IfErr result (λ e. e ≡ TooManyTokens
+        → HasFewer budget.old.left (tokens_of_both (S.subrs subrs.now) charstring.now)) }
+{
+    let (replaced, kept) = both_halts(subrs, charstring, called, budget)?;
+    let mut names = parts_of(alloc, replaced)?;
+    let more = parts_of(alloc, kept)?;
+    names.extend_from_slice(more.as_slice())?;
+    Ok(names)
 }
 
 /// What a plain charstring needs of its font: for an accented glyph the names of its base and its accent, where hints are
 /// replaced and then where they are kept, and the indices that it executes, as [`executed`] says, added to `called`. It
 /// keeps no marks. It fails only for want of memory, and has then added the first few of these indices or none, in the
 /// order in which the runs take them; what was in `called` before is still there.
-#[tactic(auto, using(crate::proofs::Indices::first_all))]
 pub fn parts_and_executed<S: Subroutines>(
     alloc: Global,
     subrs: &S,
@@ -79,11 +130,27 @@ pub fn parts_and_executed<S: Subroutines>(
         (calls (S.subrs subrs.now) charstring.now ++ calls3 (S.subrs subrs.now) charstring.now)
         called.old called.new) }
 {
-    let (replaced, kept) = both_halts(subrs, charstring, called)?;
-    let mut names = parts_of(alloc, replaced)?;
-    let more = parts_of(alloc, kept)?;
-    names.extend_from_slice(more.as_slice())?;
-    Ok(names)
+    let mut budget = Budget { left: None };
+    match parts_and_executed_within(alloc, subrs, charstring, called, &mut budget) {
+        Ok(names) => Ok(names),
+        Err(_) => Err(AllocError),
+    }
+}
+
+/// Runs a charstring where hints are replaced and where they are kept, without a budget. The Subrs that it executes are added to
+/// `called`.
+fn run_both<S: Subroutines>(
+    subrs: &S,
+    charstring: &[u8],
+    called: &mut Called,
+) -> Result<(), AllocError>
+    ensures { OnOk result (called.new
+        ≡ with_executed called.old (S.subrs subrs.now) charstring.now) }
+{
+    match both_halts(subrs, charstring, called, &mut Budget { left: None }) {
+        Ok(_) => Ok(()),
+        Err(_) => Err(AllocError),
+    }
 }
 
 /// The indices that `callsubr` takes in the run of a plain charstring, up to its end or fault, where hints are replaced or
@@ -97,6 +164,6 @@ pub fn executed<S: Subroutines>(
     ensures indices { IfOk result (λ set. set.keys ≡ exec (S.subrs subrs.now) charstring.now) }
 {
     let mut called = Called::new(alloc);
-    both_halts(subrs, charstring, &mut called)?;
+    run_both(subrs, charstring, &mut called)?;
     called.to_set(alloc)
 }

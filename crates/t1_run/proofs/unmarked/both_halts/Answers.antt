@@ -1,5 +1,5 @@
 use Rattle.std.proofs.Common.{rules, sym, ap, ◌∙◌, ℕ, List}
-use Rattle.t1_run.{specs.{declared.answer.Hints.TheVariants.{Replaced}, Run.{Outcome, with_indices, calls_of, calls, calls3}}, proofs.Indices.{with_again, first_of_more, first_after}}
+use Rattle.t1_run.{specs.{declared.answer.Hints.TheVariants.{Replaced}, Run.{Outcome, with_indices, calls_of, calls, calls3}}, proofs.{Indices.{with_again, first_of_more, first_after}, Taken.{one_takes, both_take}}}
 use Rattle.t1_run.proofs.unmarked.both_halts.Goals as goal
 
 -- both runs are one, and its indices are all
@@ -21,3 +21,15 @@ pub returns-in_err-kept-clause-some : goal.returns-in_err-kept-clause-some
 returns-in_err-kept-clause-some g c = let some =
     first_after (calls (g.S.Subroutines.subrs c.args.subrs.now) c.args.charstring.now) (calls3 (g.S.Subroutines.subrs c.args.subrs.now) c.args.charstring.now)
     c.args.called.now c.halt_of.new.called _ c.in_ok-replaced.ensures.called c.in_err-kept.ensures.some in search rules
+
+-- what both runs take is what the one takes
+pub returns-then-is_one-clause-takes : goal.returns-then-is_one-clause-takes
+returns-then-is_one-clause-takes g c =
+    one_takes (g.S.Subroutines.subrs c.args.subrs.now) c.args.charstring.now c.args.budget.now.left c.halt_of.new.budget.left
+    (c.in_ok-replaced.ensures.one c.if-is_one.true) c.in_ok-replaced.ensures.takes
+
+-- both runs take what is theirs
+pub returns-clause-takes : goal.returns-clause-takes
+returns-clause-takes g c =
+    both_take (g.S.Subroutines.subrs c.args.subrs.now) c.args.charstring.now c.args.budget.now.left c.halt_of.new.budget.left c.halt_of-2.new.budget.left
+    c.in_ok-replaced.ensures.takes c.in_ok-kept.ensures.takes
