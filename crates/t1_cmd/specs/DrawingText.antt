@@ -1,6 +1,6 @@
 -- The lines of a drawing.
 use Rattle.std.specs.{Prelude.{ℕ, ◌+◌, ◌/◌, ◌%◌, ℤ, pos, negsuc, List, [], ◌∷◌, ◌++◌, codes, Result, Ok, Err, if◌then◌else◌, ◌==◌}, Fmt.{decimal}, List.{flat_map}, FinMap.{get}}
-use Rattle.t1_run.specs.{declared.answer.Point.{Point}, declared.answer.Mark.{Mark}, declared.drawings.DrawFault.{DrawFault}, declared.drawings.DrawFault.TheVariants.{NoGlyph}}
+use Rattle.t1_run.specs.{declared.answer.Point.{Point}, declared.answer.Mark.{Mark}, declared.answer.DrawFault.{DrawFault}, declared.answer.DrawFault.TheVariants.{NoGlyph}}
 use Rattle.t1_run.specs.{FaultNames.{fault_name}, Drawings.{Picture, Drawn, Undrawn, draw}}
 use Rattle.t1_font.specs.{FontValue.{FontValue}, FontModel.{subr_at}}
 use Rattle.t1_cmd.specs.declared.faults.Reason.{Reason}

@@ -8,9 +8,9 @@ use Rattle.t1_char.specs.declared.token.Command.TheVariants.{Hvcurveto, Dotsecti
 use Rattle.t1_run.specs.{declared.answer.Point.{Point}, declared.answer.Mark.{Mark}, declared.answer.Fault.{Fault}, declared.answer.Metrics.{Metrics}, declared.answer.Hints.{Hints}}
 use Rattle.t1_run.specs.declared.answer.Fault.TheVariants.{Overflow, Underflow, BadFlex, OtherProc, ZeroDivisor, Range, NotWhole, EmptyPop, TooLong}
 use Rattle.t1_run.specs.State.{State, Plain, Seac, Failed, Steps, unit, shift, curve, quotient, whole, accented}
-use Rattle.t1_run.specs.Rules.{Step, Goes, Ends, Calls, fails, one, two, three, four, five, six, top, below, given, with_top, sized, unsized, no_flex, provided, marked, begins}
-use Rattle.t1_run.specs.Rules.{moves_to, moves, draws, lines, curves, hint, push, divides, pops, begin_flex, add_point, flex_curves, end_flex, replaces, finish_flex, other, takes}
-use Rattle.t1_run.specs.{Rules.{with_arguments, call_other, rule}, Run.{visit, step, spend}}
+use Rattle.t1_run.specs.Rules.{Step, Goes, Ends, Calls, fails, one, two, three, four, five, six, top, below, given, with_top, sized, unsized, no_flex, provided, marked, begins, moves_to, moves}
+use Rattle.t1_run.specs.Rules.{draws, lines, curves, hint, push, divides, pops, begin_flex, add_point, flex_curves, end_flex, replaces, finish_flex, other, takes, with_arguments, call_other, rule}
+use Rattle.t1_run.specs.Run.{visit, step, spend}
 use Rattle.t1_run.specs.declared.answer.Mark.TheVariants as mark
 
 -- It ends by no want of tokens.

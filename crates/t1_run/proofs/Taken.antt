@@ -1,7 +1,6 @@
 -- What is taken out of budgets.
 use Rattle.std.proofs.Common.{◌≡◌, ap, ℕ, ◌+◌, ◌≤◌, max, List, length, Option, Some, None, arith}
-use Rattle.t1_run.specs.{declared.answer.Hints.TheVariants.{Replaced, Kept}}
-use Rattle.t1_run.specs.{Run.{Subrs, Outcome, run_glyph}, Budgets.{tokens_by, tokens_of_longer, tokens_of_both, HasFewer, Takes}}
+use Rattle.t1_run.specs.{declared.answer.Hints.TheVariants.{Replaced, Kept}, Run.{Subrs, Outcome, run_glyph}, Budgets.{tokens_by, tokens_of_longer, tokens_of_both, HasFewer, Takes}}
 
 -- within wider bounds
 pub takes_wider : (least most least' most' : ℕ) (old new : Option ℕ) → least' ≤ least → most ≤ most' → Takes least most old new → Takes least' most' old new

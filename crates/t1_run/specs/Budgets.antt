@@ -1,5 +1,5 @@
 -- Budgets of tokens, and what runs take out of them.
-use Rattle.std.specs.{Prelude.{ℕ, ◌+◌, ◌-◌, ◌<◌, ◌≤◌, min, max, List, length, Option, None, Some}}
+use Rattle.std.specs.Prelude.{ℕ, ◌+◌, ◌-◌, ◌<◌, ◌≤◌, min, max, List, length, Option, None, Some}
 use Rattle.t1_run.specs.{declared.answer.Hints.{Hints}, declared.answer.Hints.TheVariants.{Replaced, Kept}, State.{token_limit}, Run.{Subrs, run_glyph}}
 
 -- The tokens that a charstring executes, by what the pop after OtherSubr 3 gives.

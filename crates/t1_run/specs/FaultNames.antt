@@ -1,7 +1,7 @@
 -- The names of the faults of runs and of drawings, and why runs within a budget stop, as they are printed.
 use Rattle.std.specs.Prelude.{ℕ, List, codes}
-use Rattle.t1_run.specs.{declared.answer.Fault.{Fault}, declared.drawings.DrawFault.{DrawFault}, declared.drawings.DrawFault.TheVariants.{Run, NoPart, MissingPart, NestedSeac, PartFault, NoGlyph}}
-use Rattle.t1_run.specs.{declared.budget.Stop.{Stop}}
+use Rattle.t1_run.specs.{declared.answer.Fault.{Fault}, declared.answer.DrawFault.{DrawFault}, declared.answer.DrawFault.TheVariants.{Run, NoPart, MissingPart, NestedSeac, PartFault, NoGlyph}}
+use Rattle.t1_run.specs.declared.budget.Stop.{Stop}
 use Rattle.t1_run.specs.declared.answer.Fault.TheVariants as run
 use Rattle.t1_run.specs.declared.budget.Stop.TheVariants as stop
 

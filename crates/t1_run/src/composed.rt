@@ -12,9 +12,8 @@ ghost use Rattle.t1_run.specs.Machine.{ending_of};
 ghost use Rattle.t1_run.specs.Drawings.{outcome_at, accent_offset, accented_picture, of_two, parts_of, draw_by, marks_of, IsPlain};
 ghost use Rattle.t1_run.specs.Composed.{own_ending, IsPlainOwn, composed_picture, EachPart};
 
-use crate::answer::{Accent, Hints, Mark, Metrics, Point};
+use crate::answer::{Accent, DrawFault, Hints, Mark, Metrics, Point};
 use crate::called::Called;
-use crate::drawings::DrawFault;
 use crate::parts::name_of_code;
 use crate::pens::Blank;
 use crate::run::{Halt, run_freely};

@@ -7,10 +7,9 @@ ghost use Rattle.t1_run.specs.Drawings.{draw, marks_of, IsPlain};
 ghost use Rattle.t1_run.specs.Composed.{composed_picture, EachPart};
 ghost use Rattle.t1_run.specs.Layouts.{traced, traced_picture, ArePlain, IsPlainPart};
 
-use crate::answer::{Hints, Point};
+use crate::answer::{DrawFault, Hints, Point};
 use crate::called::Called;
 use crate::composed::{Composed, compose};
-use crate::drawings::DrawFault;
 use crate::pens::Pen;
 use crate::run::run_freely;
 use crate::subroutines::{Glyphs, Subroutines};

@@ -1,5 +1,6 @@
 -- Indices as finite sets, and those of the Subrs that the glyphs of a closure execute, as the closure is walked.
-use Rattle.std.proofs.{Common.{◌≡◌, ℕ, Bool, ◌||◌, true, false, List, [], ◌∷◌, ◌++◌, refl, sym, ◌∙◌, ap, ◌+◌, ◌<◌, ◌≤◌, length, take, take_all, get_or}, lemmas.List.Folds.{list_any_more, list_any-append}}
+use Rattle.std.proofs.Common.{◌≡◌, ℕ, Bool, ◌||◌, true, false, List, [], ◌∷◌, ◌++◌, refl, sym, ◌∙◌, ap, ◌+◌, ◌<◌, ◌≤◌, length, take, take_all, get_or}
+use Rattle.std.proofs.lemmas.List.Folds.{list_any_more, list_any-append}
 use Rattle.std.specs.{List.{list_any}, Ordering.{nat_cmp, eq_by_cmp}, Cmp.{nat_cmp_total, both_ways}, Cmp.Lexicographic.{nat_list_cmp_total}, BTreeSet.{insert_key}, FinSet.{nat_cmp-IsAntisymmetric}}
 use Rattle.t1_run.specs.Run.{Subrs, calls, calls3, with_indices, with_executed, exec}
 use Rattle.t1_font.specs.FontValue.{name_cmp, FontValue}

@@ -1,8 +1,8 @@
 use Rattle.std.proofs.Common.{rules, refl, sym, ap, List, [], ◌∷◌, ◌++◌}
 use Rattle.t1_run.specs.{declared.frames.Frame.{Frame}, declared.answer.Mark.{Mark}, Pens.{Draws}, Machine.{left_of}, Frames.{frame_left}}
 use Rattle.t1_run.proofs.Pages.{draws_more}
-use Rattle.t1_run.proofs.Between.{at_start, leaves_fewer, out, out_one, out_spends, refused, goes, ends_so, ends_one, ends_spends, stops_short, back, last, last_one}
-use Rattle.t1_run.proofs.Between.{last_spends, fails_so, fails_one, fails_spends, calls, spent_as, spent_none}
+use Rattle.t1_run.proofs.Between.{at_start, leaves_fewer, out, out_one, out_spends, refused, goes, ends_so, ends_one, ends_spends, stops_short, back, last, last_one, last_spends, fails_so}
+use Rattle.t1_run.proofs.Between.{fails_one, fails_spends, calls, spent_as, spent_none}
 use Rattle.t1_run.specs.declared.run.Halt.TheVariants as halt
 use Rattle.t1_run.specs.declared.answer.Mark.TheVariants as mark
 use Rattle.t1_run.specs.declared.machine.Flow.TheVariants as flow
@@ -21,12 +21,14 @@ returns-in_err-flow-clause-refused g c =
 
 pub returns-in_default-clause-runs : goal.returns-in_default-clause-runs
 returns-in_default-clause-runs g c =
-    out c.turns.invariant c.turns.callers.items c.turns.top refl (spent_none c.args.hints c.turns.machine c.spend.new.self (left_of c.turns.allowance) (left_of c.spend.new.allowance)
+    out c.turns.invariant c.turns.callers.items c.turns.top refl
+    (spent_none c.args.hints c.turns.machine c.spend.new.self (left_of c.turns.allowance) (left_of c.spend.new.allowance)
     (frame_left c.turns.top) (frame_left c.spend.new.top) _ c.in_ok-flow.ensures.next c.in_default.not-Some).0
 
 pub returns-in_default-clause-one : goal.returns-in_default-clause-one
 returns-in_default-clause-one g c =
-    out_one c.turns.invariant c.turns.callers.items c.turns.top refl (spent_none c.args.hints c.turns.machine c.spend.new.self (left_of c.turns.allowance) (left_of c.spend.new.allowance)
+    out_one c.turns.invariant c.turns.callers.items c.turns.top refl
+    (spent_none c.args.hints c.turns.machine c.spend.new.self (left_of c.turns.allowance) (left_of c.spend.new.allowance)
     (frame_left c.turns.top) (frame_left c.spend.new.top) _ c.in_ok-flow.ensures.next c.in_default.not-Some).0
 
 pub returns-in_default-clause-executed : goal.returns-in_default-clause-executed
@@ -38,7 +40,8 @@ returns-in_default-clause-executed g c =
 pub turns-preserved-in-Go : goal.turns-preserved-in-Go
 turns-preserved-in-Go g c =
     let e = spent_as _ c.in_ok-flow.ensures.next _ c.in-Some.is flow.Go c.in-Go.is in
-    goes c.turns.invariant c.turns.callers.items c.turns.top refl c.spend.new.top e.0 c.spend.new.self c.spend.new.allowance flow.Go e.1 e.2 c.in_ok-flow.ensures.withheld
+    goes c.turns.invariant c.turns.callers.items c.turns.top refl c.spend.new.top e.0 c.spend.new.self c.spend.new.allowance flow.Go e.1 e.2
+    c.in_ok-flow.ensures.withheld
     c.turns.is_one _ c.turns.invariant.marks _ refl c.turns.invariant.drawn (λ h. (h, refl)) refl
 
 pub turns-preserved-in-Continue-branch-3 : goal.turns-preserved-in-Continue-branch-3
@@ -82,14 +85,16 @@ pub turns-preserved-in-Split : goal.turns-preserved-in-Split
 turns-preserved-in-Split g c =
     let e = spent_as _ c.in_ok-flow.ensures.next _ c.in-Some.is flow.Split c.in-Split.is in
     let marks = c.turns.invariant.marks in
-    goes c.turns.invariant c.turns.callers.items c.turns.top refl c.spend.new.top e.0 c.spend.new.self c.spend.new.allowance flow.Split e.1 e.2 c.in_ok-flow.ensures.withheld
+    goes c.turns.invariant c.turns.callers.items c.turns.top refl c.spend.new.top e.0 c.spend.new.self c.spend.new.allowance flow.Split e.1 e.2
+    c.in_ok-flow.ensures.withheld
     _ _ (marks ++ mark.Replace ∷ []) _ refl
     (draws_more g.P.Pen.marked _ _ _ marks (mark.Replace ∷ []) c.turns.invariant.drawn c.in_ok-mark-in-Split.ensures) (λ h. search rules) refl
 
 pub turns-preserved-in-Some-pop : goal.turns-preserved-in-Some-pop
 turns-preserved-in-Some-pop g c =
     let e = spent_as _ c.in_ok-flow.ensures.next _ c.in-Some.is flow.Back c.in-Back.is in
-    back c.turns.invariant c.turns.callers.items c.turns.top refl c.spend.new.top e.0 c.spend.new.self c.spend.new.allowance e.1 c.in_ok-flow.ensures.withheld e.2
+    back c.turns.invariant c.turns.callers.items c.turns.top refl c.spend.new.top e.0 c.spend.new.self c.spend.new.allowance e.1
+    c.in_ok-flow.ensures.withheld e.2
     (c.pop.new.self.items ++ c.in-Some-pop.caller ∷ []) (sym c.in-Some-pop.ensures.items)
 
 pub returns-in-Plain-clause-runs : goal.returns-in-Plain-clause-runs
@@ -165,21 +170,24 @@ turns-smaller-in-Continue-branch-4 g c =
 pub returns-in-Err-clause-runs : goal.returns-in-Err-clause-runs
 returns-in-Err-clause-runs g c =
     let e = spent_as _ c.in_ok-flow.ensures.next _ c.in-Some.is (flow.Call c.in-Call.i) c.in-Call.is in
-    fails_so c.turns.invariant c.turns.callers.items c.turns.top refl c.spend.new.top e.0 c.spend.new.self c.spend.new.allowance e.1 c.in_ok-flow.ensures.withheld
+    fails_so c.turns.invariant c.turns.callers.items c.turns.top refl c.spend.new.top e.0 c.spend.new.self c.spend.new.allowance e.1
+    c.in_ok-flow.ensures.withheld
     c.in-Call.i e.2 c.index_of-index.result c.remaining_capacity.result (search rules) c.remaining_capacity.ensures
     c.take.new.called c.in-Err.fault c.in_ok-take-in-Call.ensures.added c.in-Err.ensures
 
 pub returns-in-Err-clause-one : goal.returns-in-Err-clause-one
 returns-in-Err-clause-one g c =
     let e = spent_as _ c.in_ok-flow.ensures.next _ c.in-Some.is (flow.Call c.in-Call.i) c.in-Call.is in
-    fails_one c.turns.invariant c.turns.callers.items c.turns.top refl c.spend.new.top e.0 c.spend.new.self c.spend.new.allowance e.1 c.in_ok-flow.ensures.withheld
+    fails_one c.turns.invariant c.turns.callers.items c.turns.top refl c.spend.new.top e.0 c.spend.new.self c.spend.new.allowance e.1
+    c.in_ok-flow.ensures.withheld
     c.in-Call.i e.2 c.index_of-index.result c.remaining_capacity.result (search rules) c.remaining_capacity.ensures
     c.in-Err.fault c.in-Err.ensures
 
 pub returns-in-Err-clause-executed : goal.returns-in-Err-clause-executed
 returns-in-Err-clause-executed g c =
     let e = spent_as _ c.in_ok-flow.ensures.next _ c.in-Some.is (flow.Call c.in-Call.i) c.in-Call.is in
-    fails_spends c.turns.invariant c.turns.callers.items c.turns.top refl c.spend.new.top e.0 c.spend.new.self c.spend.new.allowance e.1 c.in_ok-flow.ensures.withheld
+    fails_spends c.turns.invariant c.turns.callers.items c.turns.top refl c.spend.new.top e.0 c.spend.new.self c.spend.new.allowance e.1
+    c.in_ok-flow.ensures.withheld
     c.in-Call.i e.2 c.index_of-index.result c.remaining_capacity.result (search rules) c.remaining_capacity.ensures
     c.take.new.called c.in-Err.fault c.in_ok-take-in-Call.ensures.added c.in-Err.ensures
 
@@ -194,14 +202,17 @@ turns-preserved g c =
 pub returns-in-None-clause-runs : goal.returns-in-None-clause-runs
 returns-in-None-clause-runs g c =
     let e = spent_as _ c.in_ok-flow.ensures.next _ c.in-Some.is flow.Back c.in-Back.is in
-    last c.turns.invariant c.turns.callers.items c.turns.top refl c.spend.new.top e.0 c.spend.new.self c.spend.new.allowance e.1 c.in_ok-flow.ensures.withheld e.2 (search rules)
+    last c.turns.invariant c.turns.callers.items c.turns.top refl c.spend.new.top e.0 c.spend.new.self c.spend.new.allowance e.1
+    c.in_ok-flow.ensures.withheld e.2 (search rules)
 
 pub returns-in-None-clause-one : goal.returns-in-None-clause-one
 returns-in-None-clause-one g c =
     let e = spent_as _ c.in_ok-flow.ensures.next _ c.in-Some.is flow.Back c.in-Back.is in
-    last_one c.turns.invariant c.turns.callers.items c.turns.top refl c.spend.new.top e.0 c.spend.new.self c.spend.new.allowance e.1 c.in_ok-flow.ensures.withheld e.2 (search rules)
+    last_one c.turns.invariant c.turns.callers.items c.turns.top refl c.spend.new.top e.0 c.spend.new.self c.spend.new.allowance e.1
+    c.in_ok-flow.ensures.withheld e.2 (search rules)
 
 pub returns-in-None-clause-executed : goal.returns-in-None-clause-executed
 returns-in-None-clause-executed g c =
     let e = spent_as _ c.in_ok-flow.ensures.next _ c.in-Some.is flow.Back c.in-Back.is in
-    last_spends c.turns.invariant c.turns.callers.items c.turns.top refl c.spend.new.top e.0 c.spend.new.self c.spend.new.allowance e.1 c.in_ok-flow.ensures.withheld e.2 (search rules)
+    last_spends c.turns.invariant c.turns.callers.items c.turns.top refl c.spend.new.top e.0 c.spend.new.self c.spend.new.allowance e.1
+    c.in_ok-flow.ensures.withheld e.2 (search rules)

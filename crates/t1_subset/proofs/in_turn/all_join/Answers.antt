@@ -17,8 +17,10 @@ returns-in-Some-get-clause-err c =
     let n = c.in-Some.count in
     let next = c.in-Some-get.next.now in
     let there = c.in-Some-get.ensures.lookup.3 in
-    let apart = if_some _ _ _ c.in-Some.is c.in_ok-joined.ensures.apart next (slice_get-get_or ss n next there.0 ∙ ap (λ (s : StatesValue). Some s) (sym (there.1 next))) in
-    refused_next c.args.callers.now c.requires.noted ss c.requires.states n c.in-Some.joined (match_some _ _ _ _ c.in-Some.is c.in_ok-joined.ensures.joined) next there.0 (there.1 next)
+    let apart = if_some _ _ _ c.in-Some.is c.in_ok-joined.ensures.apart next
+    (slice_get-get_or ss n next there.0 ∙ ap (λ (s : StatesValue). Some s) (sym (there.1 next))) in
+    refused_next c.args.callers.now c.requires.noted ss c.requires.states n c.in-Some.joined
+    (match_some _ _ _ _ c.in-Some.is c.in_ok-joined.ensures.joined) next there.0 (there.1 next)
     c.conflict_of.result (λ f g h k. c.conflict_of.ensures f g h k apart)
 
 pub returns-clause-ok : goal.returns-clause-ok

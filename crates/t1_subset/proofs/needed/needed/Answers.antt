@@ -2,8 +2,8 @@ use Rattle.std.proofs.Common.{◌≡◌, ℕ, ◌+◌, take, List, [], Bor, map,
 use Rattle.t1_font.specs.FontValue.{notdef}
 use Rattle.t1_algebra.specs.{Keep.{has, charstring, components}, Profile.{profile, set_of}}
 use Rattle.t1_subset.specs.{ClosureNames.{push_new, push_all}, NameSets.{lent, asked}}
-use Rattle.t1_subset.proofs.{closing.Closures.{ClosureSoFar, closure_start, closure_step, closure_again, place_below, all_front, got, WasRun, was_run, is_run, run_before}}
-use Rattle.t1_subset.proofs.{closing.NumberSets.{calls_to, calls_step, calls_again}}
+use Rattle.t1_subset.proofs.closing.Closures.{ClosureSoFar, closure_start, closure_step, closure_again, place_below, all_front, got, WasRun, was_run, is_run, run_before}
+use Rattle.t1_subset.proofs.closing.NumberSets.{calls_to, calls_step, calls_again}
 use Rattle.std.specs.FinSet as sets
 use Rattle.t1_subset.proofs.needed.needed.Goals as goal
 

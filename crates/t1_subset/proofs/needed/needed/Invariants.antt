@@ -1,5 +1,4 @@
-use Rattle.std.proofs.Common.{◌≡◌, ◌-◌, take}
-use Rattle.std.specs.Option.{option_map}
+use Rattle.std.{proofs.Common.{◌≡◌, ◌-◌, take}, specs.Option.{option_map}}
 use Rattle.t1_algebra.specs.Profile.{profile, set_of}
 use Rattle.t1_subset.{specs.NameSets.{asked}, proofs.{closing.Closures.{ClosureSoFar, WasRun}, closing.NumberSets.{calls_to}}}
 use Rattle.std.specs.FinMap as maps

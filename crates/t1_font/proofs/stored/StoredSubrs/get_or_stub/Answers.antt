@@ -5,7 +5,8 @@ use Rattle.t1_font.proofs.stored.StoredSubrs.get_or_stub.Goals as goal
 
 pub returns-in-Some : goal.returns-in-Some
 returns-in-Some c = ap (λ o. unwrap_or o stub) (
-    sym (value_at nat_cmp_total nat_cmp-IsAntisymmetric c.args.self.now c.likely_place.result (c.in-Some.there, c.in-Some.body.now) (sym c.in-Some.ensures.entry))
+    sym (value_at nat_cmp_total nat_cmp-IsAntisymmetric c.args.self.now c.likely_place.result (c.in-Some.there, c.in-Some.body.now)
+    (sym c.in-Some.ensures.entry))
     ∙ ap (get c.args.self.now) c.if-there-index.true)
 
 -- the index is behind the last one
