@@ -7,7 +7,7 @@ use Rattle.t1_subset.proofs.differences.add_components.Goals as goal
 pub sought-preserved : goal.sought-preserved
 sought-preserved c =
     let f = c.args.own.now.callers.font.now in let g = c.args.other.now.callers.font.now in
-    let e : Meaning × Meaning = (c.in-Some.component.now.now, c.in-Some.field-0-1.now.now) in
+    let e : Meaning × Meaning = (c.in-Some.field-0.now.0.now, c.in-Some.field-0.now.1.now) in
     let left : e ∷ c.next.new.self ≡ c.sought.component-iterator = search rules in
     adding_next (component_clashes profile f g) (lacks_component profile f g) _ _ _ _ e.0 (map (λ d. d.0) c.next.new.self)
     (map (λ d. d.0) c.sought.component-iterator) (ap (map (λ d. d.0)) (sym left)) c.sought.invariant c.in_ok-add_component.ensures
