@@ -116,9 +116,9 @@ def called_of(path, lines, at, crate):
     and its trait."""
     method = re.search(r"\bfn (\w+)", lines[at])[1]
     head = next((line for line in lines[at::-1] if re.match(r"impl\b|\}", line)), "") if lines[at].startswith(" ") else ""
-    found = re.match(r"impl(?:<[^>]*>)? (?:([\w:<>&', ]+?) for )?(?:\w+::)*(\w+)", head)
+    found = re.match(r"impl(?:<[^>]*>)? (?:([\w:<>&', ]+?) for )?(&'\w+ )?(?:\w+::)*(\w+)", head)
     if found:
-        return found[2] + re.sub(r"\w+::|\W", "", found[1] or "") + "::" + method
+        return ("Ref" if found[2] else "") + found[3] + re.sub(r"\w+::|\W", "", found[1] or "") + "::" + method
     module = path[len("src/"):-len(".rt")].split("/")[-1]
     return (crate if module == "lib" else module) + "::" + method
 
