@@ -1,28 +1,13 @@
 //! What the run of a glyph comes to: the Subrs that it executes, and the components that it names.
 
 ghost use Rattle.std.specs.Prelude.{◌≡◌, IfOk, OnOk, ◌∷◌, [], map};
-ghost use Rattle.std.specs.Option.{option_map};
 ghost use Rattle.std.specs.FinSet as sets;
 ghost use Rattle.t1_algebra.specs.Profile.{profile, set_of};
 ghost use Rattle.t1_algebra.specs.Keep.{components, charstring};
-ghost use Rattle.t1_subset.specs.Callers.{same_charstring};
 
-use crate::shared::same_bytes;
 use std::alloc::{AllocError, Global};
 use t1_font::Font;
 use t1_run::{Called, Glyphs, parts_and_executed};
-
-/// Whether a glyph has the same charstring as another, and so executes and names the same.
-pub(crate) fn is_again(last: Option<&[u8]>, charstring: Option<&[u8]>) -> bool
-    ensures { result
-        ≡ same_charstring (option_map (λ b. b.now) last.entry)
-        (option_map (λ b. b.now) charstring.entry) }
-{
-    match (last, charstring) {
-        (Some(last), Some(charstring)) => same_bytes(last, charstring),
-        _ => false,
-    }
-}
 
 /// The components that the runs of a glyph name. The Subrs that the runs execute are added to `calls`.
 #[tactic(auto, using(crate::proofs::closing::Runs::components_are, crate::proofs::closing::Runs::no_components, crate::proofs::closing::Runs::no_calls, crate::proofs::closing::NumberSets::union_none))]

@@ -7,7 +7,7 @@ ghost use Rattle.t1_algebra.specs.Keep.{keep, kept, IsOf};
 ghost use Rattle.t1_subset.specs.Calls.{number_set};
 ghost use Rattle.t1_subset.specs.NameSets.{asked};
 
-use crate::calls::{first_four, is_again, run_of};
+use crate::calls::{first_four, run_of};
 use crate::closure_names::{ClosureNames, add_components};
 use std::alloc::{AllocError, Global};
 use std::collections::BTreeSet;
@@ -24,7 +24,7 @@ pub struct Closure {
 
 /// The names that a set of the font's names keeps, in the order in which they are met, and the Subrs that are kept.
 ///
-/// Each glyph that is kept is run once, or not at all if it has the charstring of the one that was run last.
+/// Each glyph that is kept is run once.
 #[tactic(auto, using(crate::proofs::closing::Closures::closure_end, crate::proofs::closing::NumberSets::calls_end, crate::proofs::closing::Closures::past))]
 pub(crate) fn needed<'a>(
     alloc: Global,
@@ -41,17 +41,11 @@ pub(crate) fn needed<'a>(
     closure.add(b".notdef")?;
     closure.add_all(names)?;
     let mut calls = first_four(alloc)?;
-    let mut last = None;
     let mut place = 0;
     'closure: while let Some(name) = closure.get(place) {
-        place += 1;
-        let charstring = font.charstring(name);
-        if is_again(last, charstring) {
-            continue;
-        }
         let components = run_of(alloc, font, name, &mut calls)?;
         add_components(font, &mut closure, components.as_slice())?;
-        last = charstring;
+        place += 1;
     }
     let subrs = calls.to_set(alloc)?;
     Ok((closure, subrs))

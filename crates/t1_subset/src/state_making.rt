@@ -1,21 +1,34 @@
 //! The making of states: one run of each glyph.
 
 ghost use Rattle.std.specs.Prelude.{◌≡◌, IfOk};
+ghost use Rattle.std.specs.Option.{option_map};
 ghost use Rattle.t1_algebra.specs.Profile.{profile};
 ghost use Rattle.t1_algebra.specs.StateTables.{states_of};
 ghost use Rattle.t1_algebra.specs.Shared.{shared_of};
-ghost use Rattle.t1_subset.specs.Callers.{AreUsesOf, AreCallersOf, RunAlike};
+ghost use Rattle.t1_subset.specs.Callers.{AreUsesOf, AreCallersOf, RunAlike, same_charstring};
 
 use crate::callers::{Callers, Seekers, note_seekers};
-use crate::calls::{is_again, run_alone};
+use crate::calls::run_alone;
 use crate::name_states::NameTable;
-use crate::shared::Shared;
+use crate::shared::{Shared, same_bytes};
 use crate::state_value::States;
 use crate::tables::{code_table, subr_table, used};
 use crate::users::{Noted, nobody, note_users};
 use std::alloc::{AllocError, Global};
 use t1_font::Font;
 use t1_run::Called;
+
+/// Whether a glyph has the same charstring as the one before it, and so executes and names the same.
+fn is_again(last: Option<&[u8]>, charstring: Option<&[u8]>) -> bool
+    ensures { result
+        ≡ same_charstring (option_map (λ b. b.now) last.entry)
+        (option_map (λ b. b.now) charstring.entry) }
+{
+    match (last, charstring) {
+        (Some(last), Some(charstring)) => same_bytes(last, charstring),
+        _ => false,
+    }
+}
 
 /// What the glyphs of a font execute and seek: the smallest glyph that executes each Subr, and the smallest that names each
 /// component that the font lacks.

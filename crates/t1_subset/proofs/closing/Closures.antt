@@ -2,7 +2,7 @@
 use Rattle.std.proofs.{lemmas.Bool.{or_cases, or_left, or_right, not-false}, lemmas.Map.Keys.{IsDistinct-push}, lemmas.List.{take-append-le, map-append, append-nil, length-map}}
 use Rattle.std.proofs.{lemmas.Map.Made.{length-le_from_is_member}, lemmas.List.Folds.{list_any_more, list_any_at, list_any-append}, lemmas.Option.{slice_get_cases}}
 use Rattle.std.proofs.Common.{◌≡◌, ℕ, ◌+◌, ◌<◌, ◌≤◌, Bool, true, false, List, [], ◌∷◌, ◌++◌, refl, sym, ◌∙◌, ap, inl, inr, length, take, cond, arith, length-append, true≢false, get_or, ◌||◌, Some}
-use Rattle.std.proofs.Common.{None, slice_get, not, subst, take_all, filter, nat_cmp, append_assoc, Option, unwrap_or}
+use Rattle.std.proofs.Common.{None, slice_get, not, subst, take_all, filter, nat_cmp, append_assoc}
 use Rattle.std.specs.{List.{list_any, IsDistinct, find}, Cmp.{eq_by_cmp_equiv, nat_cmp_total}, Cmp.Lexicographic.{nat_list_cmp_total, pointwise, texts_ties}, Prelude.{nat_eq}, Borrow.{Bor}}
 use Rattle.std.specs.{BTreeSet.{BTreeSet, contains}, Global.{Vec}}
 use Rattle.t1_font.specs.{FontValue.{FontValue, notdef}, IsFont.{IsFont}, Cut.{set_of_names, restrict}}
@@ -10,7 +10,7 @@ use Rattle.t1_algebra.specs.{Interpreter.{same_bytes, Interpreter, Names, Number
 use Rattle.t1_algebra.specs.Profile.{profile}
 use Rattle.t1_algebra.proofs.{Sets.{cases, name_same, tied, itself, in_list, any_filter, from_in_list, same_members}, Searching.{none_at_all}, Kept.{keep_least, keep_from, keep_has, keep_closed}}
 use Rattle.t1_algebra.proofs.Drawings.{subset_alike}
-use Rattle.t1_subset.{specs.{ClosureNames.{push_new, push_all}, NameSets.{lent}, Calls.{number_set}, Callers.{same_charstring}}, proofs.state_tables.FontCallers.{again_same}}
+use Rattle.t1_subset.specs.{ClosureNames.{push_new, push_all}, NameSets.{lent}, Calls.{number_set}}
 use Rattle.indexmap.specs.IndexSet.{insert_key}
 use Rattle.std.specs.FinSet as sets
 use Rattle.std.specs.FinMap as maps
@@ -161,21 +161,6 @@ module _ {O : Type 0} (m : Interpreter O) (f : FontValue) (a : Names) where
         reached = omega (arith, all_length ps ns);
       }
 
-  -- a step to a name whose glyph names the components that that of a name before it does
-  pub closure_again : (ns : List (List ℕ)) (i : ℕ) (n before : List ℕ) → ClosureSoFar m f a ns i → i < length ns → get_or ns i n ≡ n →
-      list_any (same_bytes before) (take i ns) ≡ true → charstring f before ≡ charstring f n → ClosureSoFar m f a ns (i + 1)
-  closure_again ns i n before k h e there same = record k {
-    closed = λ q w p component.
-        elim (or_cases (list_any (same_bytes q) (take i ns)) (same_bytes q (get_or ns i n)) (sym (list_any_more (same_bytes q) ns i n h) ∙ w)) [
-          | inl x ↦ k.closed q x p component
-          | inr y ↦
-              let here : q ≡ n = tied nat_list_cmp_total name_same q n (ap (same_bytes q) (sym e) ∙ y) in
-              k.closed before there p (ap (λ (c : List ℕ). sets.contains (sets.from_list (filter (has f) (components m f.subrs c))) p)
-              (same ∙ ap (charstring f) (sym here)) ∙ component)
-        ];
-    reached = omega (arith, h);
-  }
-
   -- at the end of the list the names of the closure are what is kept
   pub closure_end : (ns : List (List ℕ)) (i : ℕ) → ClosureSoFar m f a ns i → length ns ≤ i → sets.from_list ns ≡ keep m f a
   closure_end ns i k h =
@@ -201,31 +186,6 @@ module _ {O : Type 0} (m : Interpreter O) (f : FontValue) (a : Names) where
   -- a name's place in a closure is below the number of glyphs
   pub place_below : (ns : List (List ℕ)) (i : ℕ) (n : List ℕ) → ClosureSoFar m f a ns i → Some n ≡ slice_get ns i → i < maps.len f.glyphs
   place_below ns i n k e = omega (arith, closure_few ns i k, (got ns i n e).0)
-
--- ---- the glyph that was run last
-
--- it is that of one of these names
-abbrev pub WasRun : FontValue → List (List ℕ) → Option (List ℕ) → Type 0
-WasRun f names None = Unit {0}
-WasRun f names (Some c) = (n : List ℕ) × (list_any (same_bytes n) names ≡ true) × (maps.get f.glyphs n ≡ Some c)
-
-module _ (f : FontValue) (ns : List (List ℕ)) (i : ℕ) (n : List ℕ) (h : i < length ns) (e : get_or ns i n ≡ n) where
-  -- so it is with more names
-  pub was_run : (o : Option (List ℕ)) → WasRun f (take i ns) o → WasRun f (take (i + 1) ns) o
-  was_run None w = tt
-  was_run (Some c) w = (w.0, list_any_more (same_bytes w.0) ns i n h ∙ or_left _ _ w.1, w.2)
-
-  -- the next one is run
-  pub is_run : (o : Option (List ℕ)) → o ≡ maps.get f.glyphs n → WasRun f (take (i + 1) ns) o
-  is_run None is = tt
-  is_run (Some c) is =
-      (n, list_any_more (same_bytes n) ns i n h ∙ or_right _ _ (ap (same_bytes n) e ∙ itself nat_list_cmp_total name_same n), sym is)
-
-  -- one with the same charstring was run
-  pub run_before : (o p : Option (List ℕ)) → WasRun f (take i ns) o → same_charstring o p ≡ true → p ≡ maps.get f.glyphs n →
-      (before : List ℕ) × (list_any (same_bytes before) (take i ns) ≡ true) × (charstring f before ≡ charstring f n)
-  run_before None p w s is = absurd cc
-  run_before (Some c) p w s is = (w.0, w.1, ap (λ (x : Option (List ℕ)). unwrap_or x []) (w.2 ∙ (again_same (Some c) p s ∙ is)))
 
 -- ---- cutting a font
 

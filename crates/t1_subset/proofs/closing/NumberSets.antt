@@ -1,10 +1,9 @@
 -- Indices as finite sets, and those of the Subrs that the glyphs of a closure execute, as the closure is walked.
-use Rattle.std.proofs.Common.{◌≡◌, ℕ, Bool, ◌||◌, true, false, List, [], ◌∷◌, ◌++◌, refl, sym, ◌∙◌, ap, ◌+◌, ◌<◌, ◌≤◌, length, take, take_all, get_or}
-use Rattle.std.proofs.lemmas.List.Folds.{list_any_more, list_any-append}
+use Rattle.std.proofs.{Common.{◌≡◌, ℕ, Bool, ◌||◌, List, [], ◌∷◌, ◌++◌, sym, ◌∙◌, ap, ◌+◌, ◌<◌, ◌≤◌, length, take, take_all, get_or}, lemmas.List.Folds.{list_any_more, list_any-append}}
 use Rattle.std.specs.{List.{list_any}, Ordering.{nat_cmp, eq_by_cmp}, Cmp.{nat_cmp_total, both_ways}, Cmp.Lexicographic.{nat_list_cmp_total}, BTreeSet.{insert_key}, FinSet.{nat_cmp-IsAntisymmetric}}
 use Rattle.t1_run.specs.Run.{Subrs, calls, calls3, with_indices, with_executed, exec}
 use Rattle.t1_font.specs.FontValue.{name_cmp, FontValue}
-use Rattle.t1_algebra.specs.{Interpreter.{same_bytes, Numbers, Names}, Keep.{called_by}, Profile.{profile, set_of}}
+use Rattle.t1_algebra.specs.{Interpreter.{Numbers, Names}, Keep.{called_by}, Profile.{profile, set_of}}
 use Rattle.t1_algebra.proofs.Sets.{cases, name_same, any_at, any_one, any_flat_map, in_list, from_in_list, in_items, from_in_items}
 use Rattle.t1_subset.proofs.{closing.NameSets.{any_insert}, closing.Runs.{calls_by, calls_of}}
 use Rattle.std.specs.FinSet as sets
@@ -78,22 +77,6 @@ module _ (f : FontValue) where
         list_any_more (runs q) ns i n h,
         in_calls (take (i + 1) ns) q,
       ))
-
-  absorbed : (a b : Bool) → (b ≡ true → a ≡ true) → a ≡ (a || b)
-  absorbed true b h = refl
-  absorbed false true h = h refl
-  absorbed false false h = refl
-
-  -- a name whose glyph executes what that of a name before it does adds none
-  pub calls_again : (ns : List (List ℕ)) (i : ℕ) (n before : List ℕ) (s : Numbers) → i < length ns → get_or ns i n ≡ n →
-      list_any (same_bytes before) (take i ns) ≡ true → calls_by f before ≡ calls_by f n → s ≡ calls_to f (take i ns) → s ≡ calls_to f (take (i + 1) ns)
-  calls_again ns i n before s h e there same is = is ∙ sets.same_set nat_cmp_total nat_cmp-IsAntisymmetric _ _ (λ q.
-      let low_one : Bool = list_any (eq_by_cmp nat_cmp q) low in
-      in_calls (take i ns) q
-      ∙ (ap (λ b. low_one || b) (absorbed (list_any (runs q) (take i ns)) (runs q n) (λ r. any_at nat_list_cmp_total name_same (runs q) before (take i ns) there
-      (ap (λ (t : Numbers). list_any (eq_by_cmp nat_cmp q) (sets.items t)) same ∙ r))
-      ∙ (ap (λ (m : List ℕ). list_any (runs q) (take i ns) || runs q m) (sym e) ∙ sym (list_any_more (runs q) ns i n h)))
-      ∙ sym (in_calls (take (i + 1) ns) q)))
 
   -- at the end of the list these are the Subrs that the set of all names executes
   pub calls_end : (ns : List (List ℕ)) (i : ℕ) (s : Numbers) (k : Names) → length ns ≤ i → s ≡ calls_to f (take i ns) → sets.from_list ns ≡ k →

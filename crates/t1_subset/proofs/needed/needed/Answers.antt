@@ -2,8 +2,7 @@ use Rattle.std.proofs.Common.{◌≡◌, ℕ, ◌+◌, take, List, [], Bor, map,
 use Rattle.t1_font.specs.FontValue.{notdef}
 use Rattle.t1_algebra.specs.{Keep.{has, charstring, components}, Profile.{profile, set_of}}
 use Rattle.t1_subset.specs.{ClosureNames.{push_new, push_all}, NameSets.{lent, asked}}
-use Rattle.t1_subset.proofs.closing.Closures.{ClosureSoFar, closure_start, closure_step, closure_again, place_below, all_front, got, WasRun, was_run, is_run, run_before}
-use Rattle.t1_subset.proofs.closing.NumberSets.{calls_to, calls_step, calls_again}
+use Rattle.t1_subset.proofs.{closing.Closures.{ClosureSoFar, closure_start, closure_step, place_below, all_front, got}, closing.NumberSets.{calls_to, calls_step}}
 use Rattle.std.specs.FinSet as sets
 use Rattle.t1_subset.proofs.needed.needed.Goals as goal
 
@@ -16,7 +15,6 @@ closure-init c =
       subst (λ (ns : List (List ℕ)). ClosureSoFar profile f (asked c.args.names.now) ns 0) (sym start)
           (closure_start profile f (lent c.args.names.now) c.proof_is_font.ensures.glyphs.notdef c.requires),
       ap (λ (ks : List ℕ). sets.from_list {R = nat_cmp} ks) c.in_ok-calls.ensures,
-      tt,
     )
 
 pub overflow_add-place : goal.overflow_add-place
@@ -30,20 +28,6 @@ pub closure-smaller : goal.closure-smaller
 closure-smaller c = let below = place_below profile c.args.font.now
     (asked c.args.names.now) c.closure.closure c.closure.place c.in-Some.name.now c.closure.invariant.0 c.in-Some.ensures in omega (arith, below)
 
-pub closure-preserved-then-is_again : goal.closure-preserved-then-is_again
-closure-preserved-then-is_again c =
-    let f = c.args.font.now in
-    let n = c.in-Some.name.now in
-    let ns = c.closure.closure in
-    let i = c.closure.place in
-    let inv = c.closure.invariant in
-    let at = got ns i n c.in-Some.ensures in
-    let was = run_before f ns i n at.0 at.1 _ _ inv.2 (sym c.is_again.ensures ∙ c.if-is_again.true) c.charstring-charstring.ensures in (
-      closure_again profile f (asked c.args.names.now) ns i n was.0 inv.0 at.0 at.1 was.1 was.2,
-      calls_again f ns i n was.0 (set_of c.closure.calls) at.0 at.1 was.1 (ap (profile.exec f.subrs) was.2) inv.1,
-      was_run f ns i n at.0 at.1 _ inv.2,
-    )
-
 pub closure-preserved : goal.closure-preserved
 closure-preserved c =
     let f = c.args.font.now in
@@ -54,12 +38,9 @@ closure-preserved c =
     let more : c.add_components.new.closure ≡ push_all ns found =
     c.in_ok-add_components.ensures ∙ ap (λ (ps : List (List ℕ)). push_all ns (filter (has f) ps))
     (ap (map (λ (s : Bor (List ℕ)). s.now)) c.as_slice.ensures.value ∙ c.in_ok-components.ensures.components) in
-    let l = at.0 in
-    let front : take (c.closure.place + 1) c.add_components.new.closure ≡ take (c.closure.place + 1) ns =
-    ap (take (c.closure.place + 1)) more ∙ all_front (c.closure.place + 1) found ns (omega (arith, l)) in (
+    let l = at.0 in (
       subst (λ (ns : List (List ℕ)). ClosureSoFar profile f (asked c.args.names.now) ns (c.closure.place + 1))
           (sym more) (closure_step profile f (asked c.args.names.now) ns c.closure.place n c.closure.invariant.0 at.0 at.1),
       calls_step f ns c.closure.place n (set_of c.closure.calls) (set_of c.run_of.new.calls) at.0 at.1 c.closure.invariant.1 c.in_ok-components.ensures.calls
-          ∙ ap (calls_to f) (sym front),
-      subst (λ (ls : List (List ℕ)). WasRun f ls _) (sym front) (is_run f ns c.closure.place n at.0 at.1 _ c.charstring-charstring.ensures),
+          ∙ ap (calls_to f) (sym (ap (take (c.closure.place + 1)) more ∙ all_front (c.closure.place + 1) found ns (omega (arith, l)))),
     )

@@ -1,13 +1,11 @@
-use Rattle.std.{proofs.Common.{◌≡◌, ◌-◌, take}, specs.Option.{option_map}}
+use Rattle.std.proofs.Common.{◌≡◌, ◌-◌, take}
 use Rattle.t1_algebra.specs.Profile.{profile, set_of}
-use Rattle.t1_subset.{specs.NameSets.{asked}, proofs.{closing.Closures.{ClosureSoFar, WasRun}, closing.NumberSets.{calls_to}}}
+use Rattle.t1_subset.{specs.NameSets.{asked}, proofs.{closing.Closures.{ClosureSoFar}, closing.NumberSets.{calls_to}}}
 use Rattle.std.specs.FinMap as maps
 use Rattle.t1_subset.proofs.needed.needed.Given as goal
 
 abbrev pub invariant-closure : goal.invariant-closure
-invariant-closure l =
-    ClosureSoFar profile l.font (asked l.names) l.closure l.place × (set_of l.calls ≡ calls_to l.font (take l.place l.closure))
-    × WasRun l.font (take l.place l.closure) (option_map (λ c. c.now) l.last)
+invariant-closure l = ClosureSoFar profile l.font (asked l.names) l.closure l.place × (set_of l.calls ≡ calls_to l.font (take l.place l.closure))
 
 abbrev pub decreases-closure : goal.decreases-closure
 decreases-closure l = maps.len l.font.glyphs - l.place
