@@ -188,7 +188,8 @@ without_top frames rest f pushed =
 
 -- before the first turn the glyph's frame stands alone
 pub begins : (subrs : Subrs) (hints : Hints) (c : List ℕ) (s : State) (old : List ℕ) (frames : List Frame) (f : Frame) → frames ≡ [] ++ f ∷ [] →
-    frame_left f ≡ tokens c → s.marks ≡ [] → s.allowed ≡ token_limit → IsWithinLimits s → Turns (run subrs hints level_limit (tokens c) s) old subrs hints frames s old
+    frame_left f ≡ tokens c → s.marks ≡ [] → s.allowed ≡ token_limit → IsWithinLimits s →
+    Turns (run subrs hints level_limit (tokens c) s) old subrs hints frames s old
 begins subrs hints c s old frames f first all none fresh within =
     let goes : run subrs hints level_limit (tokens c) s ≡ run_frames subrs hints level_limit (lists_of frames) s =
     sym (ap (λ (lists : List (List Token)). run_frames subrs hints level_limit lists s) (lists_push frames [] f first ∙ ap (λ (ts : List Token). ts ∷ []) all)
@@ -334,6 +335,7 @@ module _ {whole : Outcome} {old : List ℕ} {subrs : Subrs} {hints : Hints} {res
         levels = levels;
         depth = omega (arith, room, length_push frames callers g entered);
         left = left_as (call_on subrs hints (suc levels) (lists_of callers) index s')
-            (run_frames subrs hints levels (lists_of frames) s') mid s'.marks s'.allowed goes (called s' i index callers (suc levels) mid e fewer is pushed room took);
+            (run_frames subrs hints levels (lists_of frames) s') mid s'.marks s'.allowed goes
+            (called s' i index callers (suc levels) mid e fewer is pushed room took);
         within = within;
       }

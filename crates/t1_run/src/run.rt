@@ -129,12 +129,8 @@ fn take_turns<'s, S: Subroutines, P: Pen>(
         };
         match flow {
             Flow::Go => {}
-            Flow::Mark(mark) => {
-                pen.mark(mark)?;
-            }
-            Flow::Flex(height, before, after) => {
-                draw_flex(pen, height, before, after)?;
-            }
+            Flow::Mark(mark) => pen.mark(mark)?,
+            Flow::Flex(height, before, after) => draw_flex(pen, height, before, after)?,
             Flow::Split => {
                 pen.mark(Mark::Replace)?;
                 is_one = false;

@@ -50,8 +50,8 @@ returns-in_default-clause-executed g c =
 pub turns-preserved-in-Go : goal.turns-preserved-in-Go
 turns-preserved-in-Go g c =
     let e = spent_as _ c.in-Some.ensures.next flow.Go c.in-Go.is in
-    goes c.turns.invariant c.turns.callers.items c.turns.top refl c.spend.new.top e.0 c.spend.new.self c.spend.new.allowance flow.Go e.1 e.2 c.in-Some.ensures.withheld
-    c.turns.is_one _ c.turns.invariant.marks _ refl c.turns.invariant.drawn (λ h. (h, refl)) refl
+    goes c.turns.invariant c.turns.callers.items c.turns.top refl c.spend.new.top e.0 c.spend.new.self c.spend.new.allowance
+    flow.Go e.1 e.2 c.in-Some.ensures.withheld c.turns.is_one _ c.turns.invariant.marks _ refl c.turns.invariant.drawn (λ h. (h, refl)) refl
 
 pub turns-preserved-in_ok-mark-in-Mark : goal.turns-preserved-in_ok-mark-in-Mark
 turns-preserved-in_ok-mark-in-Mark g c =
@@ -94,14 +94,15 @@ pub turns-preserved-in-Split : goal.turns-preserved-in-Split
 turns-preserved-in-Split g c =
     let e = spent_as _ c.in-Some.ensures.next flow.Split c.in-Split.is in
     let marks = c.turns.invariant.marks in
-    goes c.turns.invariant c.turns.callers.items c.turns.top refl c.spend.new.top e.0 c.spend.new.self c.spend.new.allowance flow.Split e.1 e.2 c.in-Some.ensures.withheld
-    _ _ (marks ++ mark.Replace ∷ []) _ refl
+    goes c.turns.invariant c.turns.callers.items c.turns.top refl c.spend.new.top e.0 c.spend.new.self c.spend.new.allowance
+    flow.Split e.1 e.2 c.in-Some.ensures.withheld _ _ (marks ++ mark.Replace ∷ []) _ refl
     (draws_more g.P.Pen.marked _ _ _ marks (mark.Replace ∷ []) c.turns.invariant.drawn c.in_ok-mark-in-Split.ensures) (λ h. search rules) refl
 
 pub turns-preserved-in-Some-pop : goal.turns-preserved-in-Some-pop
 turns-preserved-in-Some-pop g c =
     let e = spent_as _ c.in-Some.ensures.next flow.Back c.in-Back.is in
-    back c.turns.invariant c.turns.callers.items c.turns.top refl c.spend.new.top e.0 c.spend.new.self c.spend.new.allowance e.1 c.in-Some.ensures.withheld e.2
+    back c.turns.invariant c.turns.callers.items c.turns.top refl c.spend.new.top e.0 c.spend.new.self c.spend.new.allowance
+    e.1 c.in-Some.ensures.withheld e.2
     (c.pop.new.self.items ++ c.in-Some-pop.caller ∷ []) (sym c.in-Some-pop.ensures.items)
 
 pub returns-in-Plain-clause-runs : goal.returns-in-Plain-clause-runs
@@ -177,28 +178,32 @@ turns-smaller-in_ok-draw_flex-in-Flex g c =
 pub returns-in-Err-clause-runs : goal.returns-in-Err-clause-runs
 returns-in-Err-clause-runs g c =
     let e = spent_as _ c.in-Some.ensures.next (flow.Call c.in-Call.i) c.in-Call.is in
-    fails_so c.turns.invariant c.turns.callers.items c.turns.top refl c.spend.new.top e.0 c.spend.new.self c.spend.new.allowance e.1 c.in-Some.ensures.withheld
+    fails_so c.turns.invariant c.turns.callers.items c.turns.top refl c.spend.new.top e.0 c.spend.new.self c.spend.new.allowance
+    e.1 c.in-Some.ensures.withheld
     c.in-Call.i e.2 c.index_of-index.result c.remaining_capacity.result (search rules) c.remaining_capacity.ensures
     c.take.new.called c.in-Err.fault c.in_ok-take-in-Call.ensures.added c.in-Err.ensures
 
 pub returns-in-Err-clause-one : goal.returns-in-Err-clause-one
 returns-in-Err-clause-one g c =
     let e = spent_as _ c.in-Some.ensures.next (flow.Call c.in-Call.i) c.in-Call.is in
-    fails_one c.turns.invariant c.turns.callers.items c.turns.top refl c.spend.new.top e.0 c.spend.new.self c.spend.new.allowance e.1 c.in-Some.ensures.withheld
+    fails_one c.turns.invariant c.turns.callers.items c.turns.top refl c.spend.new.top e.0 c.spend.new.self c.spend.new.allowance
+    e.1 c.in-Some.ensures.withheld
     c.in-Call.i e.2 c.index_of-index.result c.remaining_capacity.result (search rules) c.remaining_capacity.ensures
     c.in-Err.fault c.in-Err.ensures
 
 pub returns-in-Err-clause-executed : goal.returns-in-Err-clause-executed
 returns-in-Err-clause-executed g c =
     let e = spent_as _ c.in-Some.ensures.next (flow.Call c.in-Call.i) c.in-Call.is in
-    fails_spends c.turns.invariant c.turns.callers.items c.turns.top refl c.spend.new.top e.0 c.spend.new.self c.spend.new.allowance e.1 c.in-Some.ensures.withheld
+    fails_spends c.turns.invariant c.turns.callers.items c.turns.top refl c.spend.new.top e.0 c.spend.new.self c.spend.new.allowance
+    e.1 c.in-Some.ensures.withheld
     c.in-Call.i e.2 c.index_of-index.result c.remaining_capacity.result (search rules) c.remaining_capacity.ensures
     c.take.new.called c.in-Err.fault c.in_ok-take-in-Call.ensures.added c.in-Err.ensures
 
 pub turns-preserved : goal.turns-preserved
 turns-preserved g c =
     let e = spent_as _ c.in-Some.ensures.next (flow.Call c.in-Call.i) c.in-Call.is in
-    calls c.turns.invariant c.turns.callers.items c.turns.top refl c.spend.new.top e.0 c.spend.new.self c.spend.new.allowance e.1 c.in-Some.ensures.withheld
+    calls c.turns.invariant c.turns.callers.items c.turns.top refl c.spend.new.top e.0 c.spend.new.self c.spend.new.allowance
+    e.1 c.in-Some.ensures.withheld
     c.in-Call.i e.2 c.index_of-index.result c.remaining_capacity.result (search rules) c.remaining_capacity.ensures
     c.take.new.called c.in-Ok.charstring.now c.new-top-in-Ok.result c.push.new.self.items (c.push.new.self.items ++ c.new-top-in-Ok.result ∷ [])
     c.in_ok-take-in-Call.ensures.added c.in-Ok.ensures c.new-top-in-Ok.ensures c.push.ensures.items refl
@@ -206,14 +211,17 @@ turns-preserved g c =
 pub returns-in-None-clause-runs : goal.returns-in-None-clause-runs
 returns-in-None-clause-runs g c =
     let e = spent_as _ c.in-Some.ensures.next flow.Back c.in-Back.is in
-    last c.turns.invariant c.turns.callers.items c.turns.top refl c.spend.new.top e.0 c.spend.new.self c.spend.new.allowance e.1 c.in-Some.ensures.withheld e.2 (search rules)
+    last c.turns.invariant c.turns.callers.items c.turns.top refl c.spend.new.top e.0 c.spend.new.self c.spend.new.allowance
+    e.1 c.in-Some.ensures.withheld e.2 (search rules)
 
 pub returns-in-None-clause-one : goal.returns-in-None-clause-one
 returns-in-None-clause-one g c =
     let e = spent_as _ c.in-Some.ensures.next flow.Back c.in-Back.is in
-    last_one c.turns.invariant c.turns.callers.items c.turns.top refl c.spend.new.top e.0 c.spend.new.self c.spend.new.allowance e.1 c.in-Some.ensures.withheld e.2 (search rules)
+    last_one c.turns.invariant c.turns.callers.items c.turns.top refl c.spend.new.top e.0 c.spend.new.self c.spend.new.allowance
+    e.1 c.in-Some.ensures.withheld e.2 (search rules)
 
 pub returns-in-None-clause-executed : goal.returns-in-None-clause-executed
 returns-in-None-clause-executed g c =
     let e = spent_as _ c.in-Some.ensures.next flow.Back c.in-Back.is in
-    last_spends c.turns.invariant c.turns.callers.items c.turns.top refl c.spend.new.top e.0 c.spend.new.self c.spend.new.allowance e.1 c.in-Some.ensures.withheld e.2 (search rules)
+    last_spends c.turns.invariant c.turns.callers.items c.turns.top refl c.spend.new.top e.0 c.spend.new.self c.spend.new.allowance
+    e.1 c.in-Some.ensures.withheld e.2 (search rules)

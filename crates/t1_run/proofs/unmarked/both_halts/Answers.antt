@@ -1,5 +1,6 @@
 use Rattle.std.proofs.Common.{rules, sym, ap, ◌∙◌, ℕ, List}
-use Rattle.t1_run.{specs.{declared.answer.Hints.TheVariants.{Replaced}, Run.{Outcome, with_indices, calls_of, calls, calls3}}, proofs.{Indices.{with_again, first_of_more, first_after}, Taken.{one_takes, both_take}}}
+use Rattle.t1_run.specs.{declared.answer.Hints.TheVariants.{Replaced}, Run.{Outcome, with_indices, calls_of, calls, calls3}}
+use Rattle.t1_run.proofs.{Indices.{with_again, first_of_more, first_after}, Taken.{one_takes, both_take}}
 use Rattle.t1_run.proofs.unmarked.both_halts.Goals as goal
 
 -- both runs are one, and its indices are all
