@@ -191,13 +191,15 @@ def spread(names, enums):
 
 def answers_of(crate, call, answer, enums):
     """What a call can answer."""
-    found = re.match(r"Result<(.*), (\w+)>$", answer)
+    budgeted = re.match(r"Result<(.*), BudgetFault<(\w+)>>$", answer)
+    found = budgeted or re.match(r"Result<(.*), (\w+)>$", answer)
     value, fault = found.groups() if found else (answer, "AllocError")
     if value.startswith("Option<"):
         names = ["Some", "None"]
     else:
         names = ANSWERS.get(value, ["Ok"])
     names = names + REFUSALS.get(call, ANSWERS.get(fault, [fault] if fault in enums else []))
+    names += ["TooManyTokens"] if budgeted else []
     return spread(names, enums) - NEVER.get((crate, call), set())
 
 

@@ -1,11 +1,11 @@
 -- Turns of a machine: what it does with a token, whatever marks were made before, is a turn of the run after the marks that were.
-use Rattle.std.proofs.Common.{◌≡◌, refl, sym, ap, subst, ◌∙◌, ℕ, zero, suc, ◌+◌, ◌-◌, ◌<◌, ◌≤◌, Bool, true, List, [], ◌∷◌, ◌++◌, length, ℤ, Option, None, Some, arith}
+use Rattle.std.proofs.Common.{◌≡◌, refl, sym, ap, subst, ◌∙◌, ℕ, zero, suc, ◌+◌, ◌-◌, ◌<◌, ◌≤◌, ◌==◌, cond, Bool, true, List, [], ◌∷◌, ◌++◌, length, ℤ, Option, Some, arith}
 use Rattle.t1_char.specs.{declared.token.Token.{Token}, Tokens.{tokens}}
 use Rattle.t1_run.specs.{declared.frames.Frame.{Frame}, declared.machine.Machine.{Machine}, declared.machine.Flow.{Flow}, declared.run.Halt.{Halt}, declared.answer.Mark.{Mark}}
 use Rattle.t1_run.specs.{declared.answer.Fault.{Fault}, declared.answer.Fault.TheVariants.{Unended, TooLong}, declared.answer.Hints.{Hints}, declared.answer.Hints.TheVariants.{Kept}}
-use Rattle.t1_run.specs.{State.{State, Ending, Back, Failed, start, token_limit}, Rules.{Step, Goes, Ends}, declared.budget.Allowance.{Allowance}, Budgets.{tokens_by}}
-use Rattle.t1_run.specs.Run.{Subrs, Outcome, ends, index_taken, index_of, charstring_at, then_run, level_limit, call, with_indices, run_glyph, at_top, marks_after}
-use Rattle.t1_run.specs.{Machine.{state_of, step_of, is_one, left_of, Spent, SpendsNext, Withheld, ending_of, Runs}, Frames.{frame_left}, Limits.{EndsWithinLimits, Keeps}}
+use Rattle.t1_run.specs.{State.{State, Ending, Back, Failed, start, token_limit}, Rules.{Step, Goes, Ends, fails}, declared.budget.Allowance.{Allowance}, Budgets.{tokens_by}}
+use Rattle.t1_run.specs.Run.{Subrs, Outcome, ends, index_taken, index_of, charstring_at, then_run, level_limit, call, with_indices, run_glyph, at_top, marks_after, spend, step}
+use Rattle.t1_run.specs.{Machine.{state_of, step_of, is_one, left_of, Spent, SpendsNext, EndsAtLimit, Withheld, ending_of, Runs}, Frames.{frame_left}, Limits.{EndsWithinLimits, Keeps}}
 use Rattle.t1_run.proofs.{Limits.{start_within}, Turns.{Turns, Turn, Ended, begins, turn, runs_out, length_push, on_more, on_goes, on_back, on_last, on_end, on_fault, on_call}}
 use Rattle.t1_run.proofs.Mirrors.{Mirror, MirrorTurn, mirror_begins, mirror_turn, mirror_out, mirror_goes, mirror_back, mirror_last, mirror_end, mirror_fault, mirror_call}
 use Rattle.t1_run.specs.declared.machine.Flow.TheVariants as flow
@@ -33,16 +33,15 @@ fewer on zero after going spent e = absurd (subst IsGoing (spent refl) going)
 fewer on (suc n) after going spent e = omega (arith, e)
 
 -- what is known of the flow by which the machine goes on
-pub spent_as : {P : Type 0} {hints : Hints} {m m' : Machine P} {left left' : ℕ} {old new : List Token} (o : Option Flow) →
-    SpendsNext hints m m' left left' old new o → (on : Flow) → o ≡ Some on → (on' : Flow) → on ≡ on' → SpendsNext hints m m' left left' old new (Some on')
-spent_as {hints = hints} {m = m} {m' = m'} {left = left} {left' = left'} {old = old} {new = new} o spent on some on' is =
-    subst (λ (o : Option Flow). SpendsNext hints m m' left left' old new o) (some ∙ ap (λ (f : Flow). Some f) is) spent
+pub spent_as : {P : Type 0} {hints : Hints} {m m' : Machine P} {left left' : ℕ} {old new : List Token} (on : Flow) →
+    SpendsNext hints m m' left left' old new (Some on) → (on' : Flow) → on ≡ on' → SpendsNext hints m m' left left' old new (Some on')
+spent_as {hints = hints} {m = m} {m' = m'} {left = left} {left' = left'} on spent on' is =
+    (spent.0, spent.1, subst (λ f. Spent hints spent.0 m m' left left' f) is spent.2)
 
--- there was no token
-pub spent_none : {P : Type 0} (hints : Hints) (m m' : Machine P) (left left' : ℕ) (old new : List Token) (o : Option Flow) →
-    SpendsNext hints m m' left left' old new o → ((on : Flow) → o ≡ Some on → ⊥) → (old ≡ []) × (left' ≡ left)
-spent_none hints m m' left left' old new None spent none = spent
-spent_none hints m m' left left' old new (Some on) spent none = absurd (none on refl)
+-- a token that is not allowed is too long
+too_long : (hints : Hints) (t : Token) (s : State) → s.allowed ≡ 0 → fails TooLong ≡ spend hints t s
+too_long hints t s none =
+    sym (ap (λ b. cond b (fails TooLong) (step hints t (record s { allowed = s.allowed - 1 }))) (ap (λ n. n == 0) none))
 
 -- a turn that goes on leaves fewer tokens
 pub leaves_fewer : {P : Type 0} {hints : Hints} {t : Token} {m m' : Machine P} {left left' : ℕ} (on : Flow) → IsGoing on → Spent hints t m m' left left' on →
@@ -129,11 +128,13 @@ module _ {P : Type 0} {subrs : Subrs} {hints : Hints} {c old : List ℕ} {one : 
   pub out_one : frame_left top ≡ [] → one ≡ true → run_glyph subrs Kept c ≡ run_glyph subrs hints c
   out_one none = mirror_out inv.mirror rest top are none
 
-  -- the budget withholds the next token, which the run would execute
-  pub refused : (top' : Frame) → Withheld a (frame_left top) (frame_left top') → (0 < first.withheld) × (first.allowed < tokens_by hints subrs c)
-  refused top' w =
-      let more : token_limit ≤ tokens_by hints subrs c + (left_of a - 1) = on_more (turn inv.turns rest top are top' w.next w.are) (left_of a - 1) refl in
-      (omega (arith, w.some, inv.withheld), omega (arith, more, w.some, w.none, inv.withheld, inv.all))
+  -- no more tokens are allowed
+  module _ (none : a.allowed ≡ 0) (top' : Frame) where
+    -- the budget withholds the next token, which the run would execute
+    pub refused : Withheld a (frame_left top) (frame_left top') → (0 < first.withheld) × (first.allowed < tokens_by hints subrs c)
+    refused w =
+        let more : token_limit ≤ tokens_by hints subrs c + (left_of a - 1) = on_more (turn inv.turns rest top are top' w.next w.are) (left_of a - 1) refl in
+        (omega (arith, w.some, inv.withheld), omega (arith, more, w.some, none, inv.withheld, inv.all))
 
   -- the frame on top gives its next token, which the machine spends
   module _ (top' : Frame) (t : Token) (m' : Machine P) (a' : Allowance) (on : Flow) (next : frame_left top ≡ t ∷ frame_left top')
@@ -189,6 +190,36 @@ module _ {P : Type 0} {subrs : Subrs} {hints : Hints} {c old : List ℕ} {one : 
         let more : token_limit ≤ tokens_by hints subrs c + left_of a' = on_more in_turn (left_of a') spent.fewer in
         let before : length inv.turns.left.visits + left_of a ≡ token_limit = inv.turns.left.spent in
         (omega (arith, before, spent.fewer, same, inv.withheld, inv.all), omega (arith, more, same, inv.withheld, inv.all))
+
+  -- no more tokens are allowed, and none is withheld
+  module _ (none : a.allowed ≡ 0) (top' : Frame) where
+    limit_spent : a.withheld ≡ 0 → (t : Token) → Spent hints t m m (left_of a) (left_of a) (flow.Fail TooLong)
+    limit_spent nothing t =
+        let left : left_of a ≡ 0 = omega (arith, none, nothing) in
+        record {
+          step = λ marks. too_long hints t (state_of m (left_of a) marks) left;
+          one = λ alike marks. too_long Kept t (state_of m (left_of a) marks) left;
+          within = λ marks w. tt;
+          spent = λ e. refl;
+          fewer = omega (arith, left);
+        }
+
+    -- it ends so
+    pub limit_so : (h : Halt) → EndsAtLimit a (frame_left top) (frame_left top') h → Ran h now
+    limit_so (halt.Failed Unended) e = out e
+    limit_so (halt.Failed TooLong) e = ends_so top' e.0 m a (flow.Fail TooLong) e.1 (limit_spent e.2 e.0) refl (halt.Failed TooLong) refl
+    limit_so h e = absurd e
+
+    pub limit_spends : (h : Halt) → EndsAtLimit a (frame_left top) (frame_left top') h → Spends a
+    limit_spends (halt.Failed Unended) e = out_spends e a refl refl
+    limit_spends (halt.Failed TooLong) e = ends_spends top' e.0 m a (flow.Fail TooLong) e.1 (limit_spent e.2 e.0) refl (halt.Failed TooLong) refl
+    limit_spends h e = absurd e
+
+    -- and so it does where hints are kept
+    pub limit_one : (h : Halt) → EndsAtLimit a (frame_left top) (frame_left top') h → one ≡ true → run_glyph subrs Kept c ≡ run_glyph subrs hints c
+    limit_one (halt.Failed Unended) e = out_one e
+    limit_one (halt.Failed TooLong) e = ends_one top' e.0 m a (flow.Fail TooLong) e.1 (limit_spent e.2 e.0) refl (halt.Failed TooLong) refl refl
+    limit_one h e = absurd e
 
   module _ (top' : Frame) (t : Token) (m' : Machine P) (a' : Allowance) (next : frame_left top ≡ t ∷ frame_left top') (same : a'.withheld ≡ a.withheld) where
     abbrev state_now : State

@@ -1,15 +1,15 @@
 //! Budgets of tokens: how many more runs may execute.
 
-ghost use Rattle.std.specs.Prelude.{◌≡◌, ◌+◌, ◌-◌, ◌<◌, Some, IfOk, IfErr, OnErr};
+ghost use Rattle.std.specs.Prelude.{◌≡◌, Some, IfOk, IfErr, OnErr};
 ghost use Rattle.t1_run.specs.declared.budget.Stop.TheVariants.{TooManyTokens};
-ghost use Rattle.t1_run.specs.declared.machine.Flow.TheVariants.{Fail};
-ghost use Rattle.t1_run.specs.declared.answer.Fault.TheVariants.{TooLong};
 ghost use Rattle.t1_run.specs.Budgets.{allowed_by, less};
 ghost use Rattle.t1_run.specs.State.{token_limit};
-ghost use Rattle.t1_run.specs.Machine.{left_of};
+ghost use Rattle.t1_run.specs.Frames.{frame_left};
+ghost use Rattle.t1_run.specs.Machine.{left_of, EndsAtLimit, Withheld};
 
 use crate::answer::Fault;
-use crate::machine::Flow;
+use crate::frames::Frame;
+use crate::run::Halt;
 use std::alloc::AllocError;
 use std::fmt;
 
@@ -59,18 +59,22 @@ impl Allowance {
         }
     }
 
-    /// What becomes of a token that is not allowed: the run fails at its own limit, or it is the budget's that is reached.
+    /// How a charstring ends where no more tokens are allowed: no token is left, or it fails at its own limit; or the budget withholds
+    /// the next token.
     #[inline(never)]
-    pub(crate) fn refuse(self) -> Result<Option<Flow>, Stop>
-        ensures long { IfOk result (λ on. (on ≡ Some (Fail TooLong)) × (self.withheld ≡ 0)) }
-        ensures withheld { OnErr result (0 < self.withheld) }
+    pub(crate) fn end(self, top: &mut Frame<'_>) -> Result<Halt, Stop>
+        requires { self.allowed ≡ 0 }
+        ensures ends { IfOk result (EndsAtLimit self (frame_left top.old) (frame_left top.new)) }
+        ensures withheld { OnErr result (Withheld self (frame_left top.old) (frame_left top.new)) }
         ensures fault { IfErr result (λ e. e ≡ TooManyTokens) }
     {
-        if self.withheld == 0 {
-            Ok(Some(Flow::Fail(Fault::TooLong)))
-        } else {
-            Err(Stop::TooManyTokens)
+        if top.next().is_none() {
+            return Ok(Halt::Failed(Fault::Unended));
         }
+        if self.withheld > 0 {
+            return Err(Stop::TooManyTokens);
+        }
+        Ok(Halt::Failed(Fault::TooLong))
     }
 }
 

@@ -121,17 +121,16 @@ fn take_turns<'s, S: Subroutines, P: Pen>(
     let mut top = Frame::new(charstring);
     let mut is_one = true;
     'turns: loop {
-        let Some(flow) = machine.spend(hints, allowance, &mut top)? else {
+        if allowance.allowed == 0 {
+            return Ok((allowance.end(&mut top)?, is_one));
+        }
+        let Some(flow) = machine.spend(hints, allowance, &mut top) else {
             return Ok((Halt::Failed(Fault::Unended), is_one));
         };
         match flow {
             Flow::Go => {}
-            Flow::Mark(mark) => {
-                pen.mark(mark)?;
-            }
-            Flow::Flex(height, before, after) => {
-                draw_flex(pen, height, before, after)?;
-            }
+            Flow::Mark(mark) => pen.mark(mark)?,
+            Flow::Flex(height, before, after) => draw_flex(pen, height, before, after)?,
             Flow::Split => {
                 pen.mark(Mark::Replace)?;
                 is_one = false;

@@ -1,4 +1,6 @@
 mod closing
+mod Tokens
+mod Plain
 pub mod state_tables
 pub mod Telling
 pub mod Answered

@@ -8,5 +8,6 @@ pub mod Clashes
 pub mod Refusals
 pub mod Lacks
 pub mod Merger
+pub mod Budgets
 pub mod FaultTexts
 pub mod Rejoins

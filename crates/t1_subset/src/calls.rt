@@ -1,53 +1,66 @@
 //! What the run of a glyph comes to: the Subrs that it executes, and the components that it names.
 
-ghost use Rattle.std.specs.Prelude.{◌≡◌, IfOk, OnOk, ◌∷◌, [], map};
+ghost use Rattle.std.specs.Prelude.{◌≡◌, IfOk, IfErr, OnOk, ◌∷◌, [], map};
 ghost use Rattle.std.specs.FinSet as sets;
 ghost use Rattle.t1_algebra.specs.Profile.{profile, set_of};
 ghost use Rattle.t1_algebra.specs.Keep.{components, charstring};
+ghost use Rattle.t1_run.specs.Budgets.{Takes, HasFewer};
+ghost use Rattle.t1_run.specs.declared.budget.Stop.TheVariants.{TooManyTokens};
+ghost use Rattle.t1_subset.specs.Budgets.{longer_tokens, glyph_tokens};
 
 use std::alloc::{AllocError, Global};
 use t1_font::Font;
-use t1_run::{Called, Glyphs, parts_and_executed};
+use t1_run::{Budget, Called, Glyphs, Stop, parts_and_executed_within};
 
-/// The components that the runs of a glyph name. The Subrs that the runs execute are added to `calls`.
+/// The components that the runs of a glyph name, within a budget. The Subrs that the runs execute are added to `calls`.
 #[tactic(auto, using(crate::proofs::closing::Runs::components_are, crate::proofs::closing::Runs::no_components, crate::proofs::closing::Runs::no_calls, crate::proofs::closing::NumberSets::union_none))]
 pub(crate) fn run_of(
     alloc: Global,
     font: &Font<'_>,
     name: &[u8],
     calls: &mut Called,
-) -> Result<Vec<&'static str>, AllocError>
+    budget: &mut Budget,
+) -> Result<Vec<&'static str>, Stop>
     ensures components { IfOk result (λ names. map (λ s. s.now) names.items
         ≡ components profile font.now.subrs (charstring font.now name.now)) }
     ensures calls { OnOk result (set_of calls.new
         ≡ sets.union (set_of calls.old)
         (profile.exec font.now.subrs (charstring font.now name.now))) }
+    ensures takes { OnOk result (Takes (longer_tokens font.now name.now) (glyph_tokens font.now name.now)
+        budget.old.left budget.new.left) }
+    ensures refused { IfErr result (λ e. e ≡ TooManyTokens
+        → HasFewer budget.old.left (glyph_tokens font.now name.now)) }
 {
     font.proof_is_font();
     match font.glyph(name) {
         Some(charstring) => {
-            let names = parts_and_executed(alloc, font, charstring, calls)?;
+            let names = parts_and_executed_within(alloc, font, charstring, calls, budget)?;
             Ok(names)
         }
         None => Ok(Vec::new(alloc)),
     }
 }
 
-/// The components that the runs of a glyph name. Only the Subrs that these runs execute are in `calls` afterwards.
+/// The components that the runs of a glyph name, within a budget. Only the Subrs that these runs execute are in `calls` afterwards.
 #[tactic(auto, using(std::proofs::lemmas::Result::on_ok_weaker, crate::proofs::closing::NumberSets::none_union, crate::proofs::closing::Runs::calls_by))]
 pub(crate) fn run_alone(
     alloc: Global,
     font: &Font<'_>,
     name: &[u8],
     calls: &mut Called,
-) -> Result<Vec<&'static str>, AllocError>
+    budget: &mut Budget,
+) -> Result<Vec<&'static str>, Stop>
     ensures components { IfOk result (λ names. map (λ s. s.now) names.items
         ≡ components profile font.now.subrs (charstring font.now name.now)) }
     ensures calls { OnOk result (set_of calls.new
         ≡ profile.exec font.now.subrs (charstring font.now name.now)) }
+    ensures takes { OnOk result (Takes (longer_tokens font.now name.now) (glyph_tokens font.now name.now)
+        budget.old.left budget.new.left) }
+    ensures refused { IfErr result (λ e. e ≡ TooManyTokens
+        → HasFewer budget.old.left (glyph_tokens font.now name.now)) }
 {
     calls.clear();
-    run_of(alloc, font, name, calls)
+    run_of(alloc, font, name, calls, budget)
 }
 
 /// The indices 0 to 3, which stand in for the PostScript of flex and hint replacement and are always kept

@@ -10,13 +10,19 @@ ghost use Rattle.t1_algebra.specs.Keep.{has, keep, kept, IsOf};
 ghost use Rattle.t1_subset.specs.Calls.{number_set};
 ghost use Rattle.t1_subset.specs.NameSets.{listed_names, lent, asked, set_by};
 ghost use Rattle.t1_subset.specs.Refusals.{Absent};
+ghost use Rattle.t1_run.specs.Budgets.{HasFewer};
+ghost use Rattle.t1_run.specs.declared.budget.Stop.TheVariants as stop;
+ghost use Rattle.t1_subset.specs.declared.budgets.BudgetFault.TheVariants.{TooManyTokens};
+ghost use Rattle.t1_subset.specs.Budgets.{kept_longer, kept_tokens, IsEnough, OnPlain};
 
+use crate::budgets::BudgetFault;
 use crate::closure_names::has_glyph;
 use crate::fault::SubsetFault;
 use crate::name_sets::NameSet;
 use crate::needed::{Closure, needed};
 use std::alloc::{AllocError, Global};
 use t1_font::Font;
+use t1_run::{Budget, Stop};
 
 /// The first of these names that the font lacks.
 fn first_absent<'a>(font: &Font<'_>, names: &'a [&'a [u8]]) -> Option<&'a [u8]>
@@ -43,18 +49,56 @@ fn upwards(alloc: Global, names: &[&[u8]]) -> Result<Vec<Vec<u8>>, AllocError>
     copies.into_names(alloc)
 }
 
-/// What these names need of the font, which has them all.
-fn closure_of(alloc: Global, font: &Font<'_>, names: &[&[u8]]) -> Result<Closure, AllocError>
+/// What these names need of the font, which has them all, within a budget.
+fn closure_of(
+    alloc: Global,
+    font: &Font<'_>,
+    names: &[&[u8]],
+    budget: Budget,
+) -> Result<Closure, Stop>
     requires { IsOf font.now (asked names.now) }
     ensures names { IfOk result (λ c. set_by c.names.items
         ≡ keep profile font.now (asked names.now)) }
     ensures upwards { IfOk result (λ c. IsStrictlySortedBy name_cmp (listed_names c.names.items)) }
     ensures subrs { IfOk result (λ c. number_set c.subrs
         ≡ kept profile font.now (asked names.now)) }
+    ensures enough { OnOk result (IsEnough budget.left (kept_longer font.now (asked names.now))) }
+    ensures refused { IfErr result (λ e. e ≡ stop.TooManyTokens
+        → HasFewer budget.left (kept_tokens font.now (asked names.now))) }
 {
-    let (closure, subrs) = needed(alloc, font, names)?;
+    let mut budget = budget;
+    let (closure, subrs) = needed(alloc, font, names, &mut budget)?;
     let names = upwards(alloc, closure.as_slice())?;
     Ok(Closure { names, subrs })
+}
+
+/// What a set of names needs of a font, as [`closure`] says, within a budget.
+pub(crate) fn closure_within(
+    alloc: Global,
+    font: &Font<'_>,
+    names: &[&[u8]],
+    budget: Budget,
+) -> Result<Closure, BudgetFault<SubsetFault>>
+    ensures names { IfOk result (λ c. set_by c.names.items
+        ≡ keep profile font.now (asked names.now)) }
+    ensures upwards { IfOk result (λ c. IsStrictlySortedBy name_cmp (listed_names c.names.items)) }
+    ensures subrs { IfOk result (λ c. number_set c.subrs
+        ≡ kept profile font.now (asked names.now)) }
+    ensures present { OnOk result (find (λ n. not (has font.now n)) (lent names.now)
+        ≡ None) }
+    ensures absent { OnPlain result (λ r. IfErr r
+        (λ e. Absent e (find (λ n. not (has font.now n)) (lent names.now)))) }
+    ensures enough { OnOk result (IsEnough budget.left (kept_longer font.now (asked names.now))) }
+    ensures refused { IfErr result (λ e. e ≡ TooManyTokens
+        → HasFewer budget.left (kept_tokens font.now (asked names.now))) }
+{
+    if let Some(name) = first_absent(font, names) {
+        return match Vec::from_slice(alloc, name) {
+            Ok(name) => Err(BudgetFault::Plain(SubsetFault::NoSuchGlyph { name })),
+            Err(_) => Err(BudgetFault::Plain(SubsetFault::Memory)),
+        };
+    }
+    Ok(closure_of(alloc, font, names, budget)?)
 }
 
 /// What a set of names needs of a font: the glyphs of these names, `.notdef`, and the components of accented glyphs
@@ -76,14 +120,9 @@ pub fn closure(alloc: Global, font: &Font<'_>, names: &[&[u8]]) -> Result<Closur
         (λ e. Absent e
         (find (λ n. not (has font.now n)) (lent names.now))) }
 {
-    if let Some(name) = first_absent(font, names) {
-        return match Vec::from_slice(alloc, name) {
-            Ok(name) => Err(SubsetFault::NoSuchGlyph { name }),
-            Err(_) => Err(SubsetFault::Memory),
-        };
-    }
-    match closure_of(alloc, font, names) {
+    match closure_within(alloc, font, names, Budget { left: None }) {
         Ok(closure) => Ok(closure),
-        Err(_) => Err(SubsetFault::Memory),
+        Err(BudgetFault::Plain(fault)) => Err(fault),
+        Err(BudgetFault::TooManyTokens) => Err(SubsetFault::Memory),
     }
 }

@@ -27,6 +27,7 @@ use crate::users::user_in;
 use std::alloc::{AllocError, Global};
 use t1_font::Font;
 use t1_join::{Join, Table};
+use t1_run::Budget;
 
 /// A font's callers and states.
 #[derive(Drop)]
@@ -41,8 +42,15 @@ fn side_of<'t, 'a>(alloc: Global, font: &'t Font<'a>) -> Result<Side<'t, 'a>, Al
     ensures noted { IfOk result (λ side. IsNoted side.callers side.states) }
 {
     font.proof_is_font();
-    let (callers, states) = note_font(alloc, font, Shared::of(alloc, font)?)?;
-    Ok(Side { callers, states })
+    match note_font(
+        alloc,
+        font,
+        Shared::of(alloc, font)?,
+        &mut Budget { left: None },
+    ) {
+        Ok((callers, states)) => Ok(Side { callers, states }),
+        Err(_) => Err(AllocError),
+    }
 }
 
 /// One more conflict.

@@ -1,6 +1,6 @@
 //! Many fonts at once: whether the first two share what they have to, and what is noted of each.
 
-ghost use Rattle.std.specs.Prelude.{◌≡◌, ◌∷◌, [], IfOk, IfErr, None, map};
+ghost use Rattle.std.specs.Prelude.{◌≡◌, ◌++◌, ◌∷◌, [], IfOk, IfErr, OnOk, None, map};
 ghost use Rattle.std.specs.List.{AllByRecursion};
 ghost use Rattle.t1_font.specs.IsFont.{IsFont};
 ghost use Rattle.t1_algebra.specs.Profile.{profile};
@@ -11,6 +11,9 @@ ghost use Rattle.t1_algebra.specs.StateTables.{states_of};
 ghost use Rattle.t1_subset.specs.Callers.{AreNoted, fonts_of};
 ghost use Rattle.t1_subset.specs.Merger.{NotMerged, FirstShare};
 ghost use Rattle.t1_subset.specs.Refusals.{Tells};
+ghost use Rattle.t1_run.specs.Budgets.{Takes, HasFewer};
+ghost use Rattle.t1_run.specs.declared.budget.Stop.TheVariants.{TooManyTokens};
+ghost use Rattle.t1_subset.specs.Budgets.{fonts_tokens};
 
 use crate::callers::Callers;
 use crate::conflict::{Conflict, ShellPart};
@@ -20,6 +23,7 @@ use crate::state_making::note_font;
 use crate::state_value::States;
 use std::alloc::{AllocError, Global};
 use t1_font::Font;
+use t1_run::{Budget, Stop};
 
 /// The fonts, lent one by one.
 pub(crate) fn lent_fonts<'t, 'a>(
@@ -97,22 +101,41 @@ pub fn shells_conflict(alloc: Global, fonts: &[Font<'_>]) -> Option<ShellPart>
     }
 }
 
-/// The callers of each of the fonts, and its states.
+/// Adds the callers and the states of one more font.
+pub(crate) fn keep<'t, 'a>(
+    callers: &mut Vec<Callers<'t, 'a>>,
+    states: &mut Vec<States<'a>>,
+    own: Callers<'t, 'a>,
+    state: States<'a>,
+) -> Result<(), AllocError>
+    ensures callers { OnOk result (callers.new.items ≡ callers.old.items ++ own.entry ∷ []) }
+    ensures states { OnOk result (states.new.items ≡ states.old.items ++ state.entry ∷ []) }
+{
+    callers.push(own)?;
+    states.push(state)?;
+    Ok(())
+}
+
+/// The callers of each of the fonts, and its states, within a budget.
 pub(crate) fn note_fonts<'t, 'a>(
     alloc: Global,
     fonts: &[&'t Font<'a>],
-) -> Result<(Vec<Callers<'t, 'a>>, Vec<States<'a>>), AllocError>
+    budget: &mut Budget,
+) -> Result<(Vec<Callers<'t, 'a>>, Vec<States<'a>>), Stop>
     ensures fonts { IfOk result (λ n. fonts_of n.0.items ≡ map (λ f. f.now) fonts.now) }
     ensures noted { IfOk result (λ n. AreNoted n.0.items) }
     ensures states { IfOk result (λ n. n.1.items ≡ map (states_of profile) (fonts_of n.0.items)) }
+    ensures takes { OnOk result (Takes 0 (fonts_tokens (map (λ f. f.now) fonts.now))
+        budget.old.left budget.new.left) }
+    ensures refused { IfErr result (λ e. e ≡ TooManyTokens
+        → HasFewer budget.old.left (fonts_tokens (map (λ f. f.now) fonts.now))) }
 {
     let mut callers = Vec::with_capacity(alloc, fonts.len())?;
     let mut states = Vec::with_capacity(alloc, fonts.len())?;
     'fonts: for font in fonts {
         font.proof_is_font();
-        let (own, state) = note_font(alloc, font, Shared::of(alloc, font)?)?;
-        callers.push(own)?;
-        states.push(state)?;
+        let (own, state) = note_font(alloc, font, Shared::of(alloc, font)?, budget)?;
+        keep(&mut callers, &mut states, own, state)?;
     }
     Ok((callers, states))
 }

@@ -1,17 +1,20 @@
 //! Glyphs that execute a Subr that their font lacks and that another font of a list has.
 
-ghost use Rattle.std.specs.Prelude.{◌≡◌, ◌<◌, ℕ, IfOk};
+ghost use Rattle.std.specs.Prelude.{◌≡◌, ◌<◌, ℕ, IfOk, IfErr, OnOk};
 ghost use Rattle.std.specs.Option.{option_map};
 ghost use Rattle.t1_font.specs.FontValue.{declared_count};
 ghost use Rattle.t1_algebra.specs.Lacks.{user_of, is_had, lack_at, lack_in, first_lack};
 ghost use Rattle.t1_subset.specs.Lacks.{lack_view, have_same_subrs};
 ghost use Rattle.t1_subset.specs.Users.{noted_at};
+ghost use Rattle.t1_run.specs.Budgets.{Takes, HasFewer};
+ghost use Rattle.t1_run.specs.declared.budget.Stop.TheVariants.{TooManyTokens};
+ghost use Rattle.t1_subset.specs.Budgets.{font_tokens, fonts_tokens};
 
 use crate::state_making::uses_of;
 use crate::users::{Noted, noted_user};
 use std::alloc::{AllocError, Global};
 use t1_font::Font;
-use t1_run::Subroutines;
+use t1_run::{Budget, Stop, Subroutines};
 
 /// A Subr that a glyph executes, that its font declares and lacks, and that another font has.
 #[derive(Clone, Copy, PartialEq, Eq, Debug)]
@@ -85,16 +88,44 @@ pub(crate) fn lack_by<'a>(
 }
 
 /// The smallest index that a font declares and lacks, that one of its glyphs executes and that one of the fonts has, with the
-/// smallest such glyph. Each glyph of the font is run once.
+/// smallest such glyph, within a budget. Each glyph of the font is run once.
 fn lack_in<'a>(
     alloc: Global,
     fonts: &[Font<'a>],
     font: &Font<'a>,
-) -> Result<Option<Lack<'a>>, AllocError>
-    ensures { IfOk result (λ lack. option_map lack_view lack ≡ lack_in fonts.now font.now) }
+    budget: &mut Budget,
+) -> Result<Option<Lack<'a>>, Stop>
+    ensures lack { IfOk result (λ lack. option_map lack_view lack ≡ lack_in fonts.now font.now) }
+    ensures takes { OnOk result (Takes 0 (font_tokens font.now) budget.old.left budget.new.left) }
+    ensures refused { IfErr result (λ e. e ≡ TooManyTokens
+        → HasFewer budget.old.left (font_tokens font.now)) }
 {
-    let uses = uses_of(alloc, font)?;
+    let uses = uses_of(alloc, font, budget)?;
     Ok(lack_by(fonts, font, &uses.users))
+}
+
+/// The first lack of a Subr, as [`first_lack`] says, within a budget.
+pub(crate) fn first_lack_within<'a>(
+    alloc: Global,
+    fonts: &[Font<'a>],
+    budget: Budget,
+) -> Result<Option<Lack<'a>>, Stop>
+    ensures lack { IfOk result (λ lack. option_map lack_view lack ≡ first_lack fonts.now) }
+    ensures refused { IfErr result (λ e. e ≡ TooManyTokens
+        → HasFewer budget.left (fonts_tokens fonts.now)) }
+{
+    if let [first, ..] = fonts {
+        if have_same_subrs(first, fonts) {
+            return Ok(None);
+        }
+    }
+    let mut left = budget;
+    'fonts: for font in fonts {
+        if let Some(lack) = lack_in(alloc, fonts, font, &mut left)? {
+            return Ok(Some(lack));
+        }
+    }
+    Ok(None)
 }
 
 /// The first of the fonts that has a glyph that executes a Subr that the font declares and lacks and that another of the fonts has:
@@ -108,15 +139,8 @@ fn lack_in<'a>(
 pub fn first_lack<'a>(alloc: Global, fonts: &[Font<'a>]) -> Result<Option<Lack<'a>>, AllocError>
     ensures { IfOk result (λ lack. option_map lack_view lack ≡ first_lack fonts.now) }
 {
-    if let [first, ..] = fonts {
-        if have_same_subrs(first, fonts) {
-            return Ok(None);
-        }
+    match first_lack_within(alloc, fonts, Budget { left: None }) {
+        Ok(lack) => Ok(lack),
+        Err(_) => Err(AllocError),
     }
-    'fonts: for font in fonts {
-        if let Some(lack) = lack_in(alloc, fonts, font)? {
-            return Ok(Some(lack));
-        }
-    }
-    Ok(None)
 }

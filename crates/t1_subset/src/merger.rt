@@ -8,9 +8,13 @@ ghost use Rattle.t1_subset.specs.Refusals.{Tells};
 ghost use Rattle.t1_subset.specs.declared.conflict.Conflict.TheVariants.{Empty};
 ghost use Rattle.t1_subset.specs.Callers.{AreNoted, fonts_of};
 ghost use Rattle.t1_algebra.specs.StateTables.{states_of};
+ghost use Rattle.t1_run.specs.Budgets.{HasFewer};
+ghost use Rattle.t1_subset.specs.declared.budgets.BudgetFault.TheVariants.{TooManyTokens};
+ghost use Rattle.t1_subset.specs.Budgets.{fonts_tokens, OnPlain, IsMergerOf, IsMergerOfFonts};
 ghost use Rattle.t1_subset.specs.Merger.{IsMerger, MergesItself, NotMerged, AcceptsAllJoin, MergesInAnyOrder, MergesSubsets, MergesAllSubsets};
 ghost use Rattle.t1_algebra.specs.Merges.{DrawsBoth, DrawsAll, ComesTo};
 
+use crate::budgets::BudgetFault;
 use crate::callers::Callers;
 use crate::conflict::Conflict;
 use crate::groupings::{both_lent, first_share, lent_fonts, note_fonts};
@@ -18,6 +22,7 @@ use crate::in_turn::all_join;
 use crate::state_value::States;
 use std::alloc::Global;
 use t1_font::Font;
+use t1_run::{Budget, Stop};
 
 /// The join of one or more fonts, by the callers of each and its states, which are let go before the font is made of the joined
 /// states.
@@ -42,18 +47,32 @@ pub(crate) fn merge_noted<'a>(
     Ok(joined.into_font(alloc)?)
 }
 
-/// The join of one or more fonts, or the first conflict from left to right. If the first two don't share what they have to, no
-/// glyph is run.
-fn merge_lent<'a>(alloc: Global, fonts: &[&Font<'a>]) -> Result<Font<'a>, Conflict>
+/// The join of one or more fonts, or the first conflict from left to right, within a budget. If the first two don't share what they
+/// have to, no glyph is run.
+#[tactic(auto, using(crate::proofs::Plain::no_memory))]
+fn merge_lent<'a>(
+    alloc: Global,
+    fonts: &[&Font<'a>],
+    budget: Budget,
+) -> Result<Font<'a>, BudgetFault<Conflict>>
     requires { 0 < length fonts.now }
-    ensures ok { IfOk result (λ j. ComesTo (map (λ f. f.now) fonts.now) j) }
-    ensures err { IfErr result (λ e. NotMerged (map (λ f. f.now) fonts.now) e) }
+    ensures merges { OnPlain result (IsMergerOf (map (λ f. f.now) fonts.now)) }
+    ensures refused { IfErr result (λ e. e ≡ TooManyTokens
+        → HasFewer budget.left (fonts_tokens (map (λ f. f.now) fonts.now))) }
 {
     if let Err(conflict) = first_share(alloc, fonts) {
-        return Err(conflict);
+        return Err(BudgetFault::Plain(conflict));
     }
-    let (callers, states) = note_fonts(alloc, fonts)?;
-    merge_noted(alloc, callers, states)
+    let mut budget = budget;
+    let (callers, states) = match note_fonts(alloc, fonts, &mut budget) {
+        Ok(noted) => noted,
+        Err(Stop::TooManyTokens) => return Err(BudgetFault::TooManyTokens),
+        Err(Stop::Memory) => return Err(BudgetFault::Plain(Conflict::Memory)),
+    };
+    match merge_noted(alloc, callers, states) {
+        Ok(font) => Ok(font),
+        Err(conflict) => Err(BudgetFault::Plain(conflict)),
+    }
 }
 
 /// The join of two fonts, or their lowest conflict.
@@ -68,7 +87,11 @@ fn merge_two<'t, 'a>(
     ensures err { IfErr result (λ e. Tells e (conflict profile left.now right.now)) }
 {
     let fonts = both_lent(alloc, left, right)?;
-    merge_lent(alloc, fonts.as_slice())
+    match merge_lent(alloc, fonts.as_slice(), Budget { left: None }) {
+        Ok(font) => Ok(font),
+        Err(BudgetFault::Plain(conflict)) => Err(conflict),
+        Err(BudgetFault::TooManyTokens) => Err(Conflict::Memory),
+    }
 }
 
 /// The font that two fonts make together: the shell of both, the codes and glyphs of either, and for each Subr the
@@ -96,6 +119,47 @@ pub fn merge<'a>(alloc: Global, left: &Font<'a>, right: &Font<'a>) -> Result<Fon
     merge_two(alloc, left, right)
 }
 
+/// The join of a list of fonts, or why they don't merge, within a budget.
+#[tactic(auto, using(crate::proofs::Plain::no_memory, crate::proofs::Plain::no_fonts))]
+fn merge_list<'a>(
+    alloc: Global,
+    fonts: &[Font<'a>],
+    budget: Budget,
+) -> Result<Font<'a>, BudgetFault<Conflict>>
+    ensures merges { OnPlain result (IsMergerOfFonts fonts.now) }
+    ensures refused { IfErr result (λ e. e ≡ TooManyTokens
+        → HasFewer budget.left (fonts_tokens fonts.now)) }
+{
+    if fonts.is_empty() {
+        return Err(BudgetFault::Plain(Conflict::Empty));
+    }
+    let Ok(lent) = lent_fonts(alloc, fonts) else {
+        return Err(BudgetFault::Plain(Conflict::Memory));
+    };
+    merge_lent(alloc, lent.as_slice(), budget)
+}
+
+/// The same as [`merge_all`] within a budget: no more tokens are executed in all than are left in it, and it is refused with
+/// [`BudgetFault::TooManyTokens`] only if the runs of all glyphs of all fonts execute more. Each glyph is run once, or twice if the
+/// two answers after OtherSubr 3 lead to different runs, or not at all if the one before it has the same charstring; no glyph is run
+/// if the shells of the first two fonts differ. Else it answers what [`merge_all`] answers.
+pub fn merge_all_within<'a>(
+    alloc: Global,
+    fonts: &[Font<'a>],
+    budget: Budget,
+) -> Result<Font<'a>, BudgetFault<Conflict>>
+    ensures ok { IfOk result (λ j. ComesTo fonts.now j) }
+    ensures err { OnPlain result (λ r. IfErr r (λ e. NotMerged fonts.now e)) }
+    ensures accepted { OnPlain result (AcceptsAllJoin fonts.now) }
+    ensures any_order { OnPlain result (MergesInAnyOrder fonts.now) }
+    ensures draws { IfOk result (λ j. DrawsAll fonts.now j) }
+    ensures subsets { OnPlain result (MergesAllSubsets fonts.now) }
+    ensures refused { IfErr result (λ e. e ≡ TooManyTokens
+        → HasFewer budget.left (fonts_tokens fonts.now)) }
+{
+    merge_list(alloc, fonts, budget)
+}
+
 /// The font that a list of fonts makes together, merged from left to right. Any other order and grouping of the merges
 /// comes to the same font, or is refused, too. Fonts are accepted exactly if there is at least one, the states of each
 /// two of them join, and the font of all is within the limits. They are refused with [`Conflict::Empty`] if there are
@@ -103,7 +167,6 @@ pub fn merge<'a>(alloc: Global, left: &Font<'a>, right: &Font<'a>) -> Result<Fon
 /// draws in the result as it did before.
 ///
 /// Subsets of one font always join, and their join is the subset over all their names.
-#[tactic(auto, using(crate::proofs::Answered::of_all_subsets, crate::proofs::Answered::accepts, crate::proofs::Answered::draws_all, crate::proofs::state_tables::Walks::font_list))]
 pub fn merge_all<'a>(alloc: Global, fonts: &[Font<'a>]) -> Result<Font<'a>, Conflict>
     ensures ok { IfOk result (λ j. ComesTo fonts.now j) }
     ensures err { IfErr result (λ e. NotMerged fonts.now e) }
@@ -112,9 +175,9 @@ pub fn merge_all<'a>(alloc: Global, fonts: &[Font<'a>]) -> Result<Font<'a>, Conf
     ensures draws { IfOk result (λ j. DrawsAll fonts.now j) }
     ensures subsets { MergesAllSubsets fonts.now result }
 {
-    if fonts.is_empty() {
-        return Err(Conflict::Empty);
+    match merge_all_within(alloc, fonts, Budget { left: None }) {
+        Ok(font) => Ok(font),
+        Err(BudgetFault::Plain(conflict)) => Err(conflict),
+        Err(BudgetFault::TooManyTokens) => Err(Conflict::Memory),
     }
-    let lent = lent_fonts(alloc, fonts)?;
-    merge_lent(alloc, lent.as_slice())
 }

@@ -1,17 +1,21 @@
 //! What a set of names needs of a font.
 
-ghost use Rattle.std.specs.Prelude.{◌≡◌, IfOk};
+ghost use Rattle.std.specs.Prelude.{◌≡◌, IfOk, IfErr, OnOk};
 ghost use Rattle.std.specs.FinSet as sets;
 ghost use Rattle.t1_algebra.specs.Profile.{profile};
 ghost use Rattle.t1_algebra.specs.Keep.{keep, kept, IsOf};
 ghost use Rattle.t1_subset.specs.Calls.{number_set};
 ghost use Rattle.t1_subset.specs.NameSets.{asked};
+ghost use Rattle.t1_run.specs.Budgets.{Takes, HasFewer};
+ghost use Rattle.t1_run.specs.declared.budget.Stop.TheVariants.{TooManyTokens};
+ghost use Rattle.t1_subset.specs.Budgets.{kept_longer, kept_tokens};
 
 use crate::calls::{first_four, run_of};
 use crate::closure_names::{ClosureNames, add_components};
-use std::alloc::{AllocError, Global};
+use std::alloc::Global;
 use std::collections::BTreeSet;
 use t1_font::Font;
+use t1_run::{Budget, Stop};
 
 /// What a set of glyph names needs of a font: the glyphs that are kept, and the Subrs that are kept as they are.
 #[derive(Drop)]
@@ -22,7 +26,8 @@ pub struct Closure {
     pub subrs: BTreeSet<u16>,
 }
 
-/// The names that a set of the font's names keeps, in the order in which they are met, and the Subrs that are kept.
+/// The names that a set of the font's names keeps, in the order in which they are met, and the Subrs that are kept, within a
+/// budget.
 ///
 /// Each glyph that is kept is run once.
 #[tactic(auto, using(crate::proofs::closing::Closures::closure_end, crate::proofs::closing::NumberSets::calls_end, crate::proofs::closing::Closures::past))]
@@ -30,11 +35,16 @@ pub(crate) fn needed<'a>(
     alloc: Global,
     font: &Font<'_>,
     names: &[&'a [u8]],
-) -> Result<(ClosureNames<'a>, BTreeSet<u16>), AllocError>
+    budget: &mut Budget,
+) -> Result<(ClosureNames<'a>, BTreeSet<u16>), Stop>
     requires { IsOf font.now (asked names.now) }
     ensures names { IfOk result (λ r. sets.from_list r.0
         ≡ keep profile font.now (asked names.now)) }
     ensures subrs { IfOk result (λ r. number_set r.1 ≡ kept profile font.now (asked names.now)) }
+    ensures takes { OnOk result (Takes (kept_longer font.now (asked names.now))
+        (kept_tokens font.now (asked names.now)) budget.old.left budget.new.left) }
+    ensures refused { IfErr result (λ e. e ≡ TooManyTokens
+        → HasFewer budget.old.left (kept_tokens font.now (asked names.now))) }
 {
     font.proof_is_font();
     let mut closure = ClosureNames::new(alloc);
@@ -43,7 +53,7 @@ pub(crate) fn needed<'a>(
     let mut calls = first_four(alloc)?;
     let mut place = 0;
     'closure: while let Some(name) = closure.get(place) {
-        let components = run_of(alloc, font, name, &mut calls)?;
+        let components = run_of(alloc, font, name, &mut calls, budget)?;
         add_components(font, &mut closure, components.as_slice())?;
         place += 1;
     }

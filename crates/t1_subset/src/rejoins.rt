@@ -12,18 +12,23 @@ ghost use Rattle.t1_subset.specs.Lacks.{lack_view};
 ghost use Rattle.t1_subset.specs.Merger.{NotMerged};
 ghost use Rattle.t1_subset.specs.Refusals.{Tells};
 ghost use Rattle.t1_subset.specs.Rejoins.{heavy_conflict, TellsLack, Rejoin, NotRejoined};
+ghost use Rattle.t1_run.specs.Budgets.{Takes, HasFewer};
+ghost use Rattle.t1_subset.specs.declared.budgets.BudgetFault.TheVariants.{Plain, TooManyTokens};
+ghost use Rattle.t1_subset.specs.Budgets.{font_tokens, fonts_tokens, OnPlain};
 
+use crate::budgets::BudgetFault;
 use crate::callers::Callers;
 use crate::conflict::Conflict;
 use crate::fault::RejoinFault;
-use crate::groupings::shells_conflict;
-use crate::lacks::{Lack, first_lack, lack_by};
+use crate::groupings::{keep, shells_conflict};
+use crate::lacks::{Lack, first_lack_within, lack_by};
 use crate::merger::merge_noted;
 use crate::shared::Shared;
 use crate::state_making::{note_as, uses_of};
 use crate::state_value::States;
 use std::alloc::{AllocError, Global};
 use t1_font::{Font, PartsFault, Source, fill_all};
+use t1_run::Budget;
 
 /// The font of each source.
 ///
@@ -63,75 +68,70 @@ fn heavy_conflict(alloc: Global, fonts: &[Font<'_>]) -> Conflict
     }
 }
 
-/// Why fonts of which one is too heavy once it has its stubs don't rejoin.
-fn too_heavy(alloc: Global, fonts: &[Font<'_>]) -> RejoinFault
+/// Why fonts of which one is too heavy once it has its stubs don't rejoin, within a budget.
+fn too_heavy(alloc: Global, fonts: &[Font<'_>], budget: Budget) -> BudgetFault<RejoinFault>
     requires { AnyHeavy (filled_all fonts.now) }
-    ensures { NotRejoined fonts.now result }
+    ensures told { (e : RejoinFault) → result ≡ Plain e → NotRejoined fonts.now e }
+    ensures refused { result ≡ TooManyTokens → HasFewer budget.left (fonts_tokens fonts.now) }
 {
-    match first_lack(alloc, fonts) {
-        Ok(Some(lack)) => lacking(alloc, lack),
-        Ok(None) => RejoinFault::Merge(heavy_conflict(alloc, fonts)),
-        Err(_) => RejoinFault::Merge(Conflict::Memory),
+    match first_lack_within(alloc, fonts, budget) {
+        Ok(Some(lack)) => BudgetFault::Plain(lacking(alloc, lack)),
+        Ok(None) => BudgetFault::Plain(RejoinFault::Merge(heavy_conflict(alloc, fonts))),
+        Err(stop) => BudgetFault::from(stop),
     }
 }
 
 /// The callers and the states of a font that is filled, if no glyph of it executes a Subr that the font lacked and another of the
-/// fonts has. Each glyph of the font is run once.
+/// fonts has, within a budget. Each glyph of the font is run once.
 fn note_filled<'t, 'a>(
     alloc: Global,
     fonts: &[Font<'a>],
     font: &Font<'a>,
     full: &'t Font<'a>,
-) -> Result<(Callers<'t, 'a>, States<'a>), RejoinFault>
+    budget: &mut Budget,
+) -> Result<(Callers<'t, 'a>, States<'a>), BudgetFault<RejoinFault>>
     requires { full.now ≡ filled (indices_of_all fonts.now) font.now }
     ensures font { IfOk result (λ n. n.0.font.now ≡ full.now) }
     ensures callers { IfOk result (λ n. AreCallersOf n.0 full.now) }
     ensures states { IfOk result (λ n. n.1 ≡ states_of profile full.now) }
     ensures none { IfOk result (λ _. lack_in fonts.now font.now ≡ None) }
-    ensures lack { IfErr result (λ e. TellsLack e (lack_in fonts.now font.now)) }
+    ensures lack { OnPlain result (λ r. IfErr r (λ e. TellsLack e (lack_in fonts.now font.now))) }
+    ensures takes { OnOk result (Takes 0 (font_tokens font.now) budget.old.left budget.new.left) }
+    ensures refused { IfErr result (λ e. e ≡ TooManyTokens
+        → HasFewer budget.old.left (font_tokens font.now)) }
 {
-    let uses = uses_of(alloc, font)?;
+    let uses = uses_of(alloc, font, budget)?;
     if let Some(lack) = lack_by(fonts, font, &uses.users) {
-        return Err(lacking(alloc, lack));
+        return Err(BudgetFault::Plain(lacking(alloc, lack)));
     }
     let shared = Shared::of(alloc, full)?;
     Ok(note_as(alloc, full, shared, font, uses)?)
 }
 
-/// Adds the callers and the states of one more font.
-fn keep<'t, 'a>(
-    callers: &mut Vec<Callers<'t, 'a>>,
-    states: &mut Vec<States<'a>>,
-    own: Callers<'t, 'a>,
-    state: States<'a>,
-) -> Result<(), AllocError>
-    ensures callers { OnOk result (callers.new.items ≡ callers.old.items ++ own.entry ∷ []) }
-    ensures states { OnOk result (states.new.items ≡ states.old.items ++ state.entry ∷ []) }
-{
-    callers.push(own)?;
-    states.push(state)?;
-    Ok(())
-}
-
-/// The callers and the states of fonts that are filled, if no glyph executes a Subr that its font lacked and another has.
+/// The callers and the states of fonts that are filled, if no glyph executes a Subr that its font lacked and another has, within a
+/// budget.
 fn note_each<'t, 'a>(
     alloc: Global,
     fonts: &[Font<'a>],
     full: &'t [Font<'a>],
-) -> Result<(Vec<Callers<'t, 'a>>, Vec<States<'a>>), RejoinFault>
+    budget: Budget,
+) -> Result<(Vec<Callers<'t, 'a>>, Vec<States<'a>>), BudgetFault<RejoinFault>>
     requires { full.now ≡ filled_all fonts.now }
     ensures fonts { IfOk result (λ n. fonts_of n.0.items ≡ full.now) }
     ensures noted { IfOk result (λ n. AreNoted n.0.items) }
     ensures states { IfOk result (λ n. n.1.items ≡ map (states_of profile) (fonts_of n.0.items)) }
     ensures none { IfOk result (λ _. first_lack fonts.now ≡ None) }
-    ensures lack { IfErr result (λ e. TellsLack e (first_lack fonts.now)) }
+    ensures lack { OnPlain result (λ r. IfErr r (λ e. TellsLack e (first_lack fonts.now))) }
+    ensures refused { IfErr result (λ e. e ≡ TooManyTokens
+        → HasFewer budget.left (fonts_tokens fonts.now)) }
 {
+    let mut left = budget;
     let mut callers = Vec::with_capacity(alloc, full.len())?;
     let mut states = Vec::with_capacity(alloc, full.len())?;
     'fonts: for place in 0..full.len() {
         let filled = &full[place];
         filled.proof_is_font();
-        let (own, state) = match note_filled(alloc, fonts, &fonts[place], filled) {
+        let (own, state) = match note_filled(alloc, fonts, &fonts[place], filled, &mut left) {
             Ok(noted) => noted,
             Err(fault) => return Err(fault),
         };
@@ -140,26 +140,58 @@ fn note_each<'t, 'a>(
     Ok((callers, states))
 }
 
-/// The join of fonts that are filled, if no glyph executes a Subr that its font lacked and another has.
+/// The join of fonts that are filled, if no glyph executes a Subr that its font lacked and another has, within a budget.
 fn merge_filled<'a>(
     alloc: Global,
     fonts: &[Font<'a>],
     full: &[Font<'a>],
-) -> Result<Font<'a>, RejoinFault>
+    budget: Budget,
+) -> Result<Font<'a>, BudgetFault<RejoinFault>>
     requires some { ¬ (fonts.now ≡ []) }
     requires full { full.now ≡ filled_all fonts.now }
     requires light { AreLight full.now }
     ensures ok { IfOk result (λ j. Rejoin fonts.now j) }
-    ensures err { IfErr result (λ e. NotRejoined fonts.now e) }
+    ensures err { OnPlain result (λ r. IfErr r (λ e. NotRejoined fonts.now e)) }
+    ensures refused { IfErr result (λ e. e ≡ TooManyTokens
+        → HasFewer budget.left (fonts_tokens fonts.now)) }
 {
-    let (callers, states) = match note_each(alloc, fonts, full) {
+    let (callers, states) = match note_each(alloc, fonts, full, budget) {
         Ok(noted) => noted,
         Err(fault) => return Err(fault),
     };
     match merge_noted(alloc, callers, states) {
         Ok(font) => Ok(font),
-        Err(conflict) => Err(RejoinFault::Merge(conflict)),
+        Err(conflict) => Err(BudgetFault::Plain(RejoinFault::Merge(conflict))),
     }
+}
+
+/// The same as [`rejoin`] within a budget: no more tokens are executed in all than are left in it, and it is refused with
+/// [`BudgetFault::TooManyTokens`] only if the runs of all glyphs of all fonts, as they are before they are filled, execute more. Each
+/// glyph is run once, or twice if the two answers after OtherSubr 3 lead to different runs, or not at all if the one before it has the
+/// same charstring. Else it answers what [`rejoin`] answers.
+pub fn rejoin_within<'a>(
+    alloc: Global,
+    sources: &'a [Source],
+    indices: &'a mut Vec<u16>,
+    budget: Budget,
+) -> Result<Font<'a>, BudgetFault<RejoinFault>>
+    ensures ok { IfOk result (λ j. Rejoin sources.now j) }
+    ensures err { OnPlain result (λ r. IfErr r (λ e. NotRejoined sources.now e)) }
+    ensures refused { IfErr result (λ e. e ≡ TooManyTokens
+        → HasFewer budget.left (fonts_tokens sources.now)) }
+{
+    if sources.is_empty() {
+        return Err(BudgetFault::Plain(RejoinFault::Merge(Conflict::Empty)));
+    }
+    let fonts = fonts_of(alloc, sources)?;
+    let full = match fill_all(alloc, fonts_of(alloc, sources)?, indices) {
+        Ok(full) => full,
+        Err(PartsFault::Limit) => return Err(too_heavy(alloc, fonts.as_slice(), budget)),
+        Err(PartsFault::Memory) => {
+            return Err(BudgetFault::Plain(RejoinFault::Merge(Conflict::Memory)));
+        }
+    };
+    merge_filled(alloc, fonts.as_slice(), full.as_slice(), budget)
 }
 
 /// The font that the fonts of sources come to when each is filled, with [`STUB`](t1_font::STUB) where it lacks a Subr that another
@@ -184,14 +216,9 @@ pub fn rejoin<'a>(
     ensures ok { IfOk result (λ j. Rejoin sources.now j) }
     ensures err { IfErr result (λ e. NotRejoined sources.now e) }
 {
-    if sources.is_empty() {
-        return Err(RejoinFault::Merge(Conflict::Empty));
+    match rejoin_within(alloc, sources, indices, Budget { left: None }) {
+        Ok(font) => Ok(font),
+        Err(BudgetFault::Plain(fault)) => Err(fault),
+        Err(BudgetFault::TooManyTokens) => Err(RejoinFault::Merge(Conflict::Memory)),
     }
-    let fonts = fonts_of(alloc, sources)?;
-    let full = match fill_all(alloc, fonts_of(alloc, sources)?, indices) {
-        Ok(full) => full,
-        Err(PartsFault::Limit) => return Err(too_heavy(alloc, fonts.as_slice())),
-        Err(PartsFault::Memory) => return Err(RejoinFault::Merge(Conflict::Memory)),
-    };
-    merge_filled(alloc, fonts.as_slice(), full.as_slice())
 }

@@ -1,10 +1,13 @@
 //! The making of states: one run of each glyph.
 
-ghost use Rattle.std.specs.Prelude.{◌≡◌, IfOk};
+ghost use Rattle.std.specs.Prelude.{◌≡◌, IfOk, IfErr, OnOk};
 ghost use Rattle.std.specs.Option.{option_map};
 ghost use Rattle.t1_algebra.specs.Profile.{profile};
 ghost use Rattle.t1_algebra.specs.StateTables.{states_of};
 ghost use Rattle.t1_algebra.specs.Shared.{shared_of};
+ghost use Rattle.t1_run.specs.Budgets.{Takes, HasFewer};
+ghost use Rattle.t1_run.specs.declared.budget.Stop.TheVariants.{TooManyTokens};
+ghost use Rattle.t1_subset.specs.Budgets.{font_tokens};
 ghost use Rattle.t1_subset.specs.Callers.{AreUsesOf, AreCallersOf, RunAlike, same_charstring};
 
 use crate::callers::{Callers, Seekers, note_seekers};
@@ -16,7 +19,7 @@ use crate::tables::{code_table, subr_table, used};
 use crate::users::{Noted, nobody, note_users};
 use std::alloc::{AllocError, Global};
 use t1_font::Font;
-use t1_run::Called;
+use t1_run::{Budget, Called, Stop};
 
 /// Whether a glyph has the same charstring as the one before it, and so executes and names the same.
 fn is_again(last: Option<&[u8]>, charstring: Option<&[u8]>) -> bool
@@ -38,10 +41,17 @@ pub(crate) struct Uses<'a> {
     pub(crate) seekers: Seekers<'a>,
 }
 
-/// What the glyphs of a font execute and seek. Each glyph is run once, or not at all if the one before it has the same
-/// charstring.
-pub(crate) fn uses_of<'a>(alloc: Global, font: &Font<'a>) -> Result<Uses<'a>, AllocError>
-    ensures { IfOk result (λ uses. AreUsesOf uses font.now) }
+/// What the glyphs of a font execute and seek, within a budget. Each glyph is run once, or not at all if the one before it has the
+/// same charstring.
+pub(crate) fn uses_of<'a>(
+    alloc: Global,
+    font: &Font<'a>,
+    budget: &mut Budget,
+) -> Result<Uses<'a>, Stop>
+    ensures uses { IfOk result (λ uses. AreUsesOf uses font.now) }
+    ensures takes { OnOk result (Takes 0 (font_tokens font.now) budget.old.left budget.new.left) }
+    ensures refused { IfErr result (λ e. e ≡ TooManyTokens
+        → HasFewer budget.old.left (font_tokens font.now)) }
 {
     let mut users = nobody(alloc);
     let mut seekers = Seekers::new(alloc);
@@ -52,7 +62,7 @@ pub(crate) fn uses_of<'a>(alloc: Global, font: &Font<'a>) -> Result<Uses<'a>, Al
         if is_again(last, charstring) {
             continue;
         }
-        let components = run_alone(alloc, font, name, &mut calls)?;
+        let components = run_alone(alloc, font, name, &mut calls, budget)?;
         note_users(&mut users, &calls, name)?;
         note_seekers(font, &mut seekers, components.as_slice(), name)?;
         last = charstring;
@@ -113,19 +123,23 @@ pub(crate) fn note_as<'t, 'a>(
     ))
 }
 
-/// The callers of a font, and its states, by what it shares. Each glyph of the font is run once.
+/// The callers of a font, and its states, by what it shares, within a budget. Each glyph of the font is run once.
 pub(crate) fn note_font<'t, 'a>(
     alloc: Global,
     font: &'t Font<'a>,
     shared: Shared<'a>,
-) -> Result<(Callers<'t, 'a>, States<'a>), AllocError>
+    budget: &mut Budget,
+) -> Result<(Callers<'t, 'a>, States<'a>), Stop>
     requires { shared ≡ shared_of font.now }
     ensures font { IfOk result (λ n. n.0.font.now ≡ font.now) }
     ensures callers { IfOk result (λ n. AreCallersOf n.0 font.now) }
     ensures states { IfOk result (λ n. n.1 ≡ states_of profile font.now) }
+    ensures takes { OnOk result (Takes 0 (font_tokens font.now) budget.old.left budget.new.left) }
+    ensures refused { IfErr result (λ e. e ≡ TooManyTokens
+        → HasFewer budget.old.left (font_tokens font.now)) }
 {
-    let uses = uses_of(alloc, font)?;
-    note_as(alloc, font, shared, font, uses)
+    let uses = uses_of(alloc, font, budget)?;
+    Ok(note_as(alloc, font, shared, font, uses)?)
 }
 
 /// The states of a font. Each glyph of the font is run once.
@@ -133,6 +147,8 @@ pub fn states<'a>(alloc: Global, font: &Font<'a>) -> Result<States<'a>, AllocErr
     ensures { IfOk result (λ s. s ≡ states_of profile font.now) }
 {
     let shared = Shared::of(alloc, font)?;
-    let uses = uses_of(alloc, font)?;
-    states_from(alloc, font, shared, font, &uses)
+    match uses_of(alloc, font, &mut Budget { left: None }) {
+        Ok(uses) => states_from(alloc, font, shared, font, &uses),
+        Err(_) => Err(AllocError),
+    }
 }

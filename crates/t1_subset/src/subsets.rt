@@ -8,11 +8,48 @@ ghost use Rattle.t1_algebra.specs.Keep.{has, keep, subset};
 ghost use Rattle.t1_algebra.specs.Alike.{DrawsAlike};
 ghost use Rattle.t1_subset.specs.NameSets.{lent, asked};
 ghost use Rattle.t1_subset.specs.Refusals.{Absent};
+ghost use Rattle.t1_run.specs.Budgets.{HasFewer};
+ghost use Rattle.t1_subset.specs.declared.budgets.BudgetFault.TheVariants.{TooManyTokens};
+ghost use Rattle.t1_subset.specs.Budgets.{kept_longer, kept_tokens, IsEnough, OnPlain};
 
-use crate::closures::closure;
+use crate::budgets::BudgetFault;
+use crate::closures::closure_within;
 use crate::fault::SubsetFault;
 use std::alloc::Global;
 use t1_font::{Font, restrict};
+use t1_run::Budget;
+
+/// The same as [`subset`] within a budget: no more tokens are executed in all than are left in it, and it is refused with
+/// [`BudgetFault::TooManyTokens`] only if the runs of the glyphs that are kept execute more. Each glyph that is kept is run once, or
+/// twice if the two answers after OtherSubr 3 lead to different runs. Else it answers what [`subset`] answers.
+pub fn subset_within<'a>(
+    alloc: Global,
+    font: &Font<'a>,
+    names: &[&[u8]],
+    budget: Budget,
+) -> Result<Font<'a>, BudgetFault<SubsetFault>>
+    ensures ok { IfOk result (λ s. s ≡ subset profile font.now (asked names.now)) }
+    ensures draws { IfOk result (λ s. (n : List ℕ)
+        → sets.contains (keep profile font.now (asked names.now)) n ≡ true
+        → DrawsAlike font.now s n) }
+    ensures present { OnOk result (find (λ n. not (has font.now n)) (lent names.now)
+        ≡ None) }
+    ensures absent { OnPlain result (λ r. IfErr r
+        (λ e. Absent e (find (λ n. not (has font.now n)) (lent names.now)))) }
+    ensures enough { OnOk result (IsEnough budget.left (kept_longer font.now (asked names.now))) }
+    ensures refused { IfErr result (λ e. e ≡ TooManyTokens
+        → HasFewer budget.left (kept_tokens font.now (asked names.now))) }
+{
+    font.proof_is_font();
+    let closure = match closure_within(alloc, font, names, budget) {
+        Ok(closure) => closure,
+        Err(fault) => return Err(fault),
+    };
+    match restrict(alloc, font, closure.names.as_slice(), &closure.subrs) {
+        Ok(font) => Ok(font),
+        Err(_) => Err(BudgetFault::Plain(SubsetFault::Memory)),
+    }
+}
 
 /// The font cut to the closure of a set of names, which is what the names need of it. Its glyphs, and its Encoding if
 /// that is a table, are cut to the names that are kept. Each present Subr that isn't kept is replaced by the charstring
@@ -33,10 +70,9 @@ pub fn subset<'a>(alloc: Global, font: &Font<'a>, names: &[&[u8]]) -> Result<Fon
         (λ e. Absent e
         (find (λ n. not (has font.now n)) (lent names.now))) }
 {
-    font.proof_is_font();
-    let closure = closure(alloc, font, names)?;
-    match restrict(alloc, font, closure.names.as_slice(), &closure.subrs) {
+    match subset_within(alloc, font, names, Budget { left: None }) {
         Ok(font) => Ok(font),
-        Err(_) => Err(SubsetFault::Memory),
+        Err(BudgetFault::Plain(fault)) => Err(fault),
+        Err(BudgetFault::TooManyTokens) => Err(SubsetFault::Memory),
     }
 }

@@ -1,5 +1,6 @@
 //! Fonts in memory: what closures, subsets and mergers answer with ample memory, and each refusal with its data.
 
+mod budgets;
 mod closures;
 mod differences;
 mod fonts;

@@ -1,8 +1,12 @@
-use Rattle.std.proofs.Common.{◌≡◌, ℕ, ◌+◌, take, List, [], Bor, map, filter, sym, ◌∙◌, ap, subst, arith, nat_cmp}
+use Rattle.t1_run.specs.declared.budget.Stop.TheVariants.{TooManyTokens}
+use Rattle.std.proofs.Common.{rules, ◌≡◌, ℕ, ◌+◌, take, List, [], Bor, map, filter, sym, ◌∙◌, ap, subst, arith, nat_cmp}
 use Rattle.t1_font.specs.FontValue.{notdef}
 use Rattle.t1_algebra.specs.{Keep.{has, charstring, components}, Profile.{profile, set_of}}
-use Rattle.t1_subset.specs.{ClosureNames.{push_new, push_all}, NameSets.{lent, asked}}
-use Rattle.t1_subset.proofs.{closing.Closures.{ClosureSoFar, closure_start, closure_step, place_below, all_front, got}, closing.NumberSets.{calls_to, calls_step}}
+use Rattle.std.specs.List.{sum_by}
+use Rattle.t1_run.{specs.Budgets.{Takes}, proofs.Taken.{takes_nothing}}
+use Rattle.t1_subset.specs.{ClosureNames.{push_new, push_all}, NameSets.{lent, asked}, Budgets.{longer_tokens, glyph_tokens}}
+use Rattle.t1_subset.proofs.Tokens.{closure_more, closure_takes, closure_refused}
+use Rattle.t1_subset.proofs.{closing.Closures.{ClosureSoFar, closure_start, closure_step, place_below, all_front, got, past}, closing.NumberSets.{calls_to, calls_step}}
 use Rattle.std.specs.FinSet as sets
 use Rattle.t1_subset.proofs.needed.needed.Goals as goal
 
@@ -15,6 +19,7 @@ closure-init c =
       subst (λ (ns : List (List ℕ)). ClosureSoFar profile f (asked c.args.names.now) ns 0) (sym start)
           (closure_start profile f (lent c.args.names.now) c.proof_is_font.ensures.glyphs.notdef c.requires),
       ap (λ (ks : List ℕ). sets.from_list {R = nat_cmp} ks) c.in_ok-calls.ensures,
+      takes_nothing c.args.budget.now.left,
     )
 
 pub overflow_add-place : goal.overflow_add-place
@@ -43,4 +48,21 @@ closure-preserved c =
           (sym more) (closure_step profile f (asked c.args.names.now) ns c.closure.place n c.closure.invariant.0 at.0 at.1),
       calls_step f ns c.closure.place n (set_of c.closure.calls) (set_of c.run_of.new.calls) at.0 at.1 c.closure.invariant.1 c.in_ok-components.ensures.calls
           ∙ ap (calls_to f) (sym (ap (take (c.closure.place + 1)) more ∙ all_front (c.closure.place + 1) found ns (omega (arith, l)))),
+      subst (λ (ns : List (List ℕ)). Takes (sum_by (longer_tokens f) (take (c.closure.place + 1) ns))
+          (sum_by (glyph_tokens f) (take (c.closure.place + 1) ns)) c.args.budget.now.left c.run_of.new.budget.left) (sym more)
+          (closure_more f ns found c.closure.place n at.0 at.1 c.args.budget.now.left c.closure.budget.left c.run_of.new.budget.left
+          c.closure.invariant.2 c.in_ok-components.ensures.takes),
     )
+
+pub returns-in_err-components-clause-refused : goal.returns-in_err-components-clause-refused
+returns-in_err-components-clause-refused c =
+    let at = got c.closure.closure c.closure.place c.in-Some.name.now c.in-Some.ensures in
+    let fewer = λ (h : c.in_err-components.field-0.0 ≡ TooManyTokens).
+    closure_refused c.args.font.now (asked c.args.names.now) c.closure.closure c.closure.place c.closure.invariant.0 c.in-Some.name.now
+    at.0 at.1 _ c.args.budget.now.left c.closure.budget.left c.closure.invariant.2 (c.in_err-components.ensures.refused h) in
+    search rules
+
+pub returns-clause-takes : goal.returns-clause-takes
+returns-clause-takes c =
+    closure_takes c.args.font.now (asked c.args.names.now) c.closure.closure c.closure.place c.closure.invariant.0
+    (past c.closure.closure c.closure.place c.in_default.ensures) c.args.budget.now.left c.closure.budget.left c.closure.invariant.2

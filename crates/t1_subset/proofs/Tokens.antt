@@ -1,0 +1,279 @@
+-- The tokens that glyphs execute, and what is taken for them out of budgets.
+use Rattle.std.proofs.Common.{◌≡◌, refl, sym, ap, subst, ◌∙◌, ℕ, ◌+◌, ◌<◌, ◌≤◌, Bool, true, false, ◌||◌, ◌&&◌, cond}
+use Rattle.std.proofs.{Common.{List, [], ◌∷◌, ◌++◌, map, take, drop, filter, length, get_or, Option, Some, None, unwrap_or, arith}}
+use Rattle.std.proofs.Common.{true≢false, option_map, take_all, Ordering}
+use Rattle.std.proofs.{lemmas.List.{take_more, take-append-drop, map-append}, lemmas.List.Sums.{sum_by-cons, sum_by-append, sum_by_push, sum_by-take-le}}
+use Rattle.std.proofs.{lemmas.Map.Made.{sum_by-remove_key}, lemmas.Map.Keys.{IsDistinct-from_sorted}}
+use Rattle.std.proofs.lemmas.Map.Keys.{IsDistinct-head, IsDistinct-tail, IsDistinct-cons}
+use Rattle.std.specs.{List.{AllByRecursion, IsDistinct, list_any, find, sum_by}, List.Sorted.{IsStrictlySortedBy}, Cmp.{IsEquivalence, eq_by_cmp_equiv}, Set.{remove_key}}
+use Rattle.std.specs.Cmp.Lexicographic.{nat_list_cmp_total}
+use Rattle.std.specs.{declared.cmp.Ordering.TheVariants.{Less, Equal, Greater}, Ordering.{is_lt}, FinMap.Entries.{below_all, is_sorted}, Prelude.{T}}
+use Rattle.t1_run.specs.{Budgets.{tokens_of_longer, tokens_of_both, HasFewer, Takes}, Run.{Subrs}}
+use Rattle.t1_run.proofs.Taken.{takes_wider, takes_twice, takes_nothing, fewer_before, fewer_than_more}
+use Rattle.t1_font.{specs.{FontValue.{FontValue, Named, name_cmp, names_in}, FontModel.{subr_at}, IsFont.{IsFont}}, proofs.FontReaders.{all_seen}}
+use Rattle.t1_algebra.{specs.{Interpreter.{same_bytes, Names}, Keep.{charstring, keep}, Profile.{profile}}, proofs.{Sets.{in_list, tied, name_same, any_filter, any_filtered}, Kept.{keep_from}}}
+use Rattle.t1_subset.{specs.{Budgets.{longer_tokens, glyph_tokens, kept_names, kept_longer, kept_tokens, IsEnough}}, proofs.closing.Closures.{ClosureSoFar, closure_end, all_front}}
+use Rattle.t1_subset.specs.ClosureNames.{push_all}
+use Rattle.std.specs.FinMap as maps
+use Rattle.std.specs.FinSet as sets
+
+-- ---- one glyph
+
+module _ (f : FontValue) (w : IsFont f) (n c : List ℕ) (e : maps.get f.glyphs n ≡ Some c) where
+  -- what is said of a charstring over the Subrs that code sees is so of the glyph
+  of_glyph : (P : Subrs → List ℕ → Type 0) → P (subr_at f) c → P (maps.get f.subrs) (charstring f n)
+  of_glyph P h =
+      subst (λ s. P s (charstring f n)) (all_seen f w) (subst (λ x. P (subr_at f) x) (ap (λ (x : Option (List ℕ)). unwrap_or x []) (sym e)) h)
+
+  -- what its runs take is what the glyph does
+  pub glyph_takes : (old new : Option ℕ) → Takes (tokens_of_longer (subr_at f) c) (tokens_of_both (subr_at f) c) old new →
+      Takes (longer_tokens f n) (glyph_tokens f n) old new
+  unfolding longer_tokens glyph_tokens
+  glyph_takes old new h = of_glyph (λ s x. Takes (tokens_of_longer s x) (tokens_of_both s x) old new) h
+
+  -- if too little is left for its runs, it is for the glyph
+  pub glyph_refused : (left : Option ℕ) → HasFewer left (tokens_of_both (subr_at f) c) → HasFewer left (glyph_tokens f n)
+  unfolding glyph_tokens
+  glyph_refused left h = of_glyph (λ s x. HasFewer left (tokens_of_both s x)) h
+
+-- a name without a glyph takes nothing
+pub no_glyph : (f : FontValue) (n : List ℕ) → maps.get f.glyphs n ≡ None → (left : Option ℕ) → Takes (longer_tokens f n) (glyph_tokens f n) left left
+unfolding longer_tokens glyph_tokens
+no_glyph f n e left =
+    let s : Subrs = maps.get f.subrs in
+    subst (λ (x : Option (List ℕ)). Takes (tokens_of_longer s (unwrap_or x [])) (tokens_of_both s (unwrap_or x [])) left left) (sym e) (takes_nothing left)
+
+-- ---- some, one after another
+
+module _ {X : Type 0} (g : X → ℕ) where
+  -- what was taken for some, and then for one more
+  pub takes_more : (g' : X → ℕ) (done next : List X) (x : X) (old mid new : Option ℕ) → next ≡ done ++ x ∷ [] →
+      Takes (sum_by g' done) (sum_by g done) old mid → Takes (g' x) (g x) mid new → Takes (sum_by g' next) (sum_by g next) old new
+  takes_more g' done next x old mid new is h k =
+      let least : sum_by g' next ≡ sum_by g' done + g' x = ap (sum_by g') is ∙ sum_by_push g' done x in
+      let most : sum_by g next ≡ sum_by g done + g x = ap (sum_by g) is ∙ sum_by_push g done x in
+      takes_wider (sum_by g' done + g' x) (sum_by g done + g x) (sum_by g' next) (sum_by g next) old new (omega (arith, least)) (omega (arith, most))
+      (takes_twice (sum_by g' done) (sum_by g done) (g' x) (g x) old mid new h k)
+
+  -- the same, where it is said only how much was taken at most
+  pub takes_on : (done next : List X) (x : X) (old mid new : Option ℕ) → next ≡ done ++ x ∷ [] →
+      Takes 0 (sum_by g done) old mid → Takes 0 (g x) mid new → Takes 0 (sum_by g next) old new
+  takes_on done next x old mid new is h k =
+      let most : sum_by g next ≡ sum_by g done + g x = ap (sum_by g) is ∙ sum_by_push g done x in
+      takes_wider 0 (sum_by g done + g x) 0 (sum_by g next) old new (omega arith) (omega (arith, most)) (takes_twice 0 (sum_by g done) 0 (g x) old mid new h k)
+
+  -- if too little is left for one more, what there was is too little for all
+  pub refused_on : (least : ℕ) (done next : List X) (x : X) (all : ℕ) (old mid : Option ℕ) → next ≡ done ++ x ∷ [] → sum_by g next ≤ all →
+      Takes least (sum_by g done) old mid → HasFewer mid (g x) → HasFewer old all
+  refused_on least done next x all old mid is few h k =
+      let most : sum_by g next ≡ sum_by g done + g x = ap (sum_by g) is ∙ sum_by_push g done x in
+      fewer_than_more (sum_by g done + g x) all old (omega (arith, most, few)) (fewer_before least (sum_by g done) (g x) old mid h k)
+
+  -- What was taken so far, where so much of all is left to be taken.
+  pub record SpentSoFar (all : ℕ) (left : List X) (old new : Option ℕ) : Type 0 where
+    pub spent : ℕ
+    pub are : spent + sum_by g left ≡ all
+    pub takes : Takes 0 spent old new
+
+  -- before anything is taken
+  pub spent_starts : (xs left : List X) (budget : Option ℕ) → left ≡ xs → SpentSoFar (sum_by g xs) left budget budget
+  spent_starts xs left budget is =
+      let e : sum_by g left ≡ sum_by g xs = ap (sum_by g) is in
+      record { spent = 0; are = omega (arith, e); takes = takes_nothing budget }
+
+  module _ (all : ℕ) (xs left : List X) (x : X) (old mid : Option ℕ) (is : xs ≡ x ∷ left) (h : SpentSoFar all xs old mid) where
+    next_of : sum_by g xs ≡ g x + sum_by g left
+    next_of = ap (sum_by g) is ∙ sum_by-cons g x left
+
+    -- the next takes its part
+    pub spent_more : (least : ℕ) (new : Option ℕ) → Takes least (g x) mid new → SpentSoFar all left old new
+    spent_more least new k = record {
+      spent = h.spent + g x;
+      are = let e = next_of in omega (arith, e, h.are);
+      takes = takes_wider (0 + least) (h.spent + g x) 0 (h.spent + g x) old new (omega arith) (omega arith)
+          (takes_twice 0 h.spent least (g x) old mid new h.takes k);
+    }
+
+    -- the next takes nothing
+    pub spent_again : SpentSoFar all left old mid
+    spent_again = record {
+      spent = h.spent + g x;
+      are = let e = next_of in omega (arith, e, h.are);
+      takes = takes_wider 0 h.spent 0 (h.spent + g x) old mid (omega arith) (omega arith) h.takes;
+    }
+
+    -- too little is left for the next
+    pub spent_refused : HasFewer mid (g x) → HasFewer old all
+    spent_refused k =
+        let e = next_of in fewer_than_more (h.spent + g x) all old (omega (arith, e, h.are)) (fewer_before 0 h.spent (g x) old mid h.takes k)
+
+  -- what was taken in all
+  pub spent_ends : (all : ℕ) (left : List X) (old new : Option ℕ) → SpentSoFar all left old new → Takes 0 all old new
+  spent_ends all left old new h = takes_wider 0 h.spent 0 all old new (omega arith) (omega (arith, h.are)) h.takes
+
+-- ---- names without repeats, and those that are kept
+
+module _ {K : Type 0} {eq : K → K → Bool} (laws : IsEquivalence eq) (same : (x y : K) → eq x y ≡ true → x ≡ y) (g : K → ℕ) where
+  apart_from : (x q : K) (ys : List K) → AllByRecursion (λ y. eq x y ≡ false) ys → list_any (eq q) ys ≡ true → eq x q ≡ false
+  apart_from x q [] a m = absurd (true≢false (sym m))
+  apart_from x q (y ∷ ys) a m = by (eq q y) refl m (apart_from x q ys a.1)
+    where
+      by : (b : Bool) → eq q y ≡ b → (b || list_any (eq q) ys) ≡ true → (list_any (eq q) ys ≡ true → eq x q ≡ false) → eq x q ≡ false
+      by true t m r = ap (eq x) (same q y t) ∙ a.0
+      by false t m r = r m
+
+  still_in : (x q : K) (ys : List K) → eq x q ≡ false → list_any (eq q) (remove_key (eq x) ys) ≡ list_any (eq q) ys
+  still_in x q [] n = refl
+  still_in x q (y ∷ ys) n = by (eq x y) refl (still_in x q ys n)
+    where
+      by : (b : Bool) → eq x y ≡ b → list_any (eq q) (remove_key (eq x) ys) ≡ list_any (eq q) ys →
+          list_any (eq q) (cond b ys (y ∷ remove_key (eq x) ys)) ≡ (eq q y || list_any (eq q) ys)
+      by true t r = ap (λ c. c || list_any (eq q) ys) (sym (laws.symm q y ∙ ap (λ z. eq z q) (sym (same x y t)) ∙ n))
+      by false t r = ap (λ c. eq q y || c) r
+
+  found_is : (x : K) (ys : List K) → list_any (eq x) ys ≡ true → find (eq x) ys ≡ Some x
+  found_is x [] m = absurd (true≢false (sym m))
+  found_is x (y ∷ ys) m = by (eq x y) refl m (found_is x ys)
+    where
+      by : (b : Bool) → eq x y ≡ b → (b || list_any (eq x) ys) ≡ true → (list_any (eq x) ys ≡ true → find (eq x) ys ≡ Some x) →
+          cond b (Some y) (find (eq x) ys) ≡ Some x
+      by true t m r = ap (λ (z : K). Some z) (sym (same x y t))
+      by false t m r = r m
+
+  -- a sum over keys without repeats is at most that over keys that hold them all
+  pub sum_inside : (xs ys : List K) → IsDistinct eq xs → ((q : K) → list_any (eq q) xs ≡ true → list_any (eq q) ys ≡ true) → sum_by g xs ≤ sum_by g ys
+  sum_inside [] ys d h = omega arith
+  sum_inside (x ∷ xs) ys d h =
+      let found : list_any (eq x) ys ≡ true = h x (ap (λ b. b || list_any (eq x) xs) (laws.refl x)) in
+      let gone : sum_by g (remove_key (eq x) ys) + g x ≡ sum_by g ys =
+      ap (λ (o : Option K). sum_by g (remove_key (eq x) ys) + unwrap_or (option_map g o) 0) (sym (found_is x ys found)) ∙ sum_by-remove_key g (eq x) ys in
+      let rest : sum_by g xs ≤ sum_by g (remove_key (eq x) ys) = sum_inside xs (remove_key (eq x) ys) (IsDistinct-tail eq x xs d) (λ q m.
+      still_in x q ys (apart_from x q xs (IsDistinct-head eq x xs d) m) ∙ h q (or_right (eq q x) m)) in
+      let all : sum_by g (x ∷ xs) ≡ g x + sum_by g xs = sum_by-cons g x xs in
+      omega (arith, gone, rest, all)
+    where
+      or_right : (b : Bool) {c : Bool} → c ≡ true → (b || c) ≡ true
+      or_right true m = refl
+      or_right false m = m
+
+-- what is taken out of a budget is allowed by it
+pub takes_enough : (least most : ℕ) (old new : Option ℕ) → Takes least most old new → IsEnough old least
+takes_enough least most None new h = tt
+takes_enough least most (Some old) None h = absurd h
+takes_enough least most (Some old) (Some new) h = omega (arith, h.0)
+
+-- ---- the names of a font, and those that are kept
+
+both : (a b : Bool) → T (a && b) → T a × T b
+both true b h = (tt, h)
+both false b h = absurd h
+
+less_is : (r : Ordering) → T (is_lt r) → r ≡ Less
+less_is Less h = refl
+less_is Equal h = absurd h
+less_is Greater h = absurd h
+
+below_keys : (n : List ℕ) (es : List (List ℕ × List ℕ)) → T (below_all name_cmp n es) → AllByRecursion (λ y. name_cmp n y ≡ Less) (map (λ e. e.0) es)
+below_keys n [] h = tt
+below_keys n (e ∷ es) h = let two = both _ _ h in (less_is _ two.0, below_keys n es two.1)
+
+rising : (es : List (List ℕ × List ℕ)) → T (is_sorted name_cmp es) → IsStrictlySortedBy name_cmp (map (λ e. e.0) es)
+unfolding IsStrictlySortedBy
+rising [] h = tt
+rising (e ∷ es) h = let two = both _ _ h in (below_keys e.0 es two.0, rising es two.1)
+
+-- the names of a table are without repeats
+names_apart : (m : Named) → IsDistinct same_bytes (names_in m)
+names_apart m = IsDistinct-from_sorted name_cmp (names_in m) (rising (maps.entries m) (maps.entries_sorted m))
+
+all_left : (p : List ℕ → Bool) (x : List ℕ) (xs : List (List ℕ)) → AllByRecursion (λ y. same_bytes x y ≡ false) xs →
+    AllByRecursion (λ y. same_bytes x y ≡ false) (filter p xs)
+all_left p x [] h = tt
+all_left p x (y ∷ ys) h =
+    elim (p y) as (λ b. AllByRecursion (λ y. same_bytes x y ≡ false) (cond b (y ∷ filter p ys) (filter p ys))) [
+      | true ↦ (h.0, all_left p x ys h.1)
+      | false ↦ all_left p x ys h.1
+    ]
+
+left_apart : (p : List ℕ → Bool) (xs : List (List ℕ)) → IsDistinct same_bytes xs → IsDistinct same_bytes (filter p xs)
+left_apart p [] d = d
+left_apart p (x ∷ xs) d =
+    let rest : IsDistinct same_bytes (filter p xs) = left_apart p xs (IsDistinct-tail same_bytes x xs d) in
+    elim (p x) as (λ b. IsDistinct same_bytes (cond b (x ∷ filter p xs) (filter p xs))) [
+      | true ↦ IsDistinct-cons same_bytes x (filter p xs) (all_left p x xs (IsDistinct-head same_bytes x xs d)) rest
+      | false ↦ rest
+    ]
+
+same_names : (x y : List ℕ) → same_bytes x y ≡ true → x ≡ y
+same_names x y h = tied nat_list_cmp_total name_same x y h
+
+and_both : (a b : Bool) → a ≡ true → b ≡ true → (a && b) ≡ true
+and_both true b h k = k
+and_both false b h k = h
+
+module _ (f : FontValue) (a : Names) (ns : List (List ℕ)) (i : ℕ) (k : ClosureSoFar profile f a ns i) where
+  is_kept : (q : List ℕ) → list_any (same_bytes q) ns ≡ true → list_any (same_bytes q) (kept_names f a) ≡ true
+  is_kept q m =
+      any_filtered nat_list_cmp_total name_same (sets.contains (keep profile f a)) q (names_in f.glyphs)
+      ∙ and_both _ _ (keep_from profile f a q (k.inside q m) (λ s o c. k.least s o c q m)) (sym (maps.contains_key-keys f.glyphs q) ∙ k.inside q m)
+
+  -- a closure so far costs no more than what is kept
+  pub closure_costs : (g : List ℕ → ℕ) → sum_by g ns ≤ sum_by g (kept_names f a)
+  closure_costs g = sum_inside (eq_by_cmp_equiv nat_list_cmp_total) same_names g ns (kept_names f a) k.distinct is_kept
+
+  -- and at its end no less
+  closure_covers : length ns ≤ i → (g : List ℕ → ℕ) → sum_by g (kept_names f a) ≤ sum_by g ns
+  closure_covers end g =
+      let all : sets.from_list ns ≡ keep profile f a = closure_end profile f a ns i k end in
+      sum_inside (eq_by_cmp_equiv nat_list_cmp_total) same_names g (kept_names f a) ns
+      (left_apart (sets.contains (keep profile f a)) (names_in f.glyphs) (names_apart f.glyphs))
+      (λ q m. in_list nat_list_cmp_total name_same ns q
+      (ap (λ (s : Names). sets.contains s q) all ∙ (any_filter nat_list_cmp_total name_same (sets.contains (keep profile f a)) q (names_in f.glyphs) m).1))
+
+  -- so what was taken for its names was taken for those that are kept
+  pub closure_takes : length ns ≤ i → (old new : Option ℕ) → Takes (sum_by (longer_tokens f) (take i ns)) (sum_by (glyph_tokens f) (take i ns)) old new →
+      Takes (kept_longer f a) (kept_tokens f a) old new
+  closure_takes end old new h =
+      let whole : Takes (sum_by (longer_tokens f) ns) (sum_by (glyph_tokens f) ns) old new =
+      subst (λ (ms : List (List ℕ)). Takes (sum_by (longer_tokens f) ms) (sum_by (glyph_tokens f) ms) old new) (take_all i ns end) h in
+      takes_wider (sum_by (longer_tokens f) ns) (sum_by (glyph_tokens f) ns) (kept_longer f a) (kept_tokens f a) old new
+      (closure_covers end (longer_tokens f)) (closure_costs (glyph_tokens f)) whole
+
+  -- if too little is left for the next name, there was too little for those that are kept
+  pub closure_refused : (n : List ℕ) → i < length ns → get_or ns i n ≡ n → (least : ℕ) (old mid : Option ℕ) →
+      Takes least (sum_by (glyph_tokens f) (take i ns)) old mid → HasFewer mid (glyph_tokens f n) → HasFewer old (kept_tokens f a)
+  closure_refused n l at least old mid h fewer =
+      let part : sum_by (glyph_tokens f) (take (i + 1) ns) ≤ sum_by (glyph_tokens f) ns = sum_by-take-le (glyph_tokens f) ns (i + 1) in
+      let whole : sum_by (glyph_tokens f) ns ≤ kept_tokens f a = closure_costs (glyph_tokens f) in
+      refused_on (glyph_tokens f) least (take i ns) (take (i + 1) ns) n (kept_tokens f a) old mid
+      (take_more ns i n l ∙ ap (λ (x : List ℕ). take i ns ++ x ∷ []) at) (omega (arith, part, whole)) h fewer
+
+-- one name more of a closure
+pub closure_more : (f : FontValue) (ns found : List (List ℕ)) (i : ℕ) (n : List ℕ) → i < length ns → get_or ns i n ≡ n → (old mid new : Option ℕ) →
+    Takes (sum_by (longer_tokens f) (take i ns)) (sum_by (glyph_tokens f) (take i ns)) old mid → Takes (longer_tokens f n) (glyph_tokens f n) mid new →
+    Takes (sum_by (longer_tokens f) (take (i + 1) (push_all ns found))) (sum_by (glyph_tokens f) (take (i + 1) (push_all ns found))) old new
+closure_more f ns found i n l at old mid new h k =
+    takes_more (glyph_tokens f) (longer_tokens f) (take i ns) (take (i + 1) (push_all ns found)) n old mid new
+    (all_front (i + 1) found ns (omega (arith, l)) ∙ take_more ns i n l ∙ ap (λ (x : List ℕ). take i ns ++ x ∷ []) at) h k
+
+-- ---- parts of lists
+
+-- the first few of some cost no more than all
+pub sum_taken : {X Y : Type 0} (h : X → Y) (g : Y → ℕ) (i : ℕ) (xs : List X) → sum_by g (map h (take i xs)) ≤ sum_by g (map h xs)
+sum_taken h g i xs =
+    let whole : sum_by g (map h xs) ≡ sum_by g (map h (take i xs)) + sum_by g (map h (drop i xs)) =
+    ap (λ ys. sum_by g (map h ys)) (sym (take-append-drop i xs)) ∙ ap (sum_by g) (map-append h (take i xs) (drop i xs))
+    ∙ sum_by-append g (map h (take i xs)) (map h (drop i xs)) in
+    omega (arith, whole)
+
+module _ {X : Type 0} (g : X → ℕ) (xs : List X) (i : ℕ) (x : X) (l : i < length xs) (at : x ≡ get_or xs i x) where
+  one_more : take (i + 1) xs ≡ take i xs ++ x ∷ []
+  one_more = take_more xs i x l ∙ ap (λ (y : X). take i xs ++ y ∷ []) (sym at)
+
+  -- the next of a list takes its part
+  pub list_takes : (old mid new : Option ℕ) → Takes 0 (sum_by g (take i xs)) old mid → Takes 0 (g x) mid new → Takes 0 (sum_by g (take (i + 1) xs)) old new
+  list_takes old mid new h k = takes_on g (take i xs) (take (i + 1) xs) x old mid new one_more h k
+
+  -- too little is left for the next of a list
+  pub list_refused : (old mid : Option ℕ) → Takes 0 (sum_by g (take i xs)) old mid → HasFewer mid (g x) → HasFewer old (sum_by g xs)
+  list_refused old mid h k = refused_on g 0 (take i xs) (take (i + 1) xs) x (sum_by g xs) old mid one_more (sum_by-take-le g xs (i + 1)) h k

@@ -1,0 +1,62 @@
+-- The tokens that the glyphs of fonts execute, and what calls within a budget of tokens answer.
+use Rattle.std.specs.{Prelude.{◌≡◌, ◌⊎◌, ◌≤◌, ℕ, List, filter, Option, Some, None, Result, Ok, Err, MatchResult}, List.{sum_by, AllByRecursion}}
+use Rattle.t1_run.specs.{declared.budget.Stop.{Stop}, Budgets.{tokens_of_longer, tokens_of_both}}
+use Rattle.t1_font.specs.{FontValue.{FontValue, names_in}, IsFont.{IsFont}}
+use Rattle.t1_algebra.specs.{Interpreter.{Names}, Keep.{charstring, keep}, Profile.{profile}, Merges.{ComesTo}}
+use Rattle.t1_subset.specs.{declared.budgets.BudgetFault.{BudgetFault}, declared.budgets.BudgetFault.TheVariants.{TooManyTokens, Plain}}
+use Rattle.t1_subset.specs.{declared.conflict.Conflict.{Conflict}, declared.conflict.Conflict.TheVariants.{Memory}, Merger.{NotMerged}}
+use Rattle.t1_run.specs.declared.budget.Stop.TheVariants as stop
+use Rattle.std.specs.FinMap as maps
+use Rattle.std.specs.FinSet as sets
+
+-- The tokens that the longer of both runs of a glyph executes, where hints are replaced and where they are kept.
+unfoldable pub longer_tokens : FontValue → List ℕ → ℕ
+longer_tokens f n = tokens_of_longer (maps.get f.subrs) (charstring f n)
+
+-- The tokens that both of its runs execute.
+unfoldable pub glyph_tokens : FontValue → List ℕ → ℕ
+glyph_tokens f n = tokens_of_both (maps.get f.subrs) (charstring f n)
+
+-- The tokens that both runs of all glyphs of a font execute.
+abbrev pub font_tokens : FontValue → ℕ
+font_tokens f = sum_by (glyph_tokens f) (names_in f.glyphs)
+
+-- The tokens that both runs of all glyphs of all these fonts execute.
+abbrev pub fonts_tokens : List FontValue → ℕ
+fonts_tokens fs = sum_by font_tokens fs
+
+-- The names of a font's glyphs that a set of names keeps.
+abbrev pub kept_names : FontValue → Names → List (List ℕ)
+kept_names f asked = filter (sets.contains (keep profile f asked)) (names_in f.glyphs)
+
+-- The tokens that the longer run of each glyph that is kept executes.
+abbrev pub kept_longer : FontValue → Names → ℕ
+kept_longer f asked = sum_by (longer_tokens f) (kept_names f asked)
+
+-- The tokens that both runs of each glyph that is kept execute.
+abbrev pub kept_tokens : FontValue → Names → ℕ
+kept_tokens f asked = sum_by (glyph_tokens f) (kept_names f asked)
+
+-- So many tokens are allowed.
+abbrev pub IsEnough : Option ℕ → ℕ → Type 0
+IsEnough None tokens = Unit {0}
+IsEnough (Some left) tokens = tokens ≤ left
+
+-- What a call answers without a budget is so.
+abbrev pub OnPlain : {A E : Type 0} → Result A (BudgetFault E) → (Result A E → Type 0) → Type 0
+OnPlain (Ok a) P = P (Ok a)
+OnPlain (Err (Plain e)) P = P (Err e)
+OnPlain (Err TooManyTokens) P = Unit {0}
+
+-- Why a call has no answer where a run stopped: too many tokens, or its own want of memory.
+abbrev pub stopped : {E : Type 0} → Stop → E → BudgetFault E
+stopped stop.TooManyTokens memory = TooManyTokens
+stopped stop.Memory memory = Plain memory
+
+-- What one or more fonts come to, or why they don't merge.
+abbrev pub IsMergerOf : List FontValue → Result FontValue Conflict → Type 0
+IsMergerOf fs r = MatchResult r (λ j. ComesTo fs j) (λ e. NotMerged fs e)
+
+-- The same of a list of fonts, all of which are fonts, or a growth was refused.
+abbrev pub IsMergerOfFonts : List FontValue → Result FontValue Conflict → Type 0
+IsMergerOfFonts fs r = IsMergerOf fs r × ((r ≡ Err Memory) ⊎ AllByRecursion IsFont fs)

@@ -1,0 +1,52 @@
+//! Why a call within a budget of tokens has no answer.
+
+ghost use Rattle.std.specs.Prelude.{◌≡◌};
+ghost use Rattle.t1_subset.specs.Budgets.{stopped};
+ghost use Rattle.t1_subset.specs.declared.conflict.Conflict.TheVariants as conflict;
+ghost use Rattle.t1_subset.specs.declared.fault.SubsetFault.TheVariants as subset;
+ghost use Rattle.t1_subset.specs.declared.fault.RejoinFault.TheVariants.{Merge};
+ghost use Rattle.t1_subset.specs.declared.budgets.BudgetFault.TheVariants.{Plain};
+
+use crate::conflict::Conflict;
+use crate::fault::{RejoinFault, SubsetFault};
+use std::alloc::AllocError;
+use t1_run::Stop;
+
+/// Why a call within a budget of tokens has no answer.
+#[derive(PartialEq, Eq, Debug, Drop)]
+pub enum BudgetFault<E> {
+    /// The runs of the glyphs execute more tokens than the budget has.
+    TooManyTokens,
+    /// What the call answers without a budget.
+    Plain(E),
+}
+
+impl From<Stop> for BudgetFault<SubsetFault> {
+    ghost from_gives = { λ stop e. e ≡ stopped stop subset.Memory };
+
+    fn from(stop: Stop) -> BudgetFault<SubsetFault> {
+        match stop {
+            Stop::TooManyTokens => BudgetFault::TooManyTokens,
+            Stop::Memory => BudgetFault::Plain(SubsetFault::Memory),
+        }
+    }
+}
+
+impl From<Stop> for BudgetFault<RejoinFault> {
+    ghost from_gives = { λ stop e. e ≡ stopped stop (Merge conflict.Memory) };
+
+    fn from(stop: Stop) -> BudgetFault<RejoinFault> {
+        match stop {
+            Stop::TooManyTokens => BudgetFault::TooManyTokens,
+            Stop::Memory => BudgetFault::Plain(RejoinFault::Merge(Conflict::Memory)),
+        }
+    }
+}
+
+impl From<AllocError> for BudgetFault<RejoinFault> {
+    ghost from_gives = { λ _ e. e ≡ Plain (Merge conflict.Memory) };
+
+    fn from(_fault: AllocError) -> BudgetFault<RejoinFault> {
+        BudgetFault::Plain(RejoinFault::Merge(Conflict::Memory))
+    }
+}
