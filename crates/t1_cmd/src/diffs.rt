@@ -90,7 +90,13 @@ pub fn diff_files(alloc: Global, first: &[u8], second: &[u8]) -> Result<Vec<u8>,
         (RefusesFiles font_input DiffersBy (first.now ∷ second.now ∷ [])) }
 {
     let left = source_at(alloc, 0, first)?;
-    let right = source_at(alloc, 1, second)?;
+    let right = match source_at(alloc, 1, second) {
+        Ok(right) => right,
+        Err(refusal) => {
+            drop(left);
+            return Err(refusal);
+        }
+    };
     match diff_text(alloc, &left, &right) {
         Ok(text) => Ok(text),
         Err(_) => Err(FilesRefusal {

@@ -15,6 +15,7 @@ ghost use Rattle.t1_cmd.specs.Inputs.{input_of};
 ghost use Rattle.t1_cmd.specs.Runs.{RunEnds, Succeeds};
 ghost use Rattle.t1_cmd.specs.Answers.{Prints, MayRefuse};
 ghost use Rattle.t1_cmd.specs.Fonts.{font_input, of_file};
+ghost use Rattle.t1_cmd.specs.DrawingText.{fault_line};
 ghost use Rattle.t1_cmd.specs.FullText.{name_goes_on, behind_or, text_behind, behind_clear, value_byte, value_text, opens, closes_name, value_at, past_white, value_line};
 ghost use Rattle.t1_cmd.specs.FullText.{first_some, clear_line, unique_line, dictionary_lines, width_told, width_line, full_answer};
 
@@ -27,7 +28,7 @@ use crate::words::{FontWord, Taking, run_word, text_of_bytes};
 use std::alloc::{AllocError, Global};
 use std::io::{Read, Write};
 use t1_bytes::texts::fixed_at;
-use t1_font::{Font, Layout, Part, lay_out};
+use t1_font::{DrawFault, Font, Layout, Part, lay_out};
 
 // ---- what the dictionary says
 
@@ -241,6 +242,15 @@ fn push_dictionary(alloc: Global, out: &mut Vec<u8>, font: &Font<'_>) -> Result<
 
 // ---- widths
 
+// Why a glyph can't be drawn, behind its name.
+fn push_fault(alloc: Global, out: &mut Vec<u8>, fault: DrawFault) -> Result<(), AllocError>
+    ensures { OnOk result (out.new.items ≡ out.old.items ++ (32 ∷ fault_line fault)) }
+{
+    let text = fault_text(alloc, fault)?;
+    out.push(b' ')?;
+    out.extend_from_slice(text.as_slice())
+}
+
 // How wide a glyph is, behind its name, or why it can't be drawn.
 fn push_told(
     alloc: Global,
@@ -251,14 +261,11 @@ fn push_told(
     ensures { OnOk result (out.new.items
         ≡ out.old.items ++ width_told (draw (subr_at font.now) (fin.get font.now.glyphs) name.now)) }
 {
-    match lay_out(alloc, font, name)? {
-        Layout::Drawn { width, .. } => push_line(alloc, out, b"", &[width.x, width.y]),
-        Layout::Failed(fault) => {
-            let text = fault_text(alloc, fault)?;
-            out.push(b' ')?;
-            out.extend_from_slice(text.as_slice())
-        }
-    }
+    let width = match lay_out(alloc, font, name)? {
+        Layout::Drawn { width, .. } => width,
+        Layout::Failed(fault) => return push_fault(alloc, out, fault),
+    };
+    push_line(alloc, out, b"", &[width.x, width.y])
 }
 
 fn push_width(
