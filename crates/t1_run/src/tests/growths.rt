@@ -6,8 +6,8 @@ use crate::tests::executes::are;
 use crate::tests::fonts::GlyphFont;
 use crate::tests::layouts::{Letters, trace_glyph};
 use crate::{
-    Called, Direct, Drawing, direct, direct3, draw, draw3, executed, parts_and_executed,
-    standard_name,
+    Budget, Called, Direct, Drawing, Stop, direct, direct3, draw, draw3, executed,
+    parts_and_executed, parts_and_executed_within, standard_name,
 };
 use std::alloc::{AllocError, Global};
 use std::test::Fail;
@@ -91,6 +91,17 @@ fn asks_right(alloc: Global, font: &GlyphFont<'_>) -> Result<bool, AllocError> {
     )
 }
 
+// Whether the parts of an accented glyph are named within a budget that is enough.
+fn within_right(alloc: Global, font: &GlyphFont<'_>) -> Result<bool, AllocError> {
+    let mut called = Called::new(alloc);
+    let mut budget = Budget { left: Some(1000) };
+    match parts_and_executed_within(alloc, font, &SEAC, &mut called, &mut budget) {
+        Ok(names) => Ok(names.len() == 4),
+        Err(Stop::Memory) => Err(AllocError),
+        Err(Stop::TooManyTokens) => Ok(false),
+    }
+}
+
 // Whether all of these calls answer right.
 fn answers_right(alloc: Global) -> Result<bool, AllocError> {
     let font = GlyphFont::new(alloc, &[], &[], None)?;
@@ -99,6 +110,7 @@ fn answers_right(alloc: Global) -> Result<bool, AllocError> {
             && executes_right(alloc, &font)?
             && runs_twice_right(alloc, &font)?
             && asks_right(alloc, &font)?
+            && within_right(alloc, &font)?
             && draws_right(alloc, &font)?
             && traces_right(alloc, &font)?,
     )

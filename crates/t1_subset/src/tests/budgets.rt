@@ -11,14 +11,14 @@ use std::test::Fail;
 
 /// How a call is answered: by a font, by too many tokens, or by what it refuses without a budget.
 #[derive(Clone, Copy, PartialEq, Eq, Debug)]
-enum Answer {
+pub(super) enum Answer {
     Made,
     TooMany,
     Refused,
 }
 
 /// How the font of a file is cut to these names.
-fn cut_within(
+pub(super) fn cut_within(
     alloc: Global,
     file: &[u8],
     names: &[&[u8]],
@@ -38,7 +38,11 @@ fn cut_within(
 }
 
 /// How the fonts of files are merged.
-fn merged_within(alloc: Global, files: &[&[u8]], left: Option<u64>) -> Result<Answer, AllocError> {
+pub(super) fn merged_within(
+    alloc: Global,
+    files: &[&[u8]],
+    left: Option<u64>,
+) -> Result<Answer, AllocError> {
     let files = sources(alloc, files)?;
     let fonts = fonts_of(alloc, files.as_slice())?;
     match merge_all_within(alloc, fonts.as_slice(), Budget { left }) {
@@ -50,7 +54,7 @@ fn merged_within(alloc: Global, files: &[&[u8]], left: Option<u64>) -> Result<An
 }
 
 /// How the fonts of files are rejoined.
-fn rejoined_within(
+pub(super) fn rejoined_within(
     alloc: Global,
     files: &[&[u8]],
     left: Option<u64>,

@@ -1,6 +1,7 @@
 //! Each call that grows, over a small font. `tools/sweep_growths.py` refuses one growth after the other: a call that then
 //! answers want of memory answers right when it is made again. `None` is another refusal, which is wrong.
 
+use super::budgets::{Answer, cut_within, merged_within, rejoined_within};
 use super::differences::differences;
 use super::fonts::whole;
 use super::lacks::{EIGHT, FIVE, WHOLE, differing_in, lack_in, lacking, rejoined};
@@ -166,9 +167,24 @@ fn conflicts_answer_right(alloc: Global) -> Result<bool, AllocError> {
     Ok(told.as_slice() == b"glyph A differs\nglyph B differs\n".as_slice())
 }
 
+/// Whether a font is cut, and two are merged and rejoined, within a budget that is enough.
+fn budgets_answer_right(alloc: Global) -> Result<bool, AllocError> {
+    let file = whole(alloc)?;
+    let files = [file.as_slice(), file.as_slice()];
+    let cut = cut_within(alloc, file.as_slice(), &[b"X"], Some(1000))?;
+    let merged = merged_within(alloc, &files, Some(1000))?;
+    let rejoined = rejoined_within(alloc, &files, Some(1000))?;
+    Ok(cut == Answer::Made && merged == Answer::Made && rejoined == Answer::Made)
+}
+
 /// Whether each call answers right.
 fn all_answer_right(alloc: Global) -> Result<bool, AllocError> {
-    Ok(answers_right(alloc)? && lists_answer_right(alloc)? && conflicts_answer_right(alloc)?)
+    Ok(
+        answers_right(alloc)?
+            && lists_answer_right(alloc)?
+            && conflicts_answer_right(alloc)?
+            && budgets_answer_right(alloc)?,
+    )
 }
 
 // meets states Ok at 10 glyphs
