@@ -139,7 +139,7 @@ fn merge_list<'a>(
     merge_lent(alloc, lent.as_slice(), budget)
 }
 
-/// The same as [`merge_all`] within a budget: no more tokens are executed in all than are left in it, and it is refused with
+/// The same as [`merge_all`] within a budget, out of which each run takes its tokens. It is refused with
 /// [`BudgetFault::TooManyTokens`] only if the runs of all glyphs of all fonts execute more. Each glyph is run once, or twice if the
 /// two answers after OtherSubr 3 lead to different runs, or not at all if the one before it has the same charstring; no glyph is run
 /// if the shells of the first two fonts differ. Else it answers what [`merge_all`] answers.

@@ -165,7 +165,7 @@ fn merge_filled<'a>(
     }
 }
 
-/// The same as [`rejoin`] within a budget: no more tokens are executed in all than are left in it, and it is refused with
+/// The same as [`rejoin`] within a budget, out of which each run takes its tokens. It is refused with
 /// [`BudgetFault::TooManyTokens`] only if the runs of all glyphs of all fonts, as they are before they are filled, execute more. Each
 /// glyph is run once, or twice if the two answers after OtherSubr 3 lead to different runs, or not at all if the one before it has the
 /// same charstring. Else it answers what [`rejoin`] answers.
