@@ -15,9 +15,10 @@
  * is that thread's alone. So any number of threads may call at once, each with an answer of its own.
  *
  * Memory and time: if the heap refuses a growth, the call returns T1SUBSET_MEMORY, and nothing is held. The calls that
- * were measured took at most eight times their files and 2 MB. A font of 1 MB can be made so that merge and rejoin run
- * for minutes: a service that opens files of strangers should limit the time of a call from outside, for instance in a
- * process of its own.
+ * were measured took at most eight times their files and 2 MB. A font of 1 MB can be made so that a call that runs its
+ * glyphs takes minutes. subset_within, merge_within, rejoin_within and diff_within bound what is run, without a clock;
+ * list_full, pool, pool_tags, level and fonts have no such limit: a service that opens files of strangers should limit the
+ * time of these from outside, for instance in a process of its own.
  *
  * On x86-64 the library needs a processor of the level x86-64-v2 (nearly all since 2009), and doesn't look for it.
  *
@@ -51,6 +52,15 @@ typedef struct t1subset_answer {
 /* An answer that holds nothing: t1subset_answer answer = T1SUBSET_ANSWER; */
 #define T1SUBSET_ANSWER { 0, -1, { (const uint8_t *) "", 0 } }
 
+/* What the calls whose names end in _within may do at most. Their pointer to it is not NULL. */
+typedef struct t1subset_limits {
+    uint64_t tokens;        /* how many tokens may be executed in all: numbers and commands of charstrings, each as often as
+                               it is executed, in Subrs too */
+} t1subset_limits;
+
+/* No limit: t1subset_limits limits = T1SUBSET_LIMITS; */
+#define T1SUBSET_LIMITS { UINT64_MAX }
+
 /* The form of the file that is written. */
 enum t1subset_form {
     T1SUBSET_PFA = 0,       /* text, with the cipher in hexadecimal: what a PostScript document contains */
@@ -67,6 +77,7 @@ enum t1subset_number {
     T1SUBSET_NO_GLYPH = 4,              /* "no glyph NAME": the first name that the font lacks */
     T1SUBSET_NO_CODE = 5,               /* "no code N": the first code for which the Encoding has no name; told before names */
     T1SUBSET_NO_FONT = 6,               /* "no font NAME": no document has a font of this name */
+    T1SUBSET_TOO_MANY_TOKENS = 7,       /* "too many tokens": more than the limits allow; told after names, mostly before conflicts */
 
     /* A file spells no font. answer->input is its place. Offsets count from 0: in the file for a segment, in the clear
      * text for the Encoding, else in the decrypted private text. */
@@ -163,9 +174,29 @@ uint32_t t1subset_merge(const t1subset_bytes *fonts, size_t count, uint32_t form
  * Subrs declares as many). */
 uint32_t t1subset_rejoin(const t1subset_bytes *fonts, size_t count, uint32_t form, t1subset_answer *answer);
 
+/* t1subset_subset_codes within limits: what it answers, or T1SUBSET_TOO_MANY_TOKENS. This comes only if the runs of all glyphs that
+ * are kept execute more tokens in all, those where hints are replaced and those where they are kept. */
+uint32_t t1subset_subset_within(const uint8_t *font, size_t size, const t1subset_bytes *names, size_t count,
+                                const uint8_t *codes, size_t codes_size, uint32_t form, const t1subset_limits *limits,
+                                t1subset_answer *answer);
+
+/* t1subset_merge within limits, likewise of all glyphs of all fonts. If the shells of the first two fonts differ, that is told, and
+ * no glyph is run; any other conflict is told only where the tokens are not too many. */
+uint32_t t1subset_merge_within(const t1subset_bytes *fonts, size_t count, uint32_t form, const t1subset_limits *limits,
+                               t1subset_answer *answer);
+
+/* t1subset_rejoin within limits, likewise of all glyphs of all fonts. */
+uint32_t t1subset_rejoin_within(const t1subset_bytes *fonts, size_t count, uint32_t form, const t1subset_limits *limits,
+                                t1subset_answer *answer);
+
 /* Lines that tell all conflicts of two fonts, each with the text of the refusal of t1subset_merge, the lowest first; none exactly if
  * the fonts merge. */
 uint32_t t1subset_diff(const uint8_t *first, size_t first_size, const uint8_t *second, size_t second_size, t1subset_answer *answer);
+
+/* t1subset_diff within limits: what it answers, or T1SUBSET_TOO_MANY_TOKENS, likewise of all glyphs of both fonts. These are run
+ * first, so that this refusal comes before all conflicts. */
+uint32_t t1subset_diff_within(const uint8_t *first, size_t first_size, const uint8_t *second, size_t second_size,
+                              const t1subset_limits *limits, t1subset_answer *answer);
 
 /* The join of two listings, texts of lines "S INDEX HEX" and "G NAME HEX". */
 uint32_t t1subset_join(const uint8_t *first, size_t first_size, const uint8_t *second, size_t second_size, t1subset_answer *answer);

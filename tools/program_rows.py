@@ -323,6 +323,45 @@ REFUSED_CODES = [
 ]
 
 
+def rows_of_limits():
+    """Words that limit the tokens that glyphs execute: .notdef 4, and A and B 9 each, by either answer to hint replacement."""
+    one, whole, most = small_font(b"Small", [STUB] * 4 + [ACROSS, STUB], {b"A": 4}), files()["whole.font"], "18446744073709551615"
+    for tokens, made in (("0", None), ("12", None), ("26", one), (most, one)):
+        for words in (["subset", "whole.font", "out", "A"], ["subset", "whole.font", "out", "--codes", "65"]):
+            yield limited([*words, "--tokens", tokens], made)
+    for tokens, made in (("0", None), ("21", None), ("44", whole), (most, whole)):
+        yield limited(["merge", "--tokens", tokens, "out", "whole.font"], made)
+        yield limited(["merge", "out", "whole.font", "--pfb", "--tokens=" + tokens], made and as_pfb(made))
+    for tokens, made in (("0", None), ("25", None), ("52", whole), (most, whole)):
+        yield limited(["rejoin", "--tokens", tokens, "out", "one.cut", "two.cut"], made)
+    encodings = b"shells differ in encoding\n"
+    for tokens, found in (("0", None), ("43", None), ("88", b""), (most, b"")):
+        yield compared(["diff", "--tokens", tokens, "whole.font", "whole.font"], found)
+        yield compared(["diff", "whole.font", "coded.font", "--tokens=" + tokens], found if found is None else encodings)
+    yield Row(["subset", "--tokens", "0", "whole.font", "old", "Zed"], 1, b"", b"refused: no glyph Zed\n")
+    yield Row(["subset", "--tokens", "0", "whole.font", "old", "--codes", "128"], 1, b"", b"refused: no code 128\n")
+    yield Row(["merge", "--tokens", "0", "old", "one.cut", "other.cut"], 1, b"", b"refused: shells differ in head\n")
+    for word in ("merge", "rejoin"):
+        yield Row([word, "--tokens", "0", "old", "one.cut", "no.font"], 1, b"", b"refused: no eexec\n")
+        yield Row([word, "--tokens", "0", "old", "one.cut", "absent"], 3, b"", b"failed: read\n")
+    for words in (["one.cut", "no.font"], ["no.font", "one.cut"]):
+        yield Row(["diff", "--tokens", "0", *words], 1, b"", b"refused: no eexec\n")
+    yield Row(["diff", "--tokens", "0", "one.cut", "absent"], 3, b"", b"failed: read\n")
+    for tokens in (["-1"], ["many"], [""], ["1e6"], ["18446744073709551616"], []):
+        yield Row(["merge", "out", "one.cut", "--tokens", *tokens], 2, b"", SOME)
+        yield Row(["diff", "one.cut", "one.cut", "--tokens", *tokens], 2, b"", SOME)
+
+
+def limited(words, made):
+    """The row of words that make this file, or that allow too few tokens."""
+    return Row(words, 0, b"", b"", {"out": made}) if made else Row(words, 1, b"", b"refused: too many tokens\n")
+
+
+def compared(words, found):
+    """The row of words that print these conflicts, or that allow too few tokens."""
+    return Row(words, 1, b"", b"refused: too many tokens\n") if found is None else Row(words, int(found != b""), found)
+
+
 def rows_of_rejoined():
     """Subsets that other programs cut."""
     both = small_font(b"Small", [STUB] * 4 + [ACROSS, UP], {b"A": 4, b"B": 5})
@@ -458,4 +497,4 @@ def rows_of_listings():
 
 def all_rows(given):
     rows = [*rows_of_words(), *rows_of_fonts(), *rows_of_full(), *rows_of_several(), *rows_of_explained(), *rows_of_outputs(given)]
-    return [*rows, *rows_of_names(), *rows_of_codes(), *rows_of_rejoined(), *rows_of_pooled(), *rows_of_levelled(), *rows_of_listed_fonts(), *rows_of_mended(), *rows_of_differences(), *rows_of_listings()]
+    return [*rows, *rows_of_names(), *rows_of_codes(), *rows_of_limits(), *rows_of_rejoined(), *rows_of_pooled(), *rows_of_levelled(), *rows_of_listed_fonts(), *rows_of_mended(), *rows_of_differences(), *rows_of_listings()]

@@ -87,6 +87,30 @@ def listings():
     yield "listed_glyph_differs", b"G A 0b\n", b"G A 0e\n"
 
 
+def limited(good):
+    """Words that allow fewer tokens than a font's glyphs execute, of which .notdef has 4 and A has 6; and what is told before them."""
+    for words in (["merge", "out", "good"], ["rejoin", "out", "good"], ["subset", "good", "out", "A"], ["subset", "good", "out", "--codes", "65"]):
+        for tokens in ("0", "9"):
+            yield "too_many_tokens", [*words, "--tokens", tokens], {"good": good}
+    for word in ("merge", "rejoin"):
+        yield "too_many_tokens", [word, "out", "good", "good", "--tokens", "19"], {"good": good}
+        yield "no_eexec", [word, "out", "good", "bad", "--tokens", "0"], {"good": good, "bad": b"%!\n"}
+    for tokens in ("0", "19"):
+        yield "too_many_tokens", ["diff", "good", "good", "--tokens", tokens], {"good": good}
+    for words in (["diff", "good", "bad"], ["diff", "bad", "good"]):
+        yield "no_eexec", [*words, "--tokens", "0"], {"good": good, "bad": b"%!\n"}
+    yield "no_eexec", ["subset", "bad", "out", "A", "--tokens", "0"], {"bad": b"%!\n"}
+    yield "no_glyph", ["subset", "good", "out", "A", "B", "--tokens", "0"], {"good": good}
+    yield "no_code", ["subset", "good", "out", "--codes", "66", "B", "--tokens", "0"], {"good": good}
+    for name, one, other in pairs():
+        files = {"one": one, "other": other}
+        if name.startswith("part_"):
+            yield name, ["merge", "out", "one", "other", "--tokens", "0"], files
+        if len(one) < 100000:
+            yield name, ["merge", "out", "one", "other", "--tokens", "1000"], files
+            yield "too_many_tokens", ["diff", "one", "other", "--tokens", "0"], files
+
+
 def rows():
     """The name of the number, the words, and the files that they name."""
     good = made()
@@ -109,3 +133,4 @@ def rows():
     yield "no_glyph", ["subset", "good", "out", "A", "B", "C"], {"good": good}
     yield "no_glyph", ["show", "good", "B"], {"good": good}
     yield "no_code", ["subset", "good", "out", "B", "--codes", "65,200,66"], {"good": good}
+    yield from limited(good)

@@ -18,7 +18,7 @@ import tempfile
 from concurrent.futures import ThreadPoolExecutor
 
 from common import BUILDS, EEXEC, TINY, TINY_PFB, TOP, bytes_of, ciphered, compiler, example, put, segments, text_of
-from test_answers import calls
+from test_answers import calls, stand_over
 
 PROGRAM = BUILDS[0]
 CRATES = ["t1_bytes", "t1_char", "t1_run", "t1_join", "t1_font", "t1_document", "t1_subset", "t1_example", "t1_cmd"]
@@ -254,7 +254,9 @@ def built_tests(crate):
 
 def sweep_crate(shim, crate):
     """How many runs a crate's tests took."""
-    lacking = sorted({call.split("::")[-1] for call, _ in calls(crate)} - called_in(crate))
+    called = called_in(crate)
+    called |= {below for name, below in stand_over(crate) if name in called}
+    lacking = sorted({call.split("::")[-1] for call, _ in calls(crate)} - called)
     if lacking:
         sys.exit(f"{crate}: no test of growths calls {', '.join(lacking)}")
     runs = 0

@@ -11,7 +11,7 @@ CALL is a function or `Type::method`, ANSWER is `Ok`, `Some` or `None`, or a var
 second form says that the lines above it hold for other calls, too. This script reads the calls, the variants and the
 constants from the code, and these lines from the tests. It wants for each call each of its answers; for each call a size of
 at most 100 and one that is large; and a size beyond each constant with which code chooses between two ways, for each call
-that comes there. A size above 100 has to stand in the test's file, as a number or as the value of a constant of the code
+that comes there. A call that answers by another of its name behind which `_within` stands meets for both. A size above 100 has to stand in the test's file, as a number or as the value of a constant of the code
 that the file names. A constant of the code that is not told of here is a fault, so that a new one is.
 
 usage: tools/test_answers.py
@@ -52,6 +52,10 @@ REFUSALS = {
     "run_merge": [READS, "Conflict"],
     "run_rejoin": [READS, "Lacks", "Conflict"],
     "run_diff": [READS],
+    "run_subset_within": [READS, "NoCode", "NoGlyph", "TooManyTokens"],
+    "run_merge_within": [READS, "TooManyTokens", "Conflict"],
+    "run_rejoin_within": [READS, "TooManyTokens", "Lacks", "Conflict"],
+    "run_diff_within": [READS, "TooManyTokens"],
     "run_pool": ["TooLong"],
     "run_level": ["TooLong"],
     "run_fonts": ["TooLong"],
@@ -68,6 +72,10 @@ REFUSALS = {
     "merge_files": [READS, "Conflict"],
     "rejoin_files": [READS, "Lacks", "Conflict"],
     "diff_files": [READS],
+    "subset_file_within": [READS, "NoCode", "NoGlyph", "TooManyTokens"],
+    "merge_files_within": [READS, "TooManyTokens", "Conflict"],
+    "rejoin_files_within": [READS, "TooManyTokens", "Lacks", "Conflict"],
+    "diff_files_within": [READS, "TooManyTokens"],
     "pool_files": ["TooLong"],
     "level_files": ["TooLong"],
     "list_fonts": ["TooLong"],
@@ -242,9 +250,23 @@ def told(crate, wrong):
     return met
 
 
+def stand_over(crate):
+    """The calls of a crate that answer by one within a budget, with that one."""
+    for path in sources(crate):
+        for name, body in re.findall(r"^pub fn (\w+).*?^\{\n(.*?)^\}", text_of(path), re.M | re.S):
+            for below in set(re.findall(r"\b(\w+_within)\(", body)):
+                yield name, below
+
+
 def check(crate, enums, wrong):
     """How many answers the tests of a crate meet; what is wrong is added."""
     met = told(crate, wrong)
+    known = {call for call, _ in calls(crate)}
+    for name, below in stand_over(crate):
+        if below not in known:
+            continue
+        for answer, sizes in met.get(name, {}).items():
+            met.setdefault(below, {}).setdefault(answer, set()).update(sizes)
     count = 0
     for call, answer in calls(crate):
         wanted = answers_of(crate, call, answer, enums)
@@ -264,7 +286,6 @@ def check(crate, enums, wrong):
                 wrong.append(f"{crate}: no test takes {call} beyond {name}, {value}")
         if f"{crate}/{name}" not in THRESHOLDS and name not in FIXED.get(crate, []):
             wrong.append(f"{crate}: {name} is a new constant: see tools/test_answers.py")
-    known = {call for call, _ in calls(crate)}
     wrong += [f"{crate}: {call} is no public call" for call in sorted(met.keys() - known) if "::" not in call and call not in MORE]
     return count
 

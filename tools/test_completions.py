@@ -30,7 +30,7 @@ def rows(font):
     yield ["su"], "subset"
     yield ["help", "re"], "rejoin"
     yield ["merge", "--p"], "--pfb"
-    yield ["subset", "--"], "--explain --names --codes --text --pfb --help"
+    yield ["subset", "--"], "--explain --names --codes --text --tokens --pfb --help"
     yield ["subset", "--codes", "65", "--text", "x", TINY, "out", "a"], "acute"
     yield ["subset", "--names", ""], ""
     yield ["subset", ""], ""

@@ -1,5 +1,5 @@
 #!/usr/bin/env python3
-"""Compares include/t1subset.h with the exports of the crate t1_c: calls, parameters, the answer's fields and every number.
+"""Compares include/t1subset.h with the exports of the crate t1_c: calls, parameters, the fields of answers and limits, and every number.
 
 Nothing may stand on one side alone, but for the three functions that c/t1subset.c defines by itself. The man page has to have the
 same calls and numbers, and the header has to compile as C and C++ with all warnings.
@@ -28,9 +28,12 @@ PARAMETERS = {
     "&[u8]": ["const uint8_t *", "size_t"],
     "&[&[u8]]": ["const t1subset_bytes *", "size_t"],
     "u32": ["uint32_t"],
+    "&Limits": ["const t1subset_limits *"],
     "&mut Answer": ["t1subset_answer *"],
     "&mut [Answer]": ["t1subset_answer *", "size_t"],
 }
+# The structs of the crate, and their names in C.
+STRUCTS = {"Answer": "t1subset_answer", "Limits": "t1subset_limits"}
 FIELDS = {"u64": "uint64_t", "i64": "int64_t", "&'static [u8]": "t1subset_bytes"}
 # The parts of `shells differ in PART`, as the program prints them, and the names of their numbers.
 PARTS = {
@@ -88,8 +91,9 @@ class Crate:
             types = [word.split(":")[1].strip() for word in words.split(",") if word.strip()]
             self.calls[name] = [answer, *types]
         self.exported = sources.count("no_mangle")
-        answer = re.search(r"#\[repr\(C\)\]\n(?:#[^\n]*\n)*pub struct Answer \{(.*?)\n\}", sources, re.S)
-        self.fields = re.findall(r"^ *pub (\w+): (.*?),$", answer[1], re.M) if answer else []
+        self.structs = {}
+        for name, body in re.findall(r"#\[repr\(C\)\]\n(?:#[^\n]*\n)*pub struct (\w+) \{(.*?)\n\}", sources, re.S):
+            self.structs[name] = re.findall(r"^ *pub (\w+): (.*?),$", body, re.M)
         specs = text_of(folder + "/specs/Numbers.antt")
         pattern = r"^abbrev pub (\w+) : ℕ\n\1 = (\d+)$"
         self.numbers = {name: int(number) for name, number in re.findall(pattern, specs, re.M)}
@@ -113,15 +117,16 @@ def faults(header, crate):
     calls = {name: types for name, types in header.calls.items() if name not in IN_C}
     calls.update((export, [*calls.pop(name, []), "size_t"]) for name, export in COUNTED.items())
     yield from differing("call", calls, {name: in_c(types) for name, types in crate.calls.items()})
-    fields = {f"{at}: {name}": word for at, (word, name) in enumerate(header.structs["t1subset_answer"])}
-    of_crate = {f"{at}: {name}": FIELDS.get(word, word) for at, (name, word) in enumerate(crate.fields)}
-    yield from differing("field", fields, of_crate)
+    for ours, theirs in STRUCTS.items():
+        fields = {f"{at}: {theirs}.{name}": word for at, (word, name) in enumerate(header.structs.get(theirs, []))}
+        of_crate = {f"{at}: {theirs}.{name}": FIELDS.get(word, word) for at, (name, word) in enumerate(crate.structs.get(ours, []))}
+        yield from differing("field", fields, of_crate)
     yield from differing("number", header.numbers, crate.numbers)
     if header.structs["t1subset_bytes"] != SLICE:
         yield "t1subset_bytes is no slice"
     if not IN_C <= set(header.calls):
         yield "the header lacks a function of c/t1subset.c"
-    if not (calls and crate.fields and header.numbers):
+    if not (calls and all(map(crate.structs.get, STRUCTS)) and header.numbers):
         yield "nothing was compared"
     if header.members != len(header.numbers) or crate.definitions != len(crate.numbers) or crate.exported != len(crate.calls):
         yield "a number or an export is not written as this script reads it"
@@ -179,6 +184,8 @@ CHANGES = [
     ("T1SUBSET_PART_HEAD = 0", "T1SUBSET_PART_HEADS = 0", True),
     ("    uint64_t detail;", "    uint32_t detail;", False),
     ("int64_t input;", "int64_t place;", False),
+    ("    uint64_t tokens;", "    uint32_t tokens;", False),
+    ("const t1subset_limits *limits", "t1subset_limits *limits", True),
     ("uint32_t t1subset_list(const uint8_t *font, size_t size, ", "uint32_t t1subset_list(const uint8_t *font, ", True),
     ("uint32_t t1subset_check(", "int32_t t1subset_check(", True),
     ("size_t count, uint32_t form,", "uint32_t form, size_t count,", True),

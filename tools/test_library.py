@@ -13,6 +13,7 @@ some of those that are installed.
 import argparse
 import contextlib
 import glob
+import itertools
 import os
 import re
 import shutil
@@ -35,6 +36,8 @@ IN_C = ["-std=c11", "-Wstrict-prototypes"]
 SANITIZERS = ["-fsanitize=address,undefined", "-fno-sanitize-recover=all"]
 # Numbers that no word over the library answers: growths.c and edges.c meet them.
 ELSEWHERE = {"ok", "memory", "bad_call", "file_too_long", "no_font", "nothing_to_merge"}
+# As many tokens as a call can be allowed.
+NO_LIMIT = str(2 ** 64 - 1)
 # Options that no call has.
 OWN_OPTIONS = {"--names", "--explain"}
 
@@ -168,6 +171,8 @@ class Pair:
 
 
 def inputs_of(words):
+    """The files of these words, whose options stand last."""
+    words = list(itertools.takewhile(lambda word: not word.startswith("--"), words))
     return words[2:] if words[0] in ("merge", "rejoin") else words[1:] if words[0] in ("diff", "join") else words[1:2]
 
 
@@ -236,6 +241,17 @@ def fonts_here():
     return [found[at * len(found) // FONTS] for at in range(FONTS)] if len(found) > FONTS else found
 
 
+def run_within(pair, words):
+    """These words, and the same within limits of tokens: one that allows everything, and two that are often too small. What the
+    words answer is returned."""
+    plain = pair.both(words)
+    within = {tokens: pair.both([words[0], "--tokens", tokens, *words[1:]]) for tokens in ("0", "1000", NO_LIMIT)}
+    few = (1, b"", b"refused: too many tokens\n", None)
+    if within[NO_LIMIT] != plain or within["1000"] not in (plain, few) or not plain[2] and within["0"] != few:
+        sys.exit(f"{words}: {plain!r:.300} without a limit of tokens, {within!r:.900}")
+    return plain
+
+
 def run_font(pair, font, last):
     """All words over a font, and over two subsets of it; the first of these is returned, if there is one."""
     for words in (["check", font], ["pfa", font, "out"], ["pfb", font, "out"], ["mend", font, "out"]):
@@ -249,15 +265,17 @@ def run_font(pair, font, last):
     for name in names[:3]:
         pair.both(["show", font, "--", name])
     pair.both(["subset", font, "out", "--", *names, *names[:2]])
-    pair.both(["subset", font, "out", "--", *names, "no-such-glyph"])
+    run_within(pair, ["subset", font, "out", "--", *names, "no-such-glyph"])
     for codes in (["--codes", "65-70"], ["--codes", "97,65,97", "--text", "by codes"]):
-        pair.both(["subset", font, "out", *codes, "--", *names[:2]])
-    halves = {name: pair.both(["subset", font, "out", "--", *names[at::2]])[3] for at, name in enumerate(("half", "other"))}
+        run_within(pair, ["subset", font, "out", *codes, "--", *names[:2]])
+    halves = {name: run_within(pair, ["subset", font, "out", "--", *names[at::2]])[3] for at, name in enumerate(("half", "other"))}
     pair.write(halves)
-    pair.both(["merge", "out", "other", "half"])
-    pair.both(["rejoin", "out", "half", "other", font])
+    run_within(pair, ["merge", "out", "other", "half"])
+    run_within(pair, ["rejoin", "out", "half", "other", font])
+    run_within(pair, ["diff", "half", "other"])
     if last:
         pair.write({"last": last})
+        run_within(pair, ["diff", "last", "half"])
         pair.both(["merge", "out", "half", "last"])
         pair.both(["rejoin", "out", "last", "half"])
     return halves["half"]

@@ -153,7 +153,7 @@ NAMES = "has no field|is not in scope|has no `|was not admitted"
 
 
 def told_of(output, crate):
-    """What a check says of each function, by its path: whether it is proved, and the lines that say why not."""
+    """What a check says of each function, by its path with the crate: whether it is proved, and the lines that say why not."""
     told, why, errors = {}, [], []
     for line in output.splitlines():
         said = re.match(rf"(?:fn|struct|enum|impl|trait|const) {crate}::(\S+): (.*)", line)
@@ -167,7 +167,7 @@ def told_of(output, crate):
     for path, (_, lines) in told.items():
         file = re.compile(r"\./proofs/" + re.escape("/".join(path.split("::"))).replace("/", "/\\+?") + r"/\w+\.antt:")
         lines += filter(file.match, errors)
-    return told
+    return {f"{crate}::{path}": said for path, said in told.items()}
 
 
 def refusal(edit, called, told):

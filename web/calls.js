@@ -3,8 +3,8 @@
  * node runs them as they are. */
 
 /* The calls by their names in t1subset.h, without `t1subset_`. A font, a document or a name is a Uint8Array, and so is what a call
- * answers; `level` answers a list of them. `form` is 0 for PFA and 1 for PFB. A refusal is thrown, as an Error with `number`,
- * `detail`, `input` and the text as `message`. */
+ * answers; `level` answers a list of them. `form` is 0 for PFA and 1 for PFB, and `tokens` a BigInt. A refusal is thrown, as an Error
+ * with `number`, `detail`, `input` and the text as `message`. */
 function library(bytes) {
   const module = bytes instanceof WebAssembly.Module ? bytes : new WebAssembly.Module(bytes);
   const ANSWER = 32, MEMORY = 1, RENEWED_AT = 1 << 27;
@@ -34,6 +34,7 @@ function library(bytes) {
     const pairs = new BigUint64Array(list.flatMap((data) => one(data).map(BigInt)));
     return [put(new Uint8Array(pairs.buffer)), BigInt(list.length)];
   }
+  const limits = (tokens) => put(new Uint8Array(BigUint64Array.of(tokens).buffer));
 
   /* What stands in an answer; its bytes are freed. */
   function take(place) {
@@ -77,7 +78,12 @@ function library(bytes) {
     subset_codes: (font, names, codes, form) => call("subset_codes", () => [...one(font), ...many(names), ...one(codes), form]),
     merge: (fonts, form) => call("merge", () => [...many(fonts), form]),
     rejoin: (fonts, form) => call("rejoin", () => [...many(fonts), form]),
+    subset_within: (font, names, codes, form, tokens) =>
+      call("subset_within", () => [...one(font), ...many(names), ...one(codes), form, limits(tokens)]),
+    merge_within: (fonts, form, tokens) => call("merge_within", () => [...many(fonts), form, limits(tokens)]),
+    rejoin_within: (fonts, form, tokens) => call("rejoin_within", () => [...many(fonts), form, limits(tokens)]),
     diff: (first, second) => call("diff", () => [...one(first), ...one(second)]),
+    diff_within: (first, second, tokens) => call("diff_within", () => [...one(first), ...one(second), limits(tokens)]),
     join: (first, second) => call("join", () => [...one(first), ...one(second)]),
     pool: (documents) => call("pool", () => many(documents)),
     level: (documents) => documents.length ? called("level_answers", () => many(documents), documents.length) : [],

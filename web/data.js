@@ -42,6 +42,8 @@ const REFUSALS = {
     "There is no glyph of this name, which the standard requires of every Type 1 font. Add one with a font editor.",
   "over a limit":
     "A font, or the merged font, is larger than LIMITS allows. Merge fewer fonts.",
+  "too many tokens":
+    "The glyphs that have to be run execute more tokens than --tokens allows; see LIMITS. Allow more if you trust the files.",
   "no glyph NAME":
     "The font has no glyph of this name, the first missing one that was asked for. t1subset list prints the names.",
   "no font NAME":

@@ -1,5 +1,6 @@
 /* Calls at their edges: NULL with size 0 in each place, forms that there are not, no fonts, no documents, files that are too
- * long, nothing to mend, and answers that are freed twice. usage: edges FONT    the canonical PFA of a font */
+ * long, nothing to mend, limits that allow nothing or everything, and answers that are freed twice.
+ * usage: edges FONT    the canonical PFA of a font */
 #include "t1subset.h"
 
 #include <stdio.h>
@@ -111,6 +112,51 @@ static void no_forms(t1subset_bytes font) {
     }
 }
 
+/* Limits that allow no token, and what is told before them. */
+static void no_tokens(t1subset_bytes font) {
+    static uint8_t room[1 << 20];
+    const t1subset_limits none = {0};
+    const t1subset_bytes nothing = {NULL, 0}, two[] = {font, nothing}, no_name[] = {nothing}, unlike[] = {font, {room, font.size}};
+    const uint8_t *data = font.data, no_code[] = {0};
+    const char *name = strstr((const char *) data, "/FontName /");
+    if (!name) exit(2);
+    memcpy(room, data, font.size);
+    room[(const uint8_t *) name + 11 - data] ^= 1;
+    EXPECT(t1subset_subset_within(data, font.size, NULL, 0, NULL, 0, T1SUBSET_PFA, &none, &answer), T1SUBSET_TOO_MANY_TOKENS, -1, "too many tokens");
+    EXPECT(t1subset_subset_within(data, font.size, no_name, 1, NULL, 0, T1SUBSET_PFA, &none, &answer), T1SUBSET_NO_GLYPH, -1, "no glyph ");
+    EXPECT(t1subset_subset_within(data, font.size, no_name, 1, no_code, 1, T1SUBSET_PFA, &none, &answer), T1SUBSET_NO_CODE, -1, "no code 0");
+    EXPECT(t1subset_subset_within(NULL, 0, NULL, 0, NULL, 0, T1SUBSET_PFA, &none, &answer), T1SUBSET_NO_EEXEC, 0, "no eexec");
+    EXPECT(t1subset_subset_within(data, font.size, NULL, 0, NULL, 0, 2, &none, &answer), T1SUBSET_BAD_CALL, -1, "");
+    EXPECT(t1subset_merge_within(&font, 1, T1SUBSET_PFA, &none, &answer), T1SUBSET_TOO_MANY_TOKENS, -1, "too many tokens");
+    EXPECT(t1subset_merge_within(unlike, 2, T1SUBSET_PFA, &none, &answer), T1SUBSET_SHELLS_DIFFER, -1, "shells differ in head");
+    EXPECT(t1subset_merge_within(two, 2, T1SUBSET_PFA, &none, &answer), T1SUBSET_NO_EEXEC, 1, "no eexec");
+    EXPECT(t1subset_merge_within(NULL, 0, T1SUBSET_PFA, &none, &answer), T1SUBSET_NOTHING_TO_MERGE, -1, "nothing to merge");
+    EXPECT(t1subset_merge_within(&font, 1, 2, &none, &answer), T1SUBSET_BAD_CALL, -1, "");
+    EXPECT(t1subset_rejoin_within(&font, 1, T1SUBSET_PFA, &none, &answer), T1SUBSET_TOO_MANY_TOKENS, -1, "too many tokens");
+    EXPECT(t1subset_rejoin_within(two, 2, T1SUBSET_PFA, &none, &answer), T1SUBSET_NO_EEXEC, 1, "no eexec");
+    EXPECT(t1subset_rejoin_within(NULL, 0, T1SUBSET_PFA, &none, &answer), T1SUBSET_NOTHING_TO_MERGE, -1, "nothing to merge");
+    EXPECT(t1subset_rejoin_within(&font, 1, 2, &none, &answer), T1SUBSET_BAD_CALL, -1, "");
+    EXPECT(t1subset_diff_within(data, font.size, data, font.size, &none, &answer), T1SUBSET_TOO_MANY_TOKENS, -1, "too many tokens");
+    EXPECT(t1subset_diff_within(data, font.size, room, font.size, &none, &answer), T1SUBSET_TOO_MANY_TOKENS, -1, "too many tokens");
+    EXPECT(t1subset_diff_within(NULL, 0, NULL, 0, &none, &answer), T1SUBSET_NO_EEXEC, 0, "no eexec");
+    EXPECT(t1subset_diff_within(data, font.size, NULL, 0, &none, &answer), T1SUBSET_NO_EEXEC, 1, "no eexec");
+}
+
+/* Within limits that are enough, calls answer as without: the font itself, which is canonical and is merged with itself, and
+ * no conflict with itself. */
+static void enough_tokens(t1subset_bytes font) {
+    const t1subset_bytes two[] = {font, font};
+    const char *text = (const char *) font.data;
+    t1subset_limits limits = T1SUBSET_LIMITS;
+    for (int turn = 0; turn < 2; turn++) {
+        EXPECT(t1subset_subset_within(font.data, font.size, NULL, 0, NULL, 0, T1SUBSET_PFB, &limits, &answer), T1SUBSET_OK, -1, NULL);
+        EXPECT(t1subset_merge_within(two, 2, T1SUBSET_PFA, &limits, &answer), T1SUBSET_OK, -1, text);
+        EXPECT(t1subset_rejoin_within(two, 2, T1SUBSET_PFA, &limits, &answer), T1SUBSET_OK, -1, text);
+        EXPECT(t1subset_diff_within(font.data, font.size, font.data, font.size, &limits, &answer), T1SUBSET_OK, -1, "");
+        limits.tokens = 10000000;
+    }
+}
+
 /* Nothing is mended of the font, and a comment where there is one in its Encoding. */
 static void mends(t1subset_bytes font) {
     static char room[(1 << 20) + 3], line[64];
@@ -153,6 +199,8 @@ int main(int count, char **words) {
     no_documents(font);
     levels(font, NULL);
     no_forms(font);
+    no_tokens(font);
+    enough_tokens(font);
     mends(font);
     too_long(font);
     if (t1subset_version() != T1SUBSET_VERSION) {

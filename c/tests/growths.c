@@ -45,6 +45,15 @@ static uint32_t join(t1subset_answer *to) {
 static uint32_t subset_codes(t1subset_answer *to) {
     return t1subset_subset_codes(font.data, font.size, names, 2, (const uint8_t *) "AB", 2, T1SUBSET_PFA, to);
 }
+static const t1subset_limits enough = T1SUBSET_LIMITS, none = {0};
+static uint32_t subset_within(t1subset_answer *to) {
+    return t1subset_subset_within(font.data, font.size, names, 2, (const uint8_t *) "AB", 2, T1SUBSET_PFA, &enough, to);
+}
+static uint32_t merge_within(t1subset_answer *to) { return t1subset_merge_within(parts, 2, T1SUBSET_PFA, &enough, to); }
+static uint32_t rejoin_within(t1subset_answer *to) { return t1subset_rejoin_within(parts, 2, T1SUBSET_PFB, &enough, to); }
+static uint32_t diff_within(t1subset_answer *to) {
+    return t1subset_diff_within(parts[0].data, parts[0].size, parts[1].data, parts[1].size, &enough, to);
+}
 static uint32_t pool(t1subset_answer *to) { return t1subset_pool(documents, 2, to); }
 static uint32_t pool_tags(t1subset_answer *to) { return t1subset_pool_tags(documents, 2, to); }
 static uint32_t fonts(t1subset_answer *to) { return t1subset_fonts(documents, 2, to); }
@@ -67,6 +76,14 @@ static uint32_t no_glyph(t1subset_answer *to) { return t1subset_subset(font.data
 static uint32_t no_code(t1subset_answer *to) {
     return t1subset_subset_codes(font.data, font.size, names, 2, (const uint8_t *) "AB\xff", 3, T1SUBSET_PFA, to);
 }
+static uint32_t no_subset_within(t1subset_answer *to) {
+    return t1subset_subset_within(font.data, font.size, names, 2, NULL, 0, T1SUBSET_PFA, &none, to);
+}
+static uint32_t no_merge_within(t1subset_answer *to) { return t1subset_merge_within(parts, 2, T1SUBSET_PFA, &none, to); }
+static uint32_t no_rejoin_within(t1subset_answer *to) { return t1subset_rejoin_within(parts, 2, T1SUBSET_PFA, &none, to); }
+static uint32_t no_diff_within(t1subset_answer *to) {
+    return t1subset_diff_within(parts[0].data, parts[0].size, parts[1].data, parts[1].size, &none, to);
+}
 static uint32_t no_place(t1subset_answer *to) { return t1subset_extract((const uint8_t *) "Tony", 4, documents, 2, to); }
 static uint32_t no_font(t1subset_answer *to) { return t1subset_merge(parts, 3, T1SUBSET_PFA, to); }
 
@@ -80,10 +97,16 @@ static const struct {
     {"convert", convert, T1SUBSET_OK}, {"mend", mend, T1SUBSET_OK}, {"mends", mends, T1SUBSET_OK}, {"subset", subset, T1SUBSET_OK},
     {"subset of codes", subset_codes, T1SUBSET_OK},
     {"merge", merge, T1SUBSET_OK}, {"rejoin", rejoin, T1SUBSET_OK}, {"diff", diff, T1SUBSET_OK}, {"join", join, T1SUBSET_OK},
+    {"subset within limits", subset_within, T1SUBSET_OK}, {"merge within limits", merge_within, T1SUBSET_OK},
+    {"rejoin within limits", rejoin_within, T1SUBSET_OK}, {"diff within limits", diff_within, T1SUBSET_OK},
     {"pool", pool, T1SUBSET_OK}, {"pool_tags", pool_tags, T1SUBSET_OK}, {"level", level, T1SUBSET_OK}, {"fonts", fonts, T1SUBSET_OK}, {"extract", extract, T1SUBSET_OK},
     {"extract of no font", no_place, T1SUBSET_NO_FONT},
     {"subset of no glyph", no_glyph, T1SUBSET_NO_GLYPH}, {"subset of no code", no_code, T1SUBSET_NO_CODE},
     {"merge of no font", no_font, T1SUBSET_NO_EEXEC},
+    {"subset of too many tokens", no_subset_within, T1SUBSET_TOO_MANY_TOKENS},
+    {"merge of too many tokens", no_merge_within, T1SUBSET_TOO_MANY_TOKENS},
+    {"rejoin of too many tokens", no_rejoin_within, T1SUBSET_TOO_MANY_TOKENS},
+    {"diff of too many tokens", no_diff_within, T1SUBSET_TOO_MANY_TOKENS},
 };
 
 static t1subset_bytes whole(const char *path) {

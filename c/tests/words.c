@@ -33,6 +33,8 @@ struct options {
     uint8_t codes[1 << 12];
     size_t count;
     const char *extract;
+    t1subset_limits limits;
+    int limited;
     int full;
     int tags;
 };
@@ -49,6 +51,11 @@ static void add_list(struct options *options, const char *list) {
         const unsigned long first = strtoul(list, &end, 10), last = *end == '-' ? strtoul(end + 1, &end, 10) : first;
         for (unsigned long code = first; code <= last; code++) add_codes(options, &(char) {(char) code}, 1);
     }
+}
+
+static void set_tokens(struct options *options, const char *tokens) {
+    options->limits.tokens = strtoull(tokens, NULL, 10);
+    options->limited = 1;
 }
 
 /* What stands behind an option: in its own word behind `=`, or as the next word. NULL if this word is not the option. */
@@ -69,6 +76,7 @@ static int take_options(struct options *options, int count, char **words) {
         else if (!plain && !strcmp(words[at], "--tags")) options->tags = 1;
         else if (!plain && (value = value_of("--codes", words, &at))) add_list(options, value);
         else if (!plain && (value = value_of("--text", words, &at))) text = value;
+        else if (!plain && (value = value_of("--tokens", words, &at))) set_tokens(options, value);
         else if (!plain && (value = value_of("--extract", words, &at))) options->extract = value;
         else words[left++] = words[at];
     }
@@ -81,8 +89,29 @@ static uint32_t list(const struct options *options, t1subset_bytes font, t1subse
 }
 
 static uint32_t subset(const struct options *options, t1subset_bytes font, const t1subset_bytes *names, size_t count, t1subset_answer *answer) {
-    if (!options->count) return t1subset_subset(font.data, font.size, names, count, options->form, answer);
-    return t1subset_subset_codes(font.data, font.size, names, count, options->codes, options->count, options->form, answer);
+    const uint8_t *codes = options->codes;
+    const size_t size = options->count;
+    const uint32_t form = options->form;
+    if (options->limited) {
+        return t1subset_subset_within(font.data, font.size, names, count, codes, size, form, &options->limits, answer);
+    }
+    if (!size) return t1subset_subset(font.data, font.size, names, count, form, answer);
+    return t1subset_subset_codes(font.data, font.size, names, count, codes, size, form, answer);
+}
+
+static uint32_t merge(const struct options *options, const t1subset_bytes *fonts, size_t count, t1subset_answer *answer) {
+    if (options->limited) return t1subset_merge_within(fonts, count, options->form, &options->limits, answer);
+    return t1subset_merge(fonts, count, options->form, answer);
+}
+
+static uint32_t rejoin(const struct options *options, const t1subset_bytes *fonts, size_t count, t1subset_answer *answer) {
+    if (options->limited) return t1subset_rejoin_within(fonts, count, options->form, &options->limits, answer);
+    return t1subset_rejoin(fonts, count, options->form, answer);
+}
+
+static uint32_t diff(const struct options *options, t1subset_bytes first, t1subset_bytes second, t1subset_answer *answer) {
+    if (options->limited) return t1subset_diff_within(first.data, first.size, second.data, second.size, &options->limits, answer);
+    return t1subset_diff(first.data, first.size, second.data, second.size, answer);
 }
 
 /* The call of a word; arguments are the files and names behind it, without OUT. */
@@ -96,9 +125,9 @@ static uint32_t call(const char *word, const struct options *options, const t1su
     if (!strcmp(word, "pfb")) return t1subset_convert(first.data, first.size, T1SUBSET_PFB, answer);
     if (!strcmp(word, "mend")) return t1subset_mend(first.data, first.size, form, answer);
     if (!strcmp(word, "subset")) return subset(options, first, arguments + 1, count - 1, answer);
-    if (!strcmp(word, "merge")) return t1subset_merge(arguments, count, form, answer);
-    if (!strcmp(word, "rejoin")) return t1subset_rejoin(arguments, count, form, answer);
-    if (!strcmp(word, "diff")) return t1subset_diff(first.data, first.size, second.data, second.size, answer);
+    if (!strcmp(word, "merge")) return merge(options, arguments, count, answer);
+    if (!strcmp(word, "rejoin")) return rejoin(options, arguments, count, answer);
+    if (!strcmp(word, "diff")) return diff(options, first, second, answer);
     if (!strcmp(word, "pool")) return (options->tags ? t1subset_pool_tags : t1subset_pool)(arguments, count, answer);
     if (!strcmp(word, "fonts")) return t1subset_fonts(arguments, count, answer);
     if (!strcmp(word, "extract")) return t1subset_extract((const uint8_t *) options->extract, strlen(options->extract), arguments, count, answer);

@@ -5,13 +5,13 @@ _t1subset() {
     [ "${COMP_WORDS[1]}" = --explain ] && [ "$COMP_CWORD" -gt 1 ] && first=2
     at=$first
     case ${COMP_WORDS[first]} in
-    subset) options='--explain --names --codes --text --pfb --help' takes='--names|--codes|--text' names=3 ;;
-    merge) options='--explain --pfb --help' takes='-' names=0 ;;
-    rejoin) options='--explain --pfb --help' takes='-' names=0 ;;
+    subset) options='--explain --names --codes --text --tokens --pfb --help' takes='--names|--codes|--text|--tokens' names=3 ;;
+    merge) options='--explain --tokens --pfb --help' takes='--tokens' names=0 ;;
+    rejoin) options='--explain --tokens --pfb --help' takes='--tokens' names=0 ;;
     pool) options='--explain --tags --help' takes='-' names=0 ;;
     level) options='--explain --help' takes='-' names=0 ;;
     fonts) options='--explain --extract --help' takes='--extract' names=0 ;;
-    diff) options='--explain --help' takes='-' names=0 ;;
+    diff) options='--explain --tokens --help' takes='--tokens' names=0 ;;
     mend) options='--explain --pfb --help' takes='-' names=0 ;;
     check) options='--explain --help' takes='-' names=0 ;;
     list) options='--explain --full --help' takes='-' names=0 ;;

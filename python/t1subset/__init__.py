@@ -12,11 +12,12 @@ as a bytearray or a mmap, is copied first. The name of a glyph is a str or bytes
 in UTF-8, with surrogateescape for what `list` found to be no UTF-8.
 
 A call raises Refused, which is a ValueError, where the library gives no result; MemoryError where it was refused
-memory; ValueError for a form that is none; TypeError for arguments of another type. Any number of threads may call at
-once, and the interpreter's lock is released during a call.
+memory; ValueError for a form that is none, and for tokens below 0 or over 2**64 - 1; TypeError for arguments of another
+type. Any number of threads may call at once, and the interpreter's lock is released during a call.
 
-A font of 1 MB can be made so that merge and rejoin run for minutes: a service that opens files of strangers should
-limit the time of a call from outside, for instance in a process of its own.
+A font of 1 MB can be made so that a call that runs its glyphs takes minutes. subset, merge, rejoin and diff take tokens,
+which bound what is run without a clock; list_full, pool, level and fonts have no such limit: a service that opens files
+of strangers should limit the time of these from outside, for instance in a process of its own.
 
 The library is that of the environment variable LIBT1SUBSET, a path; else the loader's libt1subset.so.0; else the one
 that the repository built, if this package stands in it.

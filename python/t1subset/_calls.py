@@ -5,10 +5,10 @@ from __future__ import annotations
 import ctypes
 import enum
 import mmap
-from typing import Any, Iterable, List, Literal, Tuple, Union
+from typing import Any, Iterable, List, Literal, Optional, Tuple, Union
 
 from . import _texts
-from ._library import Answer, Given, library
+from ._library import Answer, Given, Limits, library
 from ._refusals import Number, Refused
 from ._texts import Checked, Drawn, Listed, ListedInFull, Mend, Placed, Undrawn
 
@@ -99,7 +99,14 @@ def mends(font: BytesLike) -> List[Mend]:
     return _texts.mended(_text(library.t1subset_mends, *_file(font)))
 
 
-def subset(font: BytesLike, names: Iterable[Name], form: AnyForm = "pfa", *, codes: BytesLike = b"") -> bytes:
+def subset(
+    font: BytesLike,
+    names: Iterable[Name],
+    form: AnyForm = "pfa",
+    *,
+    codes: BytesLike = b"",
+    tokens: Optional[int] = None,
+) -> bytes:
     """The canonical file of the subset that keeps these glyphs, .notdef, the components of accented glyphs, and the
     Subrs that all of these execute. A name may be given more than once.
 
@@ -107,40 +114,69 @@ def subset(font: BytesLike, names: Iterable[Name], form: AnyForm = "pfa", *, cod
     word StandardEncoding, the names are those of StandardEncoding; by any other word no code has a name. The first code
     without a name is refused, before a name that the font lacks.
 
+    With `tokens` no more tokens are executed than so many: numbers and commands of charstrings, each as often as it is
+    executed, in Subrs too. It is refused as Number.TOO_MANY_TOKENS, behind missing codes and names, and only if the runs
+    of all glyphs that are kept execute more in all, those where hints are replaced and those where they are kept. Else
+    the answer is that without `tokens`.
+
     >>> check(subset(font, ["X", "Y"]))
     Checked(glyphs=3, subrs=10, weight=2718)
     >>> subset(font, ["X"], codes=b"B") == subset(font, [], codes=b"AB") == subset(font, ["X", "Y"])
     True
+    >>> subset(font, ["X"], tokens=1_000_000) == subset(font, ["X"])
+    True
     """
-    given = *_file(font), *_files(map(_name, _several(names, "names"))), *_file(codes)
-    return _call(library.t1subset_subset_codes, *given, _form(form))
+    given = *_file(font), *_files(map(_name, _several(names, "names"))), *_file(codes), _form(form)
+    if tokens is None:
+        return _call(library.t1subset_subset_codes, *given)
+    return _call(library.t1subset_subset_within, *given, _limits(tokens))
 
 
-def merge(fonts: Iterable[BytesLike], form: AnyForm = "pfa") -> bytes:
+def merge(fonts: Iterable[BytesLike], form: AnyForm = "pfa", *, tokens: Optional[int] = None) -> bytes:
     """The canonical file of the font that fonts merge to. Subsets of one font that t1subset cut merge, in every
     order, to the subset of all their names, byte for byte.
 
+    `tokens` is as for `subset`, of all glyphs of all fonts. If what stands around the tables of the first two fonts
+    differs, that is told, and no glyph is run; any other conflict is told only where the tokens are not too many.
+
     >>> merge([subset(font, ["Y"]), subset(font, ["X"])]) == subset(font, ["X", "Y"])
     True
+    >>> merge([font, font], tokens=10)
+    Traceback (most recent call last):
+    t1subset._refusals.Refused: too many tokens
     """
-    return _call(library.t1subset_merge, *_files(_several(fonts, "fonts")), _form(form))
+    given = *_files(_several(fonts, "fonts")), _form(form)
+    if tokens is None:
+        return _call(library.t1subset_merge, *given)
+    return _call(library.t1subset_merge_within, *given, _limits(tokens))
 
 
-def rejoin(fonts: Iterable[BytesLike], form: AnyForm = "pfa") -> bytes:
+def rejoin(fonts: Iterable[BytesLike], form: AnyForm = "pfa", *, tokens: Optional[int] = None) -> bytes:
     """The same for subsets that another program cut, such as dvips or pdfTeX: they are first mended, as by
     `mend`, and made even (white space is squeezed, lines of UniqueID and XUID and the
-    tag before the FontName are removed, and every table of Subrs declares as many)."""
-    return _call(library.t1subset_rejoin, *_files(_several(fonts, "fonts")), _form(form))
+    tag before the FontName are removed, and every table of Subrs declares as many).
+
+    `tokens` is as for `subset`, of all glyphs of all fonts."""
+    given = *_files(_several(fonts, "fonts")), _form(form)
+    if tokens is None:
+        return _call(library.t1subset_rejoin, *given)
+    return _call(library.t1subset_rejoin_within, *given, _limits(tokens))
 
 
-def diff(first: BytesLike, second: BytesLike) -> bytes:
+def diff(first: BytesLike, second: BytesLike, *, tokens: Optional[int] = None) -> bytes:
     """Lines that tell all conflicts of two fonts, each with the text by which `merge` refuses for it, the lowest first; empty
     exactly if the fonts merge.
+
+    `tokens` is as for `subset`, of all glyphs of both fonts. These are run first, so that the refusal comes before all
+    conflicts.
 
     >>> diff(subset(font, ["Y"]), subset(font, ["X"]))
     b''
     """
-    return _call(library.t1subset_diff, *_file(first), *_file(second))
+    given = *_file(first), *_file(second)
+    if tokens is None:
+        return _call(library.t1subset_diff, *given)
+    return _call(library.t1subset_diff_within, *given, _limits(tokens))
 
 
 def join(first: BytesLike, second: BytesLike) -> bytes:
@@ -266,3 +302,12 @@ def _name(name: Name) -> bytes:
 
 def _form(form: AnyForm) -> int:
     return _FORMS[Form(form)]
+
+
+def _limits(tokens: int) -> Limits:
+    """The limits of a call. ctypes would take any number, and keep 64 bits of it."""
+    if not isinstance(tokens, int) or isinstance(tokens, bool):
+        raise TypeError(f"tokens: an int or None is wanted, not {type(tokens).__name__}")
+    if not 0 <= tokens < 1 << 64:
+        raise ValueError(f"tokens: a number from 0 to 2**64 - 1 is wanted, not {tokens}")
+    return Limits(tokens)

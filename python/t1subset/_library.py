@@ -26,9 +26,16 @@ class Answer(ctypes.Structure):
     ]
 
 
+class Limits(ctypes.Structure):
+    """t1subset_limits."""
+
+    _fields_ = [("tokens", ctypes.c_uint64)]
+
+
 _FILE: List[Any] = [ctypes.c_char_p, ctypes.c_size_t]
 _LIST: List[Any] = [ctypes.POINTER(Given), ctypes.c_size_t]
 _FORM: List[Any] = [ctypes.c_uint32]
+_LIMITS: List[Any] = [ctypes.POINTER(Limits)]
 
 # What stands before the answer in each call, or before the answers of t1subset_level.
 _CALLS: Dict[str, List[Any]] = {
@@ -43,7 +50,11 @@ _CALLS: Dict[str, List[Any]] = {
     "t1subset_subset_codes": _FILE + _LIST + _FILE + _FORM,
     "t1subset_merge": _LIST + _FORM,
     "t1subset_rejoin": _LIST + _FORM,
+    "t1subset_subset_within": _FILE + _LIST + _FILE + _FORM + _LIMITS,
+    "t1subset_merge_within": _LIST + _FORM + _LIMITS,
+    "t1subset_rejoin_within": _LIST + _FORM + _LIMITS,
     "t1subset_diff": _FILE + _FILE,
+    "t1subset_diff_within": _FILE + _FILE + _LIMITS,
     "t1subset_join": _FILE + _FILE,
     "t1subset_pool": _LIST,
     "t1subset_pool_tags": _LIST,

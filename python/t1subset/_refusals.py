@@ -22,6 +22,8 @@ class Number(enum.IntEnum):
     """no code N, the first of the codes that has no name"""
     NO_FONT = 6
     """no font NAME, in documents"""
+    TOO_MANY_TOKENS = 7
+    """too many tokens: more than a call with `tokens` may execute"""
 
     BAD_SEGMENT = 10
     """bad segment at N"""

@@ -11,6 +11,7 @@ import tempfile
 import threading
 import time
 import unittest
+from fractions import Fraction
 from typing import Any, Callable, Dict, List
 
 import t1subset
@@ -124,6 +125,31 @@ class Arguments(unittest.TestCase):
             self.assertRaises(TypeError, t1subset.show, PFA, name)
             self.assertRaises(TypeError, t1subset.subset, PFA, [name])
             self.assertRaises(TypeError, t1subset.extract, name, [])
+
+    def test_tokens(self) -> None:
+        calls: List[Callable[[Any], Any]] = [
+            lambda it: t1subset.subset(PFA, ["X"], tokens=it),
+            lambda it: t1subset.merge([PFA], tokens=it),
+            lambda it: t1subset.rejoin([PFA], tokens=it),
+            lambda it: t1subset.diff(PFA, PFB, tokens=it),
+        ]
+        for call in calls:
+            for wrong in (-1, -(2**64), 2**64, 2**64 + 1_000_000, 10**30):
+                with self.subTest(wrong=wrong):
+                    with self.assertRaises(ValueError) as caught:
+                        call(wrong)
+                    self.assertNotIsInstance(caught.exception, t1subset.Refused)
+            for other in (True, False, 1e6, "5", b"5", [5], Fraction(5)):
+                with self.subTest(wrong=other):
+                    self.assertRaises(TypeError, call, other)
+            self.assertEqual(call(None), call(2**64 - 1))
+        for positional in (
+            lambda: t1subset.subset(PFA, ["X"], "pfa", b"", 5),  # type: ignore[misc]
+            lambda: t1subset.merge([PFA], "pfa", 5),  # type: ignore[misc]
+            lambda: t1subset.rejoin([PFA], "pfa", 5),  # type: ignore[misc]
+            lambda: t1subset.diff(PFA, PFB, 5),  # type: ignore[misc]
+        ):
+            self.assertRaises(TypeError, positional)
 
     def test_one_is_not_a_list(self) -> None:
         for names in ("XY", b"XY", None, 5):
@@ -252,6 +278,11 @@ class Memory(unittest.TestCase):
         self.assertEqual(self.sweep(lambda: t1subset.subset(two, [], codes=b"A")), two)
         self.assertEqual(self.sweep(lambda: t1subset.merge([one, two])), two)
         self.assertEqual(self.sweep(lambda: t1subset.rejoin([two, one])), two)
+        self.assertEqual(self.sweep(lambda: t1subset.subset(two, ["A"], tokens=100)), two)
+        self.assertEqual(self.sweep(lambda: t1subset.merge([one, two], tokens=100)), two)
+        self.assertEqual(self.sweep(lambda: t1subset.rejoin([two, one], tokens=100)), two)
+        self.assertEqual(self.sweep(lambda: t1subset.diff(one, two)), b"")
+        self.assertEqual(self.sweep(lambda: t1subset.diff(one, two, tokens=100)), b"")
         self.assertEqual(self.sweep(lambda: t1subset.join(b"S 5 0B\n", b"")), b"S 5 0b\n")
 
     def test_each_call_over_documents(self) -> None:
@@ -271,3 +302,13 @@ class Memory(unittest.TestCase):
             return ""
 
         self.assertEqual(self.sweep(refusal), "shells differ in private")
+
+    def test_a_refusal_of_tokens(self) -> None:
+        def refusal() -> str:
+            try:
+                t1subset.merge([PFA], tokens=0)
+            except t1subset.Refused as why:
+                return why.text
+            return ""
+
+        self.assertEqual(self.sweep(refusal), "too many tokens")

@@ -30,7 +30,9 @@ int main(void) {
     AT(t1subset_answer, input);
     AT(t1subset_answer, bytes.data);
     AT(t1subset_answer, bytes.size);
-    printf("%zu %zu\\n", sizeof(t1subset_bytes), sizeof(t1subset_answer));
+    AT(t1subset_limits, tokens);
+    printf("%zu %zu ", sizeof(t1subset_bytes), sizeof(t1subset_answer));
+    printf("%zu\\n", sizeof(t1subset_limits));
 }
 """
 
@@ -73,7 +75,7 @@ class Header(unittest.TestCase):
     def test_layout(self) -> None:
         compiler = os.environ.get("CC") or next(filter(shutil.which, ("cc", "gcc", "clang")), None)
         if not compiler:
-            left_out("no C compiler: the layout of the answer is not compared with the header")
+            left_out("no C compiler: the layouts of the structs are not compared with the header")
             self.skipTest("no C compiler")
         with tempfile.TemporaryDirectory() as folder:
             source, program = os.path.join(folder, "layout.c"), os.path.join(folder, "layout")
@@ -82,7 +84,7 @@ class Header(unittest.TestCase):
             include = "-I" + os.path.join(fonts.TOP, "include")
             subprocess.run([*compiler.split(), include, "-o", program, source], check=True)
             said = subprocess.run([program], check=True, stdout=subprocess.PIPE).stdout.decode()
-        given, answer = _library.Given, _library.Answer
+        given, answer, limits = _library.Given, _library.Answer, _library.Limits
         rows = [
             ("t1subset_bytes.data", given.data.offset),
             ("t1subset_bytes.size", given.size.offset),
@@ -90,6 +92,7 @@ class Header(unittest.TestCase):
             ("t1subset_answer.input", answer.input.offset),
             ("t1subset_answer.bytes.data", answer.data.offset),
             ("t1subset_answer.bytes.size", answer.size.offset),
-            (str(ctypes.sizeof(given)), ctypes.sizeof(answer)),
+            ("t1subset_limits.tokens", limits.tokens.offset),
+            (f"{ctypes.sizeof(given)} {ctypes.sizeof(answer)}", ctypes.sizeof(limits)),
         ]
         self.assertEqual(said, "".join(f"{name} {number}\n" for name, number in rows))

@@ -4,7 +4,7 @@ from __future__ import annotations
 
 import itertools
 import unittest
-from typing import Iterator, List, Tuple
+from typing import Callable, Iterator, List, Tuple
 
 import t1subset
 
@@ -106,6 +106,8 @@ class Laws(unittest.TestCase):
         self.assertEqual((t1subset.diff(one, two), t1subset.diff(two, one)), (told, told))
         self.assertEqual(t1subset.diff(t1subset.subset(PFA, ["X"]), t1subset.subset(PFB, ["Y"])), b"")
         self.assertRaises(t1subset.Refused, t1subset.diff, PFA, b"no font")
+        # .notdef executes 4 tokens, and A and B 9 each, by either answer to hint replacement: 35 in both fonts.
+        self.assertEqual((t1subset.diff(one, two, tokens=70), t1subset.diff(two, one, tokens=70)), (told, told))
 
     def test_codes_are_their_names(self) -> None:
         codes = {65: "X", 66: "Y", 194: "H"}
@@ -121,6 +123,41 @@ class Laws(unittest.TestCase):
         font = made([], dict.fromkeys(names, EMPTY))
         kept = t1subset.list(t1subset.subset(font, [], codes="Aé".encode())).glyphs
         self.assertEqual(list(kept), [".notdef", "A", "circumflex", "quotesingle"])
+
+    def test_tokens_that_are_enough(self) -> None:
+        font = made([STUB] * 4 + [ACROSS], {b".notdef": EMPTY, b"A": calling(4)})
+        # .notdef executes 4 tokens and A 9, by either answer to hint replacement.
+        for tokens in (26, 27, 2**63, 2**64 - 1):
+            with self.subTest(tokens=tokens):
+                self.assertEqual(t1subset.subset(font, ["A"], tokens=tokens), font)
+                self.assertEqual(t1subset.subset(font, [], codes=b"A", tokens=tokens), font)
+                self.assertEqual(t1subset.merge([font], tokens=tokens), font)
+                self.assertEqual(t1subset.rejoin([font], tokens=tokens), font)
+                two, pfb = [font, font], t1subset.convert(font, "pfb")
+                self.assertEqual(t1subset.merge(two, "pfb", tokens=max(tokens, 52)), pfb)
+                self.assertEqual(t1subset.rejoin(two, "pfb", tokens=max(tokens, 52)), pfb)
+                self.assertEqual(t1subset.diff(font, pfb, tokens=max(tokens, 52)), b"")
+
+    def test_tokens_of_fonts(self) -> None:
+        for path, font in each_font():
+            with self.subTest(font=path):
+                names = some_names(font)
+                parts = [t1subset.subset(font, names[:4]), t1subset.subset(font, names[4:])]
+                # No glyph executes more than 100,000 tokens by one answer.
+                enough = 400_000 * len(t1subset.list(font).glyphs)
+                self.assertEqual(t1subset.subset(font, names[:4], tokens=enough), parts[0])
+                self.assertEqual(t1subset.merge(parts, tokens=enough), t1subset.merge(parts))
+                self.assertEqual(t1subset.rejoin(parts, tokens=enough), t1subset.rejoin(parts))
+                self.assertEqual(t1subset.diff(*parts, tokens=enough), b"")
+                calls: List[Callable[[], bytes]] = [
+                    lambda: t1subset.merge(parts, tokens=0),
+                    lambda: t1subset.rejoin(parts, tokens=0),
+                    lambda: t1subset.diff(*parts, tokens=0),
+                ]
+                for call in calls:
+                    with self.assertRaises(t1subset.Refused) as caught:
+                        call()
+                    self.assertEqual(caught.exception.number, t1subset.Number.TOO_MANY_TOKENS)
 
     def test_listings_join(self) -> None:
         left, right = fonts.example("left.listing"), fonts.example("right.listing")

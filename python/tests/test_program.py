@@ -145,6 +145,9 @@ class Program(unittest.TestCase):
                 self.same(words, [font], lambda: t1subset.subset(font, [], codes=b"AB"))
                 words = ["subset", "IN0", "OUT", "--text", "Zed", *names]
                 self.same(words, [font], lambda: t1subset.subset(font, names, codes=b"Zed"))
+                for tokens in (0, 100, 2**64 - 1):
+                    words = ["subset", "--tokens", str(tokens), "IN0", "OUT", *names]
+                    self.same(words, [font], lambda: t1subset.subset(font, names, tokens=tokens))
                 for name in [*names, "Zed"]:
                     self.same(["show", "IN0", name], [font], lambda: t1subset.show(font, name))
 
@@ -156,6 +159,12 @@ class Program(unittest.TestCase):
             for two in cuts:
                 self.same(["merge", "OUT", "IN0", "IN1"], [one, two], lambda: t1subset.merge([one, two]))
         self.same(["rejoin", "OUT", "IN0", "IN1"], cuts[:2], lambda: t1subset.rejoin(cuts[:2]))
+        for tokens in (0, 100, 2**64 - 1):
+            for word, call in (("merge", t1subset.merge), ("rejoin", t1subset.rejoin)):
+                words = [word, "--tokens", str(tokens), "OUT", "IN0", "IN1"]
+                self.same(words, cuts[:2], lambda: call(cuts[:2], tokens=tokens))
+            words, alike = ["diff", "--tokens", str(tokens), "IN0", "IN1"], [accepts[0], accepts[0]]
+            self.same(words, alike, lambda: t1subset.diff(*alike, tokens=tokens))
         broken = [cuts[0], b"no font"]
         self.same(["rejoin", "OUT", "IN0", "IN1"], broken, lambda: t1subset.rejoin(broken))
 

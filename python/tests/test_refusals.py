@@ -54,6 +54,11 @@ def rows_of_files() -> List[Row]:
             (number, text, detail, 0, partial(t1subset.subset, font, ["nosuch"], codes=b"C")),
             (number, text, detail, 1, partial(t1subset.merge, [PFA, font, b""])),
             (number, text, detail, 2, partial(t1subset.rejoin, [PFB, PFA, font])),
+            (number, text, detail, 0, partial(t1subset.subset, font, ["nosuch"], tokens=0)),
+            (number, text, detail, 1, partial(t1subset.merge, [PFA, font, b""], tokens=0)),
+            (number, text, detail, 2, partial(t1subset.rejoin, [PFB, PFA, font], tokens=0)),
+            (number, text, detail, 0, partial(t1subset.diff, font, b"", tokens=0)),
+            (number, text, detail, 1, partial(t1subset.diff, PFA, font, tokens=0)),
         ]
     return found
 
@@ -67,6 +72,8 @@ def rows_of_names() -> List[Row]:
         (Number.NO_GLYPH, "no glyph Zed", 0, None, lambda: t1subset.subset(PFA, ["Zed"], codes=b"AB")),
         (Number.NO_CODE, "no code 67", 67, None, lambda: t1subset.subset(PFA, ["Zed"], codes=b"ACD")),
         (Number.NO_CODE, "no code 0", 0, None, lambda: t1subset.subset(PFA, [], codes=bytes(256))),
+        (Number.NO_CODE, "no code 67", 67, None, lambda: t1subset.subset(PFA, ["Zed"], codes=b"C", tokens=0)),
+        (Number.NO_GLYPH, "no glyph Zed", 0, None, lambda: t1subset.subset(PFA, ["Zed"], tokens=0)),
     ]
 
 
@@ -88,6 +95,7 @@ def rows_of_parts() -> List[Row]:
     for part, text, font in rows:
         row = (Number.SHELLS_DIFFER, "shells differ in " + text, int(part), None)
         found.append((*row, partial(t1subset.merge, [PFA, font])))
+        found.append((*row, partial(t1subset.merge, [PFA, font], tokens=0)))
     return found
 
 
@@ -125,6 +133,30 @@ def rows_of_mergers() -> List[Row]:
     ]
 
 
+def rows_of_tokens() -> List[Row]:
+    """Calls that may execute fewer tokens than their glyphs have: .notdef 4, and A 9 with those of its Subr."""
+    empty, calls_4, across = b"\x8b\xf7\x8e\x0d\x0e", b"\x8b\xf7\x8e\x0d\x8f\x0a\x0e", b"\xef\x16\x0b"
+    font = made([b"\x0b"] * 4 + [across], {b".notdef": empty, b"A": calls_4})
+    row = (Number.TOO_MANY_TOKENS, "too many tokens", 0, None)
+    found: List[Row] = [
+        (*row, lambda: t1subset.subset(font, [], tokens=3)),
+        (*row, lambda: t1subset.subset(font, [], codes=b"A", tokens=12)),
+        (*row, lambda: t1subset.merge([font, font], tokens=25)),
+        (*row, lambda: t1subset.rejoin([font, font], "pfb", tokens=25)),
+        (*row, lambda: t1subset.diff(font, font, tokens=25)),
+        (*row, lambda: t1subset.diff(font, PFA, tokens=0)),
+        (Number.NOTHING_TO_MERGE, "nothing to merge", 0, None, lambda: t1subset.merge([], tokens=0)),
+        (Number.NOTHING_TO_MERGE, "nothing to merge", 0, None, lambda: t1subset.rejoin([], tokens=0)),
+    ]
+    for tokens in (0, 1, 12):
+        found += [
+            (*row, partial(t1subset.subset, font, ["A"], tokens=tokens)),
+            (*row, partial(t1subset.merge, [font], tokens=tokens)),
+            (*row, partial(t1subset.rejoin, [font], tokens=tokens)),
+        ]
+    return found
+
+
 def rows_of_documents() -> List[Row]:
     document, long, part = b"%!PS\nshowpage\n", bytes(LONG), bytes(LONG - 1)
     return [
@@ -152,7 +184,7 @@ def rows_of_listings() -> List[Row]:
 
 def all_rows() -> List[Row]:
     fonts_alone = [*rows_of_files(), *rows_of_names(), *rows_of_parts(), *rows_of_mergers()]
-    return [*fonts_alone, *rows_of_listings(), *rows_of_documents()]
+    return [*fonts_alone, *rows_of_tokens(), *rows_of_listings(), *rows_of_documents()]
 
 
 class Refusals(unittest.TestCase):
@@ -177,6 +209,9 @@ class Refusals(unittest.TestCase):
 
     def test_mergers(self) -> None:
         self.refused(rows_of_mergers())
+
+    def test_tokens(self) -> None:
+        self.refused(rows_of_tokens())
 
     def test_listings(self) -> None:
         self.refused(rows_of_listings())

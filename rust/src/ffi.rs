@@ -3,7 +3,7 @@
 #![allow(unsafe_code)]
 
 use crate::refusal::{Number, Refused};
-use crate::Form;
+use crate::{Form, Limits};
 use std::marker::PhantomData;
 use std::ptr;
 use std::slice;
@@ -61,11 +61,44 @@ extern "C" {
     ) -> u32;
     fn t1subset_merge(fonts: *const Given<'_>, count: usize, form: u32, answer: *mut Answer) -> u32;
     fn t1subset_rejoin(fonts: *const Given<'_>, count: usize, form: u32, answer: *mut Answer) -> u32;
+    fn t1subset_subset_within(
+        font: *const u8,
+        size: usize,
+        names: *const Given<'_>,
+        count: usize,
+        codes: *const u8,
+        codes_size: usize,
+        form: u32,
+        limits: *const Limits,
+        answer: *mut Answer,
+    ) -> u32;
+    fn t1subset_merge_within(
+        fonts: *const Given<'_>,
+        count: usize,
+        form: u32,
+        limits: *const Limits,
+        answer: *mut Answer,
+    ) -> u32;
+    fn t1subset_rejoin_within(
+        fonts: *const Given<'_>,
+        count: usize,
+        form: u32,
+        limits: *const Limits,
+        answer: *mut Answer,
+    ) -> u32;
     fn t1subset_diff(
         first: *const u8,
         first_size: usize,
         second: *const u8,
         second_size: usize,
+        answer: *mut Answer,
+    ) -> u32;
+    fn t1subset_diff_within(
+        first: *const u8,
+        first_size: usize,
+        second: *const u8,
+        second_size: usize,
+        limits: *const Limits,
         answer: *mut Answer,
     ) -> u32;
     fn t1subset_join(
@@ -212,9 +245,43 @@ pub(crate) fn rejoin(fonts: &[&[u8]], form: Form) -> Result<Vec<u8>, Refused> {
     call(|answer| unsafe { t1subset_rejoin(fonts.as_ptr(), fonts.len(), number_of(form), answer) })
 }
 
+pub(crate) fn subset_within(
+    font: &[u8],
+    names: &[&[u8]],
+    codes: &[u8],
+    form: Form,
+    limits: &Limits,
+) -> Result<Vec<u8>, Refused> {
+    let names = given(names);
+    let (data, size, form) = (codes.as_ptr(), codes.len(), number_of(form));
+    // SAFETY: as in `subset_codes`, and the limits are borrowed, too.
+    call(|answer| unsafe {
+        t1subset_subset_within(font.as_ptr(), font.len(), names.as_ptr(), names.len(), data, size, form, limits, answer)
+    })
+}
+
+pub(crate) fn merge_within(fonts: &[&[u8]], form: Form, limits: &Limits) -> Result<Vec<u8>, Refused> {
+    let fonts = given(fonts);
+    // SAFETY: as in `merge`, and the limits are borrowed, too.
+    call(|answer| unsafe { t1subset_merge_within(fonts.as_ptr(), fonts.len(), number_of(form), limits, answer) })
+}
+
+pub(crate) fn rejoin_within(fonts: &[&[u8]], form: Form, limits: &Limits) -> Result<Vec<u8>, Refused> {
+    let fonts = given(fonts);
+    // SAFETY: as in `merge_within`.
+    call(|answer| unsafe { t1subset_rejoin_within(fonts.as_ptr(), fonts.len(), number_of(form), limits, answer) })
+}
+
 pub(crate) fn diff(first: &[u8], second: &[u8]) -> Result<Vec<u8>, Refused> {
     // SAFETY: as in `check`, of two slices.
     call(|answer| unsafe { t1subset_diff(first.as_ptr(), first.len(), second.as_ptr(), second.len(), answer) })
+}
+
+pub(crate) fn diff_within(first: &[u8], second: &[u8], limits: &Limits) -> Result<Vec<u8>, Refused> {
+    // SAFETY: as in `diff`, and the limits are borrowed, too.
+    call(|answer| unsafe {
+        t1subset_diff_within(first.as_ptr(), first.len(), second.as_ptr(), second.len(), limits, answer)
+    })
 }
 
 pub(crate) fn join(first: &[u8], second: &[u8]) -> Result<Vec<u8>, Refused> {

@@ -18,9 +18,10 @@
 //! `str` or bytes, without its slash. A call that has no result answers [`Refused`], for want of memory, too, as
 //! [`Number::Memory`]; only memory for what this crate itself copies is asked for as Rust does.
 //!
-//! Any number of threads may call at once. A font of 1 MB can be made so that `merge` and `rejoin` run for minutes: a
-//! service that opens files of strangers should limit the time of a call from outside, for instance in a process of its
-//! own.
+//! Any number of threads may call at once. A font of 1 MB can be made so that a call that runs its glyphs takes minutes.
+//! [`subset_within`], [`merge_within`], [`rejoin_within`] and [`diff_within`] bound what is run, without a clock;
+//! [`list_full`], [`pool`], [`pool_tags`], [`level`] and [`fonts`] have no such limit: a service that opens files of
+//! strangers should limit the time of these from outside, for instance in a process of its own.
 //!
 //! # Panics
 //!
@@ -54,6 +55,27 @@ pub enum Form {
     Pfa,
     /// Segments, with the cipher in binary.
     Pfb,
+}
+
+/// What [`subset_within`], [`merge_within`], [`rejoin_within`] and [`diff_within`] may do at most. By default nothing is
+/// limited.
+///
+/// ```
+/// use t1subset::Limits;
+/// assert_eq!(Limits::default(), Limits { tokens: u64::MAX });
+/// ```
+#[repr(C)]
+#[derive(Clone, Copy, Debug, PartialEq, Eq)]
+pub struct Limits {
+    /// How many tokens may be executed in all: numbers and commands of charstrings, each as often as it is executed, in
+    /// Subrs too.
+    pub tokens: u64,
+}
+
+impl Default for Limits {
+    fn default() -> Limits {
+        Limits { tokens: u64::MAX }
+    }
 }
 
 /// What a font has, if it is one.
@@ -237,10 +259,88 @@ pub fn rejoin<F: AsRef<[u8]>>(fonts: &[F], form: Form) -> Result<Vec<u8>, Refuse
     ffi::rejoin(&slices(fonts), form)
 }
 
+/// What [`subset_codes`] answers, within limits.
+///
+/// It is refused as [`Number::TooManyTokens`] only if the runs of all glyphs that are kept execute more tokens in all,
+/// those where hints are replaced and those where they are kept. Missing codes and names are told before.
+///
+/// ```
+/// # fn main() -> Result<(), Box<dyn std::error::Error>> {
+/// use t1subset::{subset, subset_within, Form, Limits, Number};
+/// let font = std::fs::read("../examples/tiny.pfa")?;
+/// let limits = Limits { tokens: 1_000_000 };
+/// let cut = subset_within(&font, &["X"], b"B", Form::Pfa, &limits)?;
+/// assert_eq!(cut, subset(&font, &["X", "Y"], Form::Pfa)?);
+///
+/// let refused = subset_within(&font, &["X"], b"B", Form::Pfa, &Limits { tokens: 5 }).unwrap_err();
+/// assert_eq!(refused.number, Number::TooManyTokens);
+/// # Ok(())
+/// # }
+/// ```
+pub fn subset_within<N: AsRef<[u8]>>(
+    font: &[u8],
+    names: &[N],
+    codes: &[u8],
+    form: Form,
+    limits: &Limits,
+) -> Result<Vec<u8>, Refused> {
+    ffi::subset_within(font, &slices(names), codes, form, limits)
+}
+
+/// What [`merge`] answers, within limits.
+///
+/// It is refused as [`Number::TooManyTokens`] only if the runs of all glyphs of all fonts execute more tokens in all, as
+/// for [`subset_within`]. If the shells of the first two fonts differ, that is told, and no glyph is run; any other conflict
+/// is told only where the tokens are not too many.
+///
+/// ```
+/// # fn main() -> Result<(), Box<dyn std::error::Error>> {
+/// use t1subset::{merge, merge_within, Form, Limits, Number};
+/// let font = std::fs::read("../examples/tiny.pfa")?;
+/// let limits = Limits { tokens: 10_000_000 };
+/// assert_eq!(merge_within(&[&font, &font], Form::Pfb, &limits)?, merge(&[&font], Form::Pfb)?);
+///
+/// let refused = merge_within(&[&font, &font], Form::Pfb, &Limits { tokens: 10 }).unwrap_err();
+/// assert_eq!(refused.number, Number::TooManyTokens);
+/// # Ok(())
+/// # }
+/// ```
+pub fn merge_within<F: AsRef<[u8]>>(fonts: &[F], form: Form, limits: &Limits) -> Result<Vec<u8>, Refused> {
+    ffi::merge_within(&slices(fonts), form, limits)
+}
+
+/// What [`rejoin`] answers, within limits.
+///
+/// It is refused as [`Number::TooManyTokens`] only if the runs of all glyphs of all fonts execute more tokens in all, as
+/// for [`subset_within`].
+pub fn rejoin_within<F: AsRef<[u8]>>(fonts: &[F], form: Form, limits: &Limits) -> Result<Vec<u8>, Refused> {
+    ffi::rejoin_within(&slices(fonts), form, limits)
+}
+
 /// Lines that tell all conflicts of two fonts, each with the text by which [`merge`] refuses for it, the lowest first; empty exactly
 /// if the fonts merge.
 pub fn diff(first: &[u8], second: &[u8]) -> Result<Vec<u8>, Refused> {
     ffi::diff(first, second)
+}
+
+/// What [`diff`] answers, within limits.
+///
+/// It is refused as [`Number::TooManyTokens`] only if the runs of all glyphs of both fonts execute more tokens in all, as
+/// for [`subset_within`]. These are run first, so that this refusal comes before all conflicts.
+///
+/// ```
+/// # fn main() -> Result<(), Box<dyn std::error::Error>> {
+/// use t1subset::{diff_within, Limits, Number};
+/// let [pfa, pfb] = [std::fs::read("../examples/tiny.pfa")?, std::fs::read("../examples/tiny.pfb")?];
+/// assert_eq!(diff_within(&pfa, &pfb, &Limits { tokens: 10_000_000 })?, b"");
+///
+/// let refused = diff_within(&pfa, &pfb, &Limits { tokens: 10 }).unwrap_err();
+/// assert_eq!(refused.number, Number::TooManyTokens);
+/// # Ok(())
+/// # }
+/// ```
+pub fn diff_within(first: &[u8], second: &[u8], limits: &Limits) -> Result<Vec<u8>, Refused> {
+    ffi::diff_within(first, second, limits)
 }
 
 /// The join of two listings, texts of lines `S INDEX HEX` and `G NAME HEX`.

@@ -47,6 +47,8 @@ numbers! {
     NoCode = 5,
     /// `no font NAME`: no document has a font of this name.
     NoFont = 6,
+    /// `too many tokens`: more than the [`Limits`](crate::Limits) allow.
+    TooManyTokens = 7,
     /// `bad segment at N`, an offset in the file.
     BadSegment = 10,
     /// `no eexec`: no Type 1 font program, perhaps TrueType or CFF.

@@ -8,7 +8,7 @@ use t1subset::{
     check, convert, diff, extract, fonts, join, level, list, list_full, mend, mends, merge, pool, pool_tags, rejoin, show,
     subset,
 };
-use t1subset::{subset_codes, Form};
+use t1subset::{diff_within, merge_within, rejoin_within, subset_codes, subset_within, Form, Limits};
 
 #[test]
 fn subsets_merge_in_any_order_to_the_subset_of_all() {
@@ -78,6 +78,32 @@ fn codes_are_their_names() {
     let kept = list(&subset_codes::<&str>(&standard, &[], "Aé".as_bytes(), Form::Pfa).unwrap()).unwrap().glyphs;
     let kept: Vec<_> = kept.into_keys().map(|name| name.to_string()).collect();
     assert_eq!(kept, [".notdef", "A", "circumflex", "quotesingle"]);
+}
+
+#[test]
+fn tokens_that_are_enough() {
+    for (path, font) in each_font() {
+        let names = some_names(&font);
+        let one = subset(&font, &names[..2], Form::Pfa).unwrap();
+        let parts = [&one, &subset(&font, &names[2..], Form::Pfb).unwrap()];
+        // No glyph executes more than 100,000 tokens by one answer to hint replacement.
+        let tokens = 400_000 * list(&font).unwrap().glyphs.len() as u64;
+        for limits in [Limits { tokens }, Limits::default()] {
+            assert!(subset_within(&font, &names[..2], b"", Form::Pfa, &limits).unwrap() == one, "{path}");
+            assert!(merge_within(&parts, Form::Pfb, &limits) == merge(&parts, Form::Pfb), "{path}");
+            assert!(rejoin_within(&parts, Form::Pfa, &limits) == rejoin(&parts, Form::Pfa), "{path}");
+            assert_eq!(diff_within(parts[0], parts[1], &limits).unwrap(), b"", "{path}");
+        }
+    }
+    // .notdef and A execute 4 tokens each, by either answer.
+    let font = made("Small", &[STUB; 4], &[(b".notdef", EMPTY), (b"A", EMPTY)]);
+    let limits = Limits { tokens: 16 };
+    assert!(subset_within::<&str>(&font, &[], b"A", Form::Pfa, &limits).unwrap() == font);
+    assert!(merge_within(&[&font], Form::Pfa, &limits).unwrap() == font);
+    assert!(rejoin_within(&[&font], Form::Pfa, &limits).unwrap() == font);
+    let other = made("Other", &[STUB; 4], &[(b".notdef", EMPTY), (b"A", EMPTY)]);
+    let told = diff_within(&font, &other, &Limits { tokens: 32 }).unwrap();
+    assert_eq!(told, b"shells differ in head\n");
 }
 
 #[test]

@@ -10,7 +10,9 @@ use std::ptr;
 use t1subset::{
     check, convert, diff, extract, fonts, join, level, list, list_full, mend, mends, merge, pool, rejoin, show, subset,
 };
-use t1subset::{subset_codes, Form, Number, Picture, Refused};
+use t1subset::{
+    diff_within, merge_within, rejoin_within, subset_codes, subset_within, Form, Limits, Number, Picture, Refused,
+};
 
 /// `t1subset_heap`.
 #[repr(C)]
@@ -91,6 +93,7 @@ fn each_call() {
     let spelled = Tiny::spelled().file();
     assert_eq!(sweep(|| mends(&spelled)).unwrap().len(), 2);
     assert_eq!(sweep(|| diff(&pfa, &pfb)).unwrap(), b"");
+    assert_eq!(sweep(|| diff_within(&pfa, &pfb, &Limits::default())).unwrap(), b"");
     assert_eq!(sweep(|| join(b"S 5 0B\n", b"")).unwrap(), b"S 5 0b\n");
 }
 
@@ -103,6 +106,10 @@ fn calls_that_make_fonts() {
     assert!(sweep(|| subset_codes(&pfa, &["X"], b"B", Form::Pfa)).unwrap() == both);
     assert!(sweep(|| merge(&[&one, &two], Form::Pfa)).unwrap() == both);
     assert!(sweep(|| rejoin(&[&two, &one], Form::Pfa)).unwrap() == both);
+    let limits = Limits::default();
+    assert!(sweep(|| subset_within(&pfa, &["X"], b"B", Form::Pfa, &limits)).unwrap() == both);
+    assert!(sweep(|| merge_within(&[&one, &two], Form::Pfa, &limits)).unwrap() == both);
+    assert!(sweep(|| rejoin_within(&[&two, &one], Form::Pfa, &limits)).unwrap() == both);
 }
 
 #[test]
@@ -124,4 +131,7 @@ fn a_refusal() {
     assert_eq!(sweep(|| merge(&fonts, Form::Pfa)).unwrap_err().text, "shells differ in private");
     let none = made("None", &[], &[]);
     assert_eq!(sweep(|| check(&none)).unwrap_err().text, "no .notdef");
+    let few = Limits { tokens: 3 };
+    assert_eq!(sweep(|| merge_within(&fonts[..1], Form::Pfa, &few)).unwrap_err().number, Number::TooManyTokens);
+    assert_eq!(sweep(|| diff_within(&fonts[0], &fonts[1], &few)).unwrap_err().number, Number::TooManyTokens);
 }

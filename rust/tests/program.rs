@@ -8,7 +8,9 @@ use std::fmt::Write;
 use std::fs;
 use std::path::PathBuf;
 use std::process::{Command, Output};
-use t1subset::{Amount, Checked, Drawing, Encoding, Form, Listed, ListedInFull, Mark, Picture, Point, Refused, Width};
+use t1subset::{
+    Amount, Checked, Drawing, Encoding, Form, Limits, Listed, ListedInFull, Mark, Picture, Point, Refused, Width,
+};
 
 /// The program: that of the variable T1SUBSET, else the tree's.
 fn program() -> Option<PathBuf> {
@@ -160,6 +162,10 @@ fn words_about_one_font() {
         run.same(&["subset", "IN0", "OUT", "--codes", "65-66"], &[font], by_codes);
         let by_text = t1subset::subset_codes(font, &["A"], b"Zed", Form::Pfa);
         run.same(&["subset", "IN0", "OUT", "--text", "Zed", "A"], &[font], by_text);
+        for tokens in [0, 100, u64::MAX] {
+            let cut = t1subset::subset_within(font, &["A"], b"Zed", Form::Pfa, &Limits { tokens });
+            run.same(&["subset", "--tokens", &tokens.to_string(), "IN0", "OUT", "--text", "Zed", "A"], &[font], cut);
+        }
         for name in names.iter().map(String::as_str).chain(["Zed"]) {
             run.same(&["show", "IN0", name], &[font], t1subset::show(font, name).map(|it| show_text(&it).into()));
             run.same(&["subset", "IN0", "OUT", name], &[font], t1subset::subset(font, &[name], Form::Pfa));
@@ -178,6 +184,17 @@ fn words_about_several_fonts() {
         let inputs = [pair[0].as_slice(), pair[1].as_slice()];
         run.same(&["merge", "OUT", "IN0", "IN1"], &inputs, t1subset::merge(&inputs, Form::Pfa));
         run.same(&["rejoin", "OUT", "IN0", "IN1"], &inputs, t1subset::rejoin(&inputs, Form::Pfa));
+    }
+    let inputs = [fonts[0].as_slice(), fonts[1].as_slice()];
+    for tokens in [0, 100, u64::MAX] {
+        let (limits, shown) = (Limits { tokens }, tokens.to_string());
+        let merged = t1subset::merge_within(&inputs, Form::Pfa, &limits);
+        run.same(&["merge", "--tokens", &shown, "OUT", "IN0", "IN1"], &inputs, merged);
+        let rejoined = t1subset::rejoin_within(&inputs, Form::Pfa, &limits);
+        run.same(&["rejoin", "--tokens", &shown, "OUT", "IN0", "IN1"], &inputs, rejoined);
+        let alike = [inputs[0], inputs[0]];
+        let told = t1subset::diff_within(alike[0], alike[1], &limits);
+        run.same(&["diff", "--tokens", &shown, "IN0", "IN1"], &alike, told);
     }
     for names in [["X", "Y"], ["Y", "Aacute"], ["H", "H"]] {
         let [one, other] = names.map(|name| {

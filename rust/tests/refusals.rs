@@ -3,15 +3,19 @@
 
 mod common;
 
-use common::{example, made, Tiny, EMPTY};
+use common::{example, made, Tiny, EMPTY, STUB};
 use std::fmt::Debug;
 use t1subset::{
     check, convert, extract, fonts, join, level, list, list_full, mend, mends, merge, pool, rejoin, show, subset,
 };
-use t1subset::{subset_codes, Form, Number, Part, Refused};
+use t1subset::{
+    diff_within, merge_within, rejoin_within, subset_codes, subset_within, Form, Limits, Number, Part, Refused,
+};
 
 /// One byte more than a file may have.
 const LONG: usize = 268_435_457;
+
+const NOTHING: Limits = Limits { tokens: 0 };
 
 #[track_caller]
 fn refused<T: Debug>(
@@ -42,6 +46,11 @@ fn refused_file(font: &[u8], number: Number, text: &str, detail: u64) {
     refused(subset_codes(font, &["nosuch"], b"C", Form::Pfa), number, text, detail, Some(0));
     refused(merge(&[&pfa[..], font, b""], Form::Pfa), number, text, detail, Some(1));
     refused(rejoin(&[&pfa[..], &pfa, font], Form::Pfa), number, text, detail, Some(2));
+    refused(subset_within(font, &["nosuch"], b"C", Form::Pfa, &NOTHING), number, text, detail, Some(0));
+    refused(merge_within(&[&pfa[..], font, b""], Form::Pfa, &NOTHING), number, text, detail, Some(1));
+    refused(rejoin_within(&[&pfa[..], &pfa, font], Form::Pfa, &NOTHING), number, text, detail, Some(2));
+    refused(diff_within(font, b"", &NOTHING), number, text, detail, Some(0));
+    refused(diff_within(&pfa, font, &NOTHING), number, text, detail, Some(1));
 }
 
 #[test]
@@ -85,6 +94,29 @@ fn names() {
     refused(subset_codes(&font, &["Zed"], b"AB", Form::Pfa), Number::NoGlyph, "no glyph Zed", 0, None);
     refused(subset_codes(&font, &["Zed"], b"ACD", Form::Pfa), Number::NoCode, "no code 67", 67, None);
     refused(subset_codes::<&str>(&font, &[], b"\0", Form::Pfa), Number::NoCode, "no code 0", 0, None);
+    let within = |names: &[&str], codes: &[u8]| subset_within(&font, names, codes, Form::Pfa, &NOTHING);
+    refused(within(&["Zed"], b"AB"), Number::NoGlyph, "no glyph Zed", 0, None);
+    refused(within(&["Zed"], b"ACD"), Number::NoCode, "no code 67", 67, None);
+}
+
+#[test]
+fn tokens() {
+    // .notdef executes 4 tokens, and A 9 with those of Subr 4.
+    let calls_4 = &b"\x8b\xf7\x8e\x0d\x8f\x0a\x0e"[..];
+    let subrs = [&[STUB; 4][..], &[b"\xef\x16\x0b"]].concat();
+    let font = made("Made", &subrs, &[(b".notdef", EMPTY), (b"A", calls_4)]);
+    let too_many = |done| refused(done, Number::TooManyTokens, "too many tokens", 0, None);
+    too_many(subset_within::<&str>(&font, &[], b"", Form::Pfa, &Limits { tokens: 3 }));
+    too_many(subset_within::<&str>(&font, &[], b"A", Form::Pfa, &Limits { tokens: 12 }));
+    too_many(merge_within(&[&font, &font], Form::Pfa, &Limits { tokens: 25 }));
+    too_many(rejoin_within(&[&font, &font], Form::Pfa, &Limits { tokens: 25 }));
+    too_many(diff_within(&font, &font, &Limits { tokens: 25 }));
+    for tokens in [0, 1, 12] {
+        let limits = Limits { tokens };
+        too_many(subset_within(&font, &["A"], b"", Form::Pfb, &limits));
+        too_many(merge_within(&[&font], Form::Pfb, &limits));
+        too_many(rejoin_within(&[&font], Form::Pfb, &limits));
+    }
 }
 
 #[test]
@@ -107,6 +139,9 @@ fn parts() {
         let merged = merge(&[tiny.file(), other.file()], Form::Pfa);
         let why = refused(merged, Number::ShellsDiffer, &format!("shells differ in {name}"), detail, None);
         assert_eq!(why.part(), Some(part));
+        assert_eq!(merge_within(&[tiny.file(), other.file()], Form::Pfa, &NOTHING), Err(why));
+        let told = diff_within(&tiny.file(), &other.file(), &NOTHING);
+        refused(told, Number::TooManyTokens, "too many tokens", 0, None);
     }
 }
 
@@ -151,6 +186,8 @@ fn no_fonts() {
     let none: [&[u8]; 0] = [];
     refused(merge(&none, Form::Pfa), Number::NothingToMerge, "nothing to merge", 0, None);
     refused(rejoin(&none, Form::Pfa), Number::NothingToMerge, "nothing to merge", 0, None);
+    refused(merge_within(&none, Form::Pfa, &NOTHING), Number::NothingToMerge, "nothing to merge", 0, None);
+    refused(rejoin_within(&none, Form::Pfa, &NOTHING), Number::NothingToMerge, "nothing to merge", 0, None);
 }
 
 #[test]

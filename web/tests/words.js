@@ -7,7 +7,7 @@ const { library } = require("../calls.js");
 
 const text = fs.readFileSync(process.env.MODULE || path.join(__dirname, "../module.js"), "latin1");
 const t1 = library(Buffer.from(/"([A-Za-z0-9+/=]{100,})"/.exec(text)[1], "base64"));
-const options = { form: 0, codes: [], text: [], extract: null, full: false }, words = [];
+const options = { form: 0, codes: [], text: [], tokens: null, extract: null, full: false }, words = [];
 
 const plain = (data) => Buffer.from(data).toString("latin1");
 const bytes = (word) => new Uint8Array(Buffer.from(word));
@@ -28,6 +28,7 @@ function take(given) {
     "--full": () => { options.full = true; },
     "--codes": (value) => { options.codes.push(...codesOf(value())); },
     "--text": (value) => { options.text = [...bytes(value())]; },
+    "--tokens": (value) => { options.tokens = BigInt(value()); },
     "--extract": (value) => { options.extract = bytes(value()); },
   };
   while (given.length) {
@@ -44,12 +45,25 @@ function kept(documents) {
   return [...new Map(lines.map((found) => [found[1], `kept ${found[1]}: ${found[2]}\n`])).values()].join("");
 }
 
+/* The subset of a font, what merges or rejoins fonts, and the conflicts of two, within limits if there are some. */
+function cut(font, names, codes) {
+  const { form, tokens } = options;
+  if (tokens !== null) return t1.subset_within(font, names, codes, form, tokens);
+  return codes.length ? t1.subset_codes(font, names, codes, form) : t1.subset(font, names, form);
+}
+function made(word, fonts) {
+  const { form, tokens } = options;
+  return tokens === null ? t1[word](fonts, form) : t1[word + "_within"](fonts, form, tokens);
+}
+function conflicts(first, second) {
+  return options.tokens === null ? t1.diff(first, second) : t1.diff_within(first, second, options.tokens);
+}
+
 /* What a word prints, which files it writes, and what it says. */
 function run(word, rest) {
   const { form, codes: listed, text: letters, extract } = options, codes = Uint8Array.from([...listed, ...letters]);
   const written = (out, data, said = "") => ({ files: { [out]: data }, said });
   const [first, second, ...names] = rest, wanted = names.map(bytes);
-  const subset = () => codes.length ? t1.subset_codes(file(first), wanted, codes, form) : t1.subset(file(first), wanted, form);
   const several = () => rest.slice(1).map(file), inside = (at) => path.join(first, path.basename(rest[at + 1]));
   const places = () => plain(t1.fonts(rest.map(file))).replace(/^(\d+):/gm, (_, at) => `${rest[at]}:`);
   const does = {
@@ -59,13 +73,13 @@ function run(word, rest) {
     pfa: () => written(second, t1.convert(file(first), 0)),
     pfb: () => written(second, t1.convert(file(first), 1)),
     mend: () => written(second, t1.mend(file(first), form), plain(t1.mends(file(first)))),
-    subset: () => written(second, subset()),
-    merge: () => written(first, t1.merge(several(), form)),
-    rejoin: () => written(first, t1.rejoin(several(), form)),
+    subset: () => written(second, cut(file(first), wanted, codes)),
+    merge: () => written(first, made("merge", several())),
+    rejoin: () => written(first, made("rejoin", several())),
     pool: () => written(first, t1.pool(several()), kept(several())),
     level: () => ({ files: Object.fromEntries(t1.level(several()).map((data, at) => [inside(at), data])), said: kept(several()) }),
     fonts: () => extract ? written(first, t1.extract(extract, several())) : { printed: places() },
-    diff: () => ({ printed: t1.diff(file(first), file(second)), isDiff: true }),
+    diff: () => ({ printed: conflicts(file(first), file(second)), isDiff: true }),
     join: () => ({ printed: t1.join(file(first), file(second)) }),
   };
   return does[word]();

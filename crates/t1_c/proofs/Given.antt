@@ -1,10 +1,10 @@
 -- What a call gives, from what the call over files answered.
-use Rattle.std.proofs.{Common.{◌≡◌, ◌<◌, ℕ, inl, inr, subst, List, [], ◌∷◌, length, All, slice_set, Option, None, Result, Ok, Err, arith}, lemmas.List.Elements.{All-cons, All-tail}}
+use Rattle.std.proofs.{Common.{◌≡◌, ◌<◌, ℕ, refl, inl, inr, subst, List, [], ◌∷◌, length, All, slice_set, Option, None, Result, Ok, Err, arith}, lemmas.List.Elements.{All-cons, All-tail}}
 use Rattle.std.specs.Prelude.{IfOk, IfErr, MatchResult}
 use Rattle.t1_bytes.specs.declared.form.Form.{Form}
-use Rattle.t1_cmd.specs.{declared.faults.FilesRefusal.{FilesRefusal}, declared.faults.Reason.{Reason}, declared.faults.Reason.TheVariants.{Memory}, Files.{OfFiles, RefusesFiles}}
-use Rattle.t1_cmd.specs.{WrittenSubsets.{OfUnion}, Cuts.{OfRejoined}}
-use Rattle.t1_c.specs.{declared.answers.Answer.{Answer}, Gives.{HasWhole, IsSaid, GivesReason, HoldsNothing, FirstGives, GivesFiles, GivesText}}
+use Rattle.t1_cmd.specs.{declared.faults.FilesRefusal.{FilesRefusal}, declared.faults.Reason.{Reason}, declared.faults.Reason.TheVariants.{Memory}, Answers.{MayRefuse}, Files.{OfFiles, RefusesFiles}}
+use Rattle.t1_cmd.{specs.{WrittenSubsets.{OfUnion}, Cuts.{OfRejoined}}, proofs.Refusals.{by_answer}}
+use Rattle.t1_c.specs.{declared.answers.Answer.{Answer}, Gives.{HasWhole, IsSaid, GivesReason, CallGives, place_in_one, HoldsNothing, FirstGives, GivesFiles, GivesText}}
 
 -- a call over several files gives what that call answered
 pub gives_files : {A : Type 0} (understand : List ℕ → Result A Reason) (Answers : List A → Result (List ℕ) Reason → Type 0) (files : List (List ℕ))
@@ -14,6 +14,21 @@ pub gives_files : {A : Type 0} (understand : List ℕ → Result A Reason) (Answ
 gives_files understand Answers files view (Ok v) code a is refused whole told = inr (inl (view v, is, whole))
 gives_files understand Answers files view (Err e) code a is refused whole (inl nothing) = inl nothing
 gives_files understand Answers files view (Err e) code a is refused whole (inr told) = inr (inr (e.place, e.reason, refused, told))
+
+-- a call over one file gives what that call answered
+pub gives_answer : (P : Result (List ℕ) Reason → Type 0) {V : Type 0} (view : V → List ℕ) (r : Result V Reason) (code : ℕ) (a : Answer)
+    → IfOk r (λ v. P (Ok (view v))) → IfErr r (MayRefuse P)
+    → IfOk r (λ v. HasWhole (view v) code a) → IfErr r (λ e. GivesReason (place_in_one e) e code a)
+    → CallGives (λ text. P (Ok text)) (λ place e. (place ≡ place_in_one e) × P (Err e)) code a
+gives_answer P view (Ok v) code a is refused whole told = inr (inl (view v, is, whole))
+gives_answer P view (Err e) code a is refused whole (inl nothing) = inl nothing
+gives_answer P view (Err e) code a is refused whole (inr said) =
+    inr (inr (
+      place_in_one e,
+      e,
+      (refl, by_answer P (λ s. IsSaid (place_in_one s) s code a → P (Err s)) e (λ never. absurd never) (λ s h k. h) refused said),
+      said,
+    ))
 
 -- a text or want of memory is given as that
 text_given : {V : Type 0} (view : V → List ℕ) (r : Result V FilesRefusal) (code : ℕ) (a : Answer) (text : List ℕ)

@@ -2,7 +2,7 @@
 use Rattle.std.specs.{Prelude.{◌≡◌, ◌⊎◌, ℕ, ◌-◌, ◌^◌, min, ℤ, pos, negsuc, List, [], ◌∷◌, map, All, Option, None, Some, Result, Ok, Err}, List.{range_with_len}, Fmt.{decimal}}
 use Rattle.t1_bytes.specs.declared.form.Form.{Form}
 use Rattle.t1_font.specs.FontValue.{FontValue}
-use Rattle.t1_cmd.specs.{declared.faults.Reason.{Reason}, declared.faults.Reason.TheVariants.{TooLong, Memory, Font}, Texts.{reason_text}, Fonts.{of_file, of_mended}}
+use Rattle.t1_cmd.specs.{declared.faults.Reason.{Reason}, declared.faults.Reason.TheVariants.{TooLong, Memory, Font}, Texts.{reason_text}, Answers.{OfThere}, Fonts.{font_input, of_file, of_mended}}
 use Rattle.t1_cmd.specs.{Files.{OfFiles, RefusedAt, IsUnread}, Documents.{text_input}}
 use Rattle.t1_document.specs.Joins.{LevelsTo}
 use Rattle.t1_c.specs.{declared.answers.Answer.{Answer}, Numbers.{ok, memory, bad_call, number_of, detail_of}}
@@ -89,6 +89,11 @@ GivesOf answer file = GivesOne (of_file answer file)
 -- a call over one file gives what the font is answered with that it spells widely, without the test whether it was loaded before
 abbrev pub GivesMended : (FontValue → Result (List ℕ) Reason) → List ℕ → ℕ → Answer → Type 0
 GivesMended answer file = GivesOne (of_mended answer file)
+
+-- a call over one file gives an answer of its font, or of why it spells none
+abbrev pub GivesAnswer : (FontValue → Result (List ℕ) Reason → Type 0) → List ℕ → ℕ → Answer → Type 0
+GivesAnswer Answers file =
+    CallGives (λ text. OfThere Answers (font_input file) (Ok text)) (λ place r. (place ≡ place_in_one r) × OfThere Answers (font_input file) (Err r))
 
 -- a call over several files gives an answer to what all of them say
 abbrev pub GivesFiles : {A : Type 0} → (List ℕ → Result A Reason) → (List A → Result (List ℕ) Reason → Type 0) → List (List ℕ) → ℕ → Answer → Type 0

@@ -13,7 +13,7 @@ mod numbers;
 #[cfg(test)]
 mod tests;
 
-ghost use Rattle.std.specs.Prelude.{◌≡◌, ◌∷◌, [], false, length, true};
+ghost use Rattle.std.specs.Prelude.{◌≡◌, ◌∷◌, [], Some, false, length, true};
 ghost use Rattle.t1_subset.specs.NameSets.{lent};
 ghost use Rattle.t1_cmd.specs.CheckText.{check_answer};
 ghost use Rattle.t1_cmd.specs.ListText.{list_answer};
@@ -22,6 +22,7 @@ ghost use Rattle.t1_cmd.specs.DrawingText.{show_answer};
 ghost use Rattle.t1_cmd.specs.Fonts.{font_input, mended_input, file_answer};
 ghost use Rattle.t1_cmd.specs.Mends.{mends_answer};
 ghost use Rattle.t1_cmd.specs.Subsets.{subset_answer, subset_with_codes};
+ghost use Rattle.t1_cmd.specs.Budgets.{SubsetsWithin, MergesWithin, RejoinsWithin, DiffersWithin};
 ghost use Rattle.t1_cmd.specs.Mergers.{MergesToFile};
 ghost use Rattle.t1_cmd.specs.Rejoins.{RejoinsTo};
 ghost use Rattle.t1_cmd.specs.Diffs.{DiffersBy};
@@ -32,7 +33,7 @@ ghost use Rattle.t1_cmd.specs.Documents.{text_input, PoolsTo};
 ghost use Rattle.t1_cmd.specs.FontPlaces.{ListsTo};
 ghost use Rattle.t1_cmd.specs.Extracts.{ExtractsTo};
 ghost use Rattle.t1_c.specs.Numbers.{form_at, bad_call};
-ghost use Rattle.t1_c.specs.Gives.{GivesOne, GivesOf, GivesMended, GivesFiles, GivesLevels, HaveNothing, In, IfForm, GivesText, place_labels};
+ghost use Rattle.t1_c.specs.Gives.{GivesOne, GivesOf, GivesMended, GivesAnswer, GivesFiles, GivesLevels, HaveNothing, In, IfForm, GivesText, place_labels};
 
 pub use answers::Answer;
 use answers::{give_each, give_files, give_none, give_nothing, give_of};
@@ -40,10 +41,19 @@ use documents::{places, pooled};
 use numbers::{BAD_CALL, form_of};
 use std::alloc::Global;
 use t1_cmd::{
-    check_file, convert_file, diff_files, extract_file, join_listings, level_files, list_file,
-    list_file_full, list_mends, mend_file, merge_files, rejoin_files, show_file, subset_file,
-    subset_file_with_codes,
+    Budget, check_file, convert_file, diff_files, diff_files_within, extract_file, join_listings,
+    level_files, list_file, list_file_full, list_mends, mend_file, merge_files, merge_files_within,
+    rejoin_files, rejoin_files_within, show_file, subset_file, subset_file_with_codes,
+    subset_file_within,
 };
+
+/// What a call may cost.
+#[repr(C)]
+#[derive(Clone, Copy)]
+pub struct Limits {
+    /// How many tokens the charstrings of glyphs may execute in all.
+    pub tokens: u64,
+}
 
 /// Says what a font has: the line of `t1subset check`.
 #[unsafe(no_mangle)]
@@ -154,6 +164,32 @@ pub extern "C" fn t1subset_subset_codes(
     }
 }
 
+/// Makes the canonical file of the subset that keeps these names and the names that these codes have in the font's Encoding, if the
+/// glyphs that are kept execute no more tokens than the limits allow.
+#[unsafe(no_mangle)]
+pub extern "C" fn t1subset_subset_within(
+    alloc: Global,
+    font: &[u8],
+    names: &[&[u8]],
+    codes: &[u8],
+    form: u32,
+    limits: &Limits,
+    answer: &mut Answer,
+) -> u32
+    ensures { In (form_at form) (λ f. GivesAnswer (SubsetsWithin (Some limits.now.tokens) f (lent names.now) codes.now) font.now)
+        result answer.new }
+{
+    let left = Some(limits.tokens);
+    match form_of(form) {
+        Some(form) => give_of(
+            alloc,
+            subset_file_within(alloc, font, names, codes, form, Budget { left }),
+            answer,
+        ),
+        None => give_nothing(BAD_CALL, answer),
+    }
+}
+
 /// Makes the canonical file of the font that fonts merge to. Of written subsets of one font this is the subset over all
 /// their names.
 #[unsafe(no_mangle)]
@@ -170,6 +206,29 @@ pub extern "C" fn t1subset_merge(
 {
     match form_of(form) {
         Some(form) => give_files(alloc, merge_files(alloc, fonts, form), answer),
+        None => give_nothing(BAD_CALL, answer),
+    }
+}
+
+/// Makes the canonical file of the font that fonts merge to, if their glyphs execute no more tokens than the limits allow.
+#[unsafe(no_mangle)]
+pub extern "C" fn t1subset_merge_within(
+    alloc: Global,
+    fonts: &[&[u8]],
+    form: u32,
+    limits: &Limits,
+    answer: &mut Answer,
+) -> u32
+    ensures { In (form_at form) (λ f. GivesFiles font_input (MergesWithin (Some limits.now.tokens) f) (lent fonts.now))
+        result answer.new }
+{
+    let left = Some(limits.tokens);
+    match form_of(form) {
+        Some(form) => give_files(
+            alloc,
+            merge_files_within(alloc, fonts, form, Budget { left }),
+            answer,
+        ),
         None => give_nothing(BAD_CALL, answer),
     }
 }
@@ -194,6 +253,30 @@ pub extern "C" fn t1subset_rejoin(
     }
 }
 
+/// Makes the canonical file of the font that fonts merge to once they are made even, if their glyphs execute no more tokens than the
+/// limits allow.
+#[unsafe(no_mangle)]
+pub extern "C" fn t1subset_rejoin_within(
+    alloc: Global,
+    fonts: &[&[u8]],
+    form: u32,
+    limits: &Limits,
+    answer: &mut Answer,
+) -> u32
+    ensures { In (form_at form) (λ f. GivesFiles mended_input (RejoinsWithin (Some limits.now.tokens) f) (lent fonts.now))
+        result answer.new }
+{
+    let left = Some(limits.tokens);
+    match form_of(form) {
+        Some(form) => give_files(
+            alloc,
+            rejoin_files_within(alloc, fonts, form, Budget { left }),
+            answer,
+        ),
+        None => give_nothing(BAD_CALL, answer),
+    }
+}
+
 /// Tells all conflicts of two fonts: the lines of `t1subset diff`.
 #[unsafe(no_mangle)]
 pub extern "C" fn t1subset_diff(
@@ -205,6 +288,25 @@ pub extern "C" fn t1subset_diff(
     ensures { GivesFiles font_input DiffersBy (first.now ∷ second.now ∷ []) result answer.new }
 {
     give_files(alloc, diff_files(alloc, first, second), answer)
+}
+
+/// Tells all conflicts of two fonts, if their glyphs execute no more tokens than the limits allow.
+#[unsafe(no_mangle)]
+pub extern "C" fn t1subset_diff_within(
+    alloc: Global,
+    first: &[u8],
+    second: &[u8],
+    limits: &Limits,
+    answer: &mut Answer,
+) -> u32
+    ensures { GivesFiles font_input (DiffersWithin (Some limits.now.tokens)) (first.now ∷ second.now ∷ []) result answer.new }
+{
+    let left = Some(limits.tokens);
+    give_files(
+        alloc,
+        diff_files_within(alloc, first, second, Budget { left }),
+        answer,
+    )
 }
 
 /// Makes the text of the join of two listings.

@@ -99,6 +99,7 @@ pub(crate) fn number_of(reason: &Reason) -> u32
         Reason::NoGlyph { .. } => 4,
         Reason::NoCode { .. } => 5,
         Reason::NoFont { .. } => 6,
+        Reason::TooManyTokens => 7,
         Reason::Lacks { .. } => 37,
         Reason::Merge(conflict) => merge_number(conflict),
     }

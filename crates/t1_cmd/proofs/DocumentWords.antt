@@ -2,7 +2,8 @@
 use Rattle.std.proofs.{Common.{◌≡◌, ◌<◌, ◌≤◌, ℕ, Bool, arith, sym, ◌∙◌, List, length, Ok, Err}, lemmas.Bool.{cond-true, cond-false, lt-ltb, le-ltb}, lemmas.Option.{none-some}}
 use Rattle.std.specs.Prelude.{nat_lt}
 use Rattle.t1_bytes.specs.Limits.{file_limit}
-use Rattle.t1_cmd.specs.{declared.faults.Reason.{Reason}, declared.faults.Reason.TheVariants.{TooLong, Memory, List as ListReason, Join as JoinReason, Font, NoGlyph, NoCode, NoFont, Lacks, Merge}}
+use Rattle.t1_cmd.specs.{declared.faults.Reason.{Reason}}
+use Rattle.t1_cmd.specs.{declared.faults.Reason.TheVariants.{TooLong, Memory, List as ListReason, Join as JoinReason, Font, NoGlyph, NoCode, NoFont, TooManyTokens, Lacks, Merge}}
 use Rattle.t1_cmd.specs.{Documents.{text_input, PoolsTo}, FontPlaces.{ListsTo}, Extracts.{ExtractsTo}}
 
 -- ---- one document
@@ -26,6 +27,7 @@ pools_apart tags ds text (Font f) h k = absurd k
 pools_apart tags ds text (NoGlyph n) h k = absurd k
 pools_apart tags ds text (NoCode code) h k = absurd k
 pools_apart tags ds text (NoFont n) h k = absurd k
+pools_apart tags ds text TooManyTokens h k = absurd k
 pools_apart tags ds text (Lacks g q) h k = absurd k
 pools_apart tags ds text (Merge e) h k = absurd k
 
@@ -41,5 +43,6 @@ extracts_apart name ds text (Font f) h k = absurd k
 extracts_apart name ds text (NoGlyph n) h k = absurd k
 extracts_apart name ds text (NoCode code) h k = absurd k
 extracts_apart name ds text (NoFont n) h k = absurd (none-some h.0 (sym k.1 ∙ h.1))
+extracts_apart name ds text TooManyTokens h k = absurd k
 extracts_apart name ds text (Lacks g q) h k = absurd k
 extracts_apart name ds text (Merge e) h k = absurd k

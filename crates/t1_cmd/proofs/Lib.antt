@@ -1,3 +1,4 @@
+pub mod Budgets
 pub mod ReadLemmas
 pub mod WriteLemmas
 pub mod RunLemmas

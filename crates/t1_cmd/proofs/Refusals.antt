@@ -1,6 +1,7 @@
 -- What refuses a value, a file, or the input that has the file.
 use Rattle.std.proofs.Common.{◌≡◌, ℕ, List, subst, sym, Option, Some, None, Result, Err, IfSome}
-use Rattle.t1_cmd.specs.{declared.faults.Reason.{Reason}, declared.faults.Reason.TheVariants.{TooLong, Memory, List as ListReason, Join as JoinReason, Font, NoGlyph, NoCode, NoFont, Lacks, Merge}}
+use Rattle.t1_cmd.specs.{declared.faults.Reason.{Reason}}
+use Rattle.t1_cmd.specs.{declared.faults.Reason.TheVariants.{TooLong, Memory, List as ListReason, Join as JoinReason, Font, NoGlyph, NoCode, NoFont, TooManyTokens, Lacks, Merge}}
 use Rattle.t1_cmd.specs.{declared.faults.RunFault.TheVariants.{Refused}, Inputs.{Input, Holds, Say}, Answers.{MayRefuse}, Runs.{InputStops, Stops}}
 use Rattle.t1_cmd.proofs.RunLemmas.{stops_together}
 
@@ -14,6 +15,7 @@ refuses P (Font f) h = h
 refuses P (NoGlyph n) h = h
 refuses P (NoCode code) h = h
 refuses P (NoFont n) h = h
+refuses P TooManyTokens h = h
 refuses P (Lacks g k) h = h
 refuses P (Merge e) h = h
 
@@ -28,6 +30,7 @@ by_answer P Q (Font e) m f h = f (Font e) h
 by_answer P Q (NoGlyph n) m f h = f (NoGlyph n) h
 by_answer P Q (NoCode code) m f h = f (NoCode code) h
 by_answer P Q (NoFont n) m f h = f (NoFont n) h
+by_answer P Q TooManyTokens m f h = f TooManyTokens h
 by_answer P Q (Lacks g k) m f h = f (Lacks g k) h
 by_answer P Q (Merge e) m f h = f (Merge e) h
 
@@ -51,6 +54,7 @@ module _ {A : Type 0} (understand : List ℕ → Result A Reason) where
   input_stops i (NoGlyph n) h = h
   input_stops i (NoCode code) h = h
   input_stops i (NoFont n) h = h
+  input_stops i TooManyTokens h = h
   input_stops i (Lacks g k) h = h
   input_stops i (Merge e) h = h
 

@@ -2,7 +2,8 @@
 use Rattle.std.proofs.Common.{◌≡◌, ◌<◌, ℕ, refl, sym, ◌∙◌, ap, subst, List, [], ◌∷◌, ◌++◌, ◌⊎◌, inl, inr, ⊎_elim, Option, None, Some, Result, Ok, Err, IfSome, arith}
 use Rattle.std.specs.{Prelude.{OnOk, OnErr, IfErr, IsOk, IsOkUnless, option_and_then}, Result.{result_ok}, Io.KnownBytes.{Appends}}
 use Rattle.t1_cmd.specs.{declared.counting.Counted.{Counted}, declared.faults.Reason.{Reason}}
-use Rattle.t1_cmd.specs.{declared.faults.Reason.TheVariants.{TooLong, Memory, List as ListReason, Join as JoinReason, Font, NoGlyph, NoCode, NoFont, Lacks, Merge}, declared.faults.RunFault.{RunFault}}
+use Rattle.t1_cmd.specs.{declared.faults.Reason.TheVariants.{TooLong, Memory, List as ListReason, Join as JoinReason, Font, NoGlyph, NoCode, NoFont, TooManyTokens, Lacks, Merge}}
+use Rattle.t1_cmd.specs.{declared.faults.RunFault.{RunFault}}
 use Rattle.t1_cmd.specs.{declared.faults.RunFault.TheVariants.{Refused, Read, Write}, Count.{inner_of, failed_of, last_count}}
 use Rattle.t1_cmd.specs.Inputs.{Input, Rose, RoseByOne, HasFailed, AllQuiet, Understood, AllUnderstood, IsRefused, FirstWith, value_and, values_of, Say}
 use Rattle.t1_cmd.specs.Runs.{AppendsPrefix, InputStops, RefusedTogether, Stops, RunEnds, Succeeds}
@@ -107,6 +108,7 @@ module _ {A : Type 0} (understand : List ℕ → Result A Reason) where
     stops_after front i rest (Refused (NoGlyph n)) h s = inl (first_at (IsRefused understand (NoGlyph n)) front i rest h s)
     stops_after front i rest (Refused (NoCode code)) h s = inl (first_at (IsRefused understand (NoCode code)) front i rest h s)
     stops_after front i rest (Refused (NoFont n)) h s = inl (first_at (IsRefused understand (NoFont n)) front i rest h s)
+    stops_after front i rest (Refused TooManyTokens) h s = inl (first_at (IsRefused understand TooManyTokens) front i rest h s)
     stops_after front i rest (Refused (Lacks g k)) h s = inl (first_at (IsRefused understand (Lacks g k)) front i rest h s)
     stops_after front i rest (Refused (Merge n)) h s = inl (first_at (IsRefused understand (Merge n)) front i rest h s)
     stops_after front i rest Read h s = first_at HasFailed front i rest h s
@@ -135,6 +137,7 @@ module _ {A : Type 0} (understand : List ℕ → Result A Reason) where
         by (NoGlyph n) b = inr (together (NoGlyph n) b)
         by (NoCode code) b = inr (together (NoCode code) b)
         by (NoFont n) b = inr (together (NoFont n) b)
+        by TooManyTokens b = inr (together TooManyTokens b)
         by (Lacks g k) b = inr (together (Lacks g k) b)
         by (Merge n) b = inr (together (Merge n) b)
 
@@ -184,6 +187,7 @@ module _ {A : Type 0} (understand : List ℕ → Result A Reason) where
         at xs e text a q same low (Err (Refused (NoGlyph n))) h = ap Refused (refused xs text (NoGlyph n) e a h.1)
         at xs e text a q same low (Err (Refused (NoCode code))) h = ap Refused (refused xs text (NoCode code) e a h.1)
         at xs e text a q same low (Err (Refused (NoFont n))) h = ap Refused (refused xs text (NoFont n) e a h.1)
+        at xs e text a q same low (Err (Refused TooManyTokens)) h = ap Refused (refused xs text TooManyTokens e a h.1)
         at xs e text a q same low (Err (Refused (Lacks g k))) h = ap Refused (refused xs text (Lacks g k) e a h.1)
         at xs e text a q same low (Err (Refused (Merge n))) h = ap Refused (refused xs text (Merge n) e a h.1)
         at xs e text a q same low (Err Read) h = absurd (first_failed is h.1 q)

@@ -81,10 +81,6 @@ module _ {X : Type 0} where
   none_below_zero [] = refl
   none_below_zero (e ∷ es) = ap (λ t. cond t (e ∷ under 0 es) (under 0 es)) (le-ltb e.0 0 (omega arith)) ∙ none_below_zero es
 
-  -- how many entries have keys below n
-  abbrev pub count_under : ℕ → FinMap nat_cmp X → ℕ
-  count_under n m = length (under n (entries m))
-
 module _ (m : FinMap nat_cmp (List ℕ)) where
   sorted : is_sorted nat_cmp (entries m) ≡ true
   sorted = T_true (is_sorted nat_cmp (entries m)) (entries_sorted m)
@@ -124,71 +120,6 @@ module _ (m : FinMap nat_cmp (List ℕ)) where
     -- if all keys are below n, the lines below n are all
     pub lines_all : (n : ℕ) → ((k : ℕ) (v : List ℕ) → get m k ≡ Some v → k < n) → lines_under n ≡ flat_map (λ e. line e.0 e.1) (entries m)
     lines_all n h = ap (flat_map (λ e. line e.0 e.1)) (entries_under n h)
-
--- a line for each key that is met is a line for each entry
-module _ {K : Type 0} (line : K → List ℕ → List ℕ) where
-  looked_up : (look : K → Option (List ℕ)) (es : List (K × List ℕ)) → AllByRecursion (λ e. look e.0 ≡ Some e.1) es
-      → flat_map (λ k. line_at line k (look k)) (map (λ e. e.0) es) ≡ flat_map (λ e. line e.0 e.1) es
-  looked_up look [] h = refl
-  looked_up look (e ∷ es) h = (λ i. line_at line e.0 (h.0 i) ++ looked_up look es h.1 i)
-
-  -- the lines of the keys of a map, each looked up, are the lines of its entries
-  pub keys_looked_up : {R : K → K → Ordering} → IsTotalOrder R → IsAntisymmetric R → (m : FinMap R (List ℕ))
-      → flat_map (λ k. line_at line k (get m k)) (map (λ e. e.0) (entries m)) ≡ flat_map (λ e. line e.0 e.1) (entries m)
-  keys_looked_up o same m = looked_up (get m) (entries m) (entries_all o same (λ k v. get m k ≡ Some v) m (λ k v e. e))
-
--- the lines of all names, once none are left
-pub names_all : (m : Named) (start out : List ℕ) (left : List (List ℕ)) → left ≡ []
-    → out ++ flat_map (λ name. line_at glyph_length_line name (get m name)) left
-    ≡ start ++ flat_map (λ name. line_at glyph_length_line name (get m name)) (names_in m)
-    → out ≡ start ++ flat_map (λ e. glyph_length_line e.0 e.1) (entries m)
-names_all m start out left done h =
-    sym (append-nil out)
-    ∙ sym (ap (λ (ns : List (List ℕ)). out ++ flat_map (λ name. line_at glyph_length_line name (get m name)) ns) done)
-    ∙ h
-    ∙ ap (λ (t : List ℕ). start ++ t) (keys_looked_up glyph_length_line nat_list_cmp_total (slice_cmp-IsAntisymmetric nat_cmp-IsAntisymmetric) m)
-
--- ---- counts
-
-length_entry : {X : Type 0} (n : ℕ) (o : Option X) → length (entry_at n o) ≡ cond (is_some o) 1 0
-length_entry n None = refl
-length_entry n (Some x) = refl
-
--- a font has as many names as glyphs
-pub names_length : (m : Named) → length (names_in m) ≡ len m
-names_length m = length-map (entries m) (λ e. e.0) ∙ sym (len-entries m)
-
--- no Subr is below 0
-pub count_none : (m : Numbered) → count_under 0 m ≡ 0
-count_none m = ap length (entries_none m)
-
--- one index more counts if its Subr is present
-pub count_more : (m : Numbered) (n : ℕ) → count_under (n + 1) m ≡ count_under n m + cond (contains_key m n) 1 0
-count_more m n =
-    ap length (entries_more m n) ∙ length-append (under n (entries m)) (entry_at n (get m n)) ∙ ap (λ k. count_under n m + k) (length_entry n (get m n))
-
--- each Subr is below the declared count
-declared : (f : FontValue) → IsFont f → (n : ℕ) → declared_count f.shell.subrs ≤ n → (k : ℕ) (v : List ℕ) → get f.subrs k ≡ Some v → k < n
-declared f is n l k v e =
-    let some : IsSome (subr_at f k) = subst IsSome (sym (subrs_seen f is k ∙ e)) refl in
-    let below : k < declared_count f.shell.subrs = subrs_below f k some in
-    omega arith
-
--- at the declared count all Subrs are counted
-pub count_all : (f : FontValue) → IsFont f → (n : ℕ) → declared_count f.shell.subrs ≤ n → count_under n f.subrs ≡ len f.subrs
-count_all f is n l = ap length (entries_under f.subrs n (declared f is n l)) ∙ sym (len-entries f.subrs)
-
--- the lines of one index more
-pub subrs_more : (f : FontValue) → IsFont f → (n : ℕ)
-    → lines_under f.subrs subr_length_line (n + 1) ≡ lines_under f.subrs subr_length_line n ++ line_at subr_length_line n (subr_at f n)
-subrs_more f is n =
-    lines_more f.subrs subr_length_line n
-    ∙ ap (λ o. lines_under f.subrs subr_length_line n ++ line_at subr_length_line n o) (sym (subrs_seen f is n))
-
--- at the declared count all Subrs have their lines
-pub subrs_all : (f : FontValue) → IsFont f → (n : ℕ) → declared_count f.shell.subrs ≤ n
-    → lines_under f.subrs subr_length_line n ≡ flat_map (λ e. subr_length_line e.0 e.1) (entries f.subrs)
-subrs_all f is n l = lines_all f.subrs subr_length_line n (declared f is n l)
 
 -- ---- the codes of a table
 

@@ -26,3 +26,13 @@ MayRefuse Answer r = Answer (Err r)
 abbrev pub Prints : {A : Type 0} → (A → Result (List ℕ) Reason) → List A → Result (List ℕ) Reason → Type 0
 Prints text (x ∷ []) answer = answer ≡ text x
 Prints text others answer = ⊥
+
+-- one value has this answer
+abbrev pub OfOne : {A : Type 0} → (A → Result (List ℕ) Reason → Type 0) → List A → Result (List ℕ) Reason → Type 0
+OfOne Answers (x ∷ []) = Answers x
+OfOne Answers others = λ answer. ⊥
+
+-- a value that is there has this answer; else it is why there is none
+abbrev pub OfThere : {A : Type 0} → (A → Result (List ℕ) Reason → Type 0) → Result A Reason → Result (List ℕ) Reason → Type 0
+OfThere Answers (Ok x) = Answers x
+OfThere Answers (Err r) = λ answer. answer ≡ Err r

@@ -1,3 +1,4 @@
+pub mod Budgets
 pub mod Count
 pub mod Inputs
 pub mod Runs

@@ -1,5 +1,6 @@
 //! The engine that tells all conflicts of two fonts.
 ghost use Rattle.std.specs.Prelude.{◌≡◌, ◌↔◌, ◌+◌, ◌≤◌, ◌++◌, ◌∷◌, [], Ok, OnOk, IfOk, IfErr, IfSome, IsTrue};
+ghost use Rattle.t1_subset.specs.Budgets.{fonts_least, IsEnough};
 ghost use Rattle.std.specs.List.{flat_map};
 ghost use Rattle.t1_bytes.specs.Limits.{file_limit};
 ghost use Rattle.t1_algebra.specs.Profile.{profile};
@@ -10,6 +11,7 @@ ghost use Rattle.t1_cmd.specs.Answers.{MayRefuse};
 ghost use Rattle.t1_cmd.specs.Files.{IsRefusalAt, OfFiles, RefusesFiles};
 ghost use Rattle.t1_cmd.specs.Fonts.{font_input};
 ghost use Rattle.t1_cmd.specs.Runs.{ended, RunEnds, Succeeds};
+ghost use Rattle.t1_cmd.specs.Budgets.{DiffersWithin};
 ghost use Rattle.t1_cmd.specs.Diffs.{conflict_line, ListsConflicts, DiffersBy, SaysJoin};
 
 use crate::counting::Counted;
@@ -20,7 +22,7 @@ use crate::writing::write_text;
 use std::alloc::{AllocError, Global};
 use std::io::{Read, Write};
 use t1_font::Source;
-use t1_subset::{Conflict, conflicts};
+use t1_subset::{Budget, Conflict, Stop, conflicts_within};
 
 // One more line.
 fn push_conflict(alloc: Global, out: &mut Vec<u8>, conflict: &Conflict) -> Result<(), AllocError>
@@ -43,15 +45,29 @@ fn conflict_lines(alloc: Global, conflicts: &[Conflict]) -> Result<Vec<u8>, Allo
     Ok(text)
 }
 
-// The lines of all conflicts of the fonts of two sources.
-fn diff_text(alloc: Global, left: &Source, right: &Source) -> Result<Vec<u8>, AllocError>
+// The lines of all conflicts of the fonts of two sources, within a budget.
+fn diff_text(
+    alloc: Global,
+    left: &Source,
+    right: &Source,
+    budget: Budget,
+) -> Result<Vec<u8>, Reason>
     ensures text { IfOk result (λ text. ListsConflicts left.now right.now text.items) }
     ensures joins { IfOk result (λ text. (text.items ≡ []) ↔ Join profile left.now right.now) }
+    ensures enough { OnOk result (IsEnough budget.left (fonts_least (left.now ∷ right.now ∷ []))) }
+    ensures refused { IfErr result (MayRefuse (DiffersWithin budget.left (left.now ∷ right.now ∷ []))) }
 {
     let own = left.font(alloc)?;
     let other = right.font(alloc)?;
-    let all = conflicts(alloc, &own, &other)?;
-    conflict_lines(alloc, all.as_slice())
+    let all = match conflicts_within(alloc, &own, &other, budget) {
+        Ok(all) => all,
+        Err(Stop::TooManyTokens) => return Err(Reason::TooManyTokens),
+        Err(Stop::Memory) => return Err(Reason::Memory),
+    };
+    match conflict_lines(alloc, all.as_slice()) {
+        Ok(text) => Ok(text),
+        Err(_) => Err(Reason::Memory),
+    }
 }
 
 // Whether a text is empty.
@@ -89,6 +105,26 @@ pub fn diff_files(alloc: Global, first: &[u8], second: &[u8]) -> Result<Vec<u8>,
     ensures refused { IfErr result
         (RefusesFiles font_input DiffersBy (first.now ∷ second.now ∷ [])) }
 {
+    diff_files_within(alloc, first, second, Budget { left: None })
+}
+
+/// The same as [`diff_files`] within a budget, out of which the runs of glyphs take their tokens.
+///
+/// # Errors
+///
+/// As [`diff_files`]; but behind what the files are refused for comes [`Reason::TooManyTokens`], only if the runs of all glyphs of
+/// both fonts execute more tokens than the budget has.
+pub fn diff_files_within(
+    alloc: Global,
+    first: &[u8],
+    second: &[u8],
+    budget: Budget,
+) -> Result<Vec<u8>, FilesRefusal>
+    ensures text { IfOk result
+        (λ text. OfFiles font_input (DiffersWithin budget.left) (first.now ∷ second.now ∷ []) (Ok text.items)) }
+    ensures refused { IfErr result
+        (RefusesFiles font_input (DiffersWithin budget.left) (first.now ∷ second.now ∷ [])) }
+{
     let left = source_at(alloc, 0, first)?;
     let right = match source_at(alloc, 1, second) {
         Ok(right) => right,
@@ -97,11 +133,11 @@ pub fn diff_files(alloc: Global, first: &[u8], second: &[u8]) -> Result<Vec<u8>,
             return Err(refusal);
         }
     };
-    match diff_text(alloc, &left, &right) {
+    match diff_text(alloc, &left, &right, budget) {
         Ok(text) => Ok(text),
-        Err(_) => Err(FilesRefusal {
+        Err(reason) => Err(FilesRefusal {
             place: None,
-            reason: Reason::Memory,
+            reason,
         }),
     }
 }
@@ -128,6 +164,29 @@ pub fn run_diff<R: Read, S: Read, W: Write>(
     ensures first_turns { calls_counted first.new ≤ calls_counted first.old + (file_limit + 1) }
     ensures second_turns { calls_counted second.new ≤ calls_counted second.old + (file_limit + 1) }
 {
+    run_diff_within(alloc, first, second, Budget { left: None }, writer)
+}
+
+/// Writes and answers what [`run_diff`] does, within a budget, out of which the runs of glyphs take their tokens.
+///
+/// Behind what an input is refused for it is refused with [`Reason::TooManyTokens`], only if the runs of all glyphs of both fonts
+/// execute more tokens than the budget has.
+pub fn run_diff_within<R: Read, S: Read, W: Write>(
+    alloc: Global,
+    first: &mut Counted<R>,
+    second: &mut Counted<S>,
+    budget: Budget,
+    writer: &mut Counted<W>,
+) -> Result<bool, RunFault>
+    ensures ends { RunEnds font_input (DiffersWithin budget.left) W.contents
+        (input_of R.remaining first.old first.new ∷ input_of S.remaining second.old second.new ∷ [])
+        writer.old writer.new (ended result) }
+    ensures joins { IfOk result (λ joins. IfSome (values_of font_input
+        (input_of R.remaining first.old first.new ∷ input_of S.remaining second.old second.new ∷ []))
+        (SaysJoin joins)) }
+    ensures first_turns { calls_counted first.new ≤ calls_counted first.old + (file_limit + 1) }
+    ensures second_turns { calls_counted second.new ≤ calls_counted second.old + (file_limit + 1) }
+{
     let left = match read_font(alloc, Taking::Spelled, first) {
         Ok(left) => left,
         Err(fault) => return Err(fault),
@@ -136,9 +195,9 @@ pub fn run_diff<R: Read, S: Read, W: Write>(
         Ok(right) => right,
         Err(fault) => return Err(fault),
     };
-    let text = match diff_text(alloc, &left, &right) {
+    let text = match diff_text(alloc, &left, &right, budget) {
         Ok(text) => text,
-        Err(_) => return Err(RunFault::Refused(Reason::Memory)),
+        Err(reason) => return Err(RunFault::Refused(reason)),
     };
     match write_text(writer, text.as_slice()) {
         Ok(()) => Ok(is_nothing(text.as_slice())),

@@ -63,6 +63,8 @@ pub enum Reason {
     NoCode { code: u8 },
     /// No document has a font of this name.
     NoFont { name: Name },
+    /// The glyphs that have to be run execute more tokens than the budget has.
+    TooManyTokens,
     /// Of fonts that are rejoined, the first that lacks a Subr which its glyph executes and another of the fonts has: a stub there
     /// would draw something else. The index is the smallest, and the glyph the smallest that executes it.
     Lacks { glyph: Name, index: u16 },
@@ -86,6 +88,7 @@ impl fmt::Display for Reason {
             Reason::NoGlyph { name } => write!(f, "no glyph {}", Shown(name.as_bytes())),
             Reason::NoCode { code } => write!(f, "no code {code}"),
             Reason::NoFont { name } => write!(f, "no font {}", Shown(name.as_bytes())),
+            Reason::TooManyTokens => f.write_str("too many tokens"),
             Reason::Lacks { glyph, index } => {
                 write!(f, "glyph {} lacks subr {index}", Shown(glyph.as_bytes()))
             }

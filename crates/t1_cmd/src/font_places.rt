@@ -17,7 +17,6 @@ use crate::counting::Counted;
 use crate::document_words::{DocumentsWord, run_documents, text_of_documents};
 use crate::documents::push_why;
 use crate::faults::{FilesRefusal, Reason, RunFault};
-use crate::fonts::glyph_count;
 use crate::levels::{all_places, documents_of};
 use crate::texts::{push_about, push_number, push_shown};
 use std::alloc::{AllocError, Global};
@@ -32,7 +31,7 @@ fn glyphs_in(alloc: Global, source: &Source) -> Result<usize, AllocError>
     ensures { IfOk result (λ n. n ≡ fin.len source.now.glyphs) }
 {
     let font = source.font(alloc)?;
-    let count = glyph_count(&font);
+    let count = font.glyphs().len();
     drop(font);
     Ok(count)
 }
@@ -79,11 +78,11 @@ fn push_place(
 {
     let glyphs = glyphs_of(alloc, place)?;
     out.extend_from_slice(label)?;
-    push_about(alloc, out, b": ", at)?;
+    push_about(out, b": ", at)?;
     out.extend_from_slice(b" ")?;
     push_shown(alloc, out, place.name)?;
-    push_about(alloc, out, b" ", glyphs)?;
-    push_about(alloc, out, b" ", place.depth)?;
+    push_about(out, b" ", glyphs)?;
+    push_about(out, b" ", place.depth)?;
     out.extend_from_slice(b" ")?;
     push_outcome(alloc, out, outcome)?;
     out.push(b'\n')?;
@@ -185,9 +184,9 @@ fn push_counts(
     ensures { OnOk result (out.new.items ≡ out.old.items ++ count_line (outcome_in joins.now) (map place_view places.now)) }
 {
     let names = names_of(alloc, places)?;
-    push_number(alloc, out, places.len())?;
-    push_about(alloc, out, b" places, ", names.len())?;
-    push_about(alloc, out, b" names, ", kept_count(names.as_slice(), joins))?;
+    push_number(out, places.len())?;
+    push_about(out, b" places, ", names.len())?;
+    push_about(out, b" names, ", kept_count(names.as_slice(), joins))?;
     out.extend_from_slice(b" kept\n")?;
     Ok(())
 }

@@ -82,40 +82,14 @@ pub fn run_convert<R: Read, W: Write>(
     run_word(alloc, Taking::Spelled, &Convert { form }, reader, writer)
 }
 
-// How many glyphs a font has.
-pub(crate) fn glyph_count(font: &Font<'_>) -> usize
-    ensures { result ≡ fin.len font.now.glyphs }
-{
-    font.proof_is_font();
-    let mut count = 0;
-    'names: for _name in font.names() {
-        count += 1;
-    }
-    count
-}
-
-// How many Subrs of a font are present.
-fn subr_count(font: &Font<'_>) -> usize
-    ensures { result ≡ fin.len font.now.subrs }
-{
-    font.proof_is_font();
-    let mut present = 0;
-    'indices: for index in 0..font.count() {
-        if font.present(index) {
-            present += 1;
-        }
-    }
-    present
-}
-
 // The line for a font that can be read.
 fn check_line(alloc: Global, font: &Font<'_>) -> Result<Vec<u8>, AllocError>
     ensures { IfOk result (λ text. check_answer font.now ≡ Ok text.items) }
 {
     let mut text = Vec::new(alloc);
-    push_about(alloc, &mut text, b"ok ", glyph_count(font))?;
-    push_about(alloc, &mut text, b" glyphs, ", subr_count(font))?;
-    push_about(alloc, &mut text, b" subrs, weight ", font.weight() as usize)?;
+    push_about(&mut text, b"ok ", font.glyphs().len())?;
+    push_about(&mut text, b" glyphs, ", font.subrs().len())?;
+    push_about(&mut text, b" subrs, weight ", font.weight() as usize)?;
     text.push(b'\n')?;
     Ok(text)
 }

@@ -265,7 +265,7 @@ fn push_told(
         Layout::Drawn { width, .. } => width,
         Layout::Failed(fault) => return push_fault(alloc, out, fault),
     };
-    push_line(alloc, out, b"", &[width.x, width.y])
+    push_line(out, b"", &[width.x, width.y])
 }
 
 fn push_width(

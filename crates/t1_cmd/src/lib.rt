@@ -7,6 +7,9 @@
 //! [`show_file`], [`convert_file`], [`subset_file`], [`subset_file_with_codes`], [`merge_files`], [`rejoin_files`], [`diff_files`] and [`join_listings`];
 //! and over documents [`pool_files`], [`level_files`], [`list_fonts`] and [`extract_file`].
 //!
+//! [`run_subset_within`], [`run_merge_within`], [`run_rejoin_within`] and [`run_diff_within`] execute no more tokens of charstrings than
+//! a [`Budget`] allows; so do [`subset_file_within`], [`merge_files_within`], [`rejoin_files_within`] and [`diff_files_within`].
+//!
 //! ```text
 //! let mut text = Vec::new(alloc);
 //! match run_check(alloc, &mut Counted::new(file), &mut Counted::new(&mut text)) {
@@ -45,7 +48,7 @@ mod writing;
 
 pub use code_lists::read_codes;
 pub use counting::Counted;
-pub use diffs::{diff_files, run_diff};
+pub use diffs::{diff_files, diff_files_within, run_diff, run_diff_within};
 pub use documents::{Pooled, pool_files, run_pool};
 pub use extracts::{extract_file, run_extract};
 pub use faults::{FilesRefusal, Name, Reason, RunFault, status};
@@ -56,10 +59,14 @@ pub use levels::{Levelled, level_files, run_level};
 pub use list::{list_file, run_list};
 pub use listings::{join_listings, run_join};
 pub use mends::{list_mends, mend_file, run_mend};
-pub use mergers::{merge_files, run_merge};
+pub use mergers::{merge_files, merge_files_within, run_merge, run_merge_within};
 pub use reading::read_all;
-pub use rejoins::{rejoin_files, run_rejoin};
+pub use rejoins::{rejoin_files, rejoin_files_within, run_rejoin, run_rejoin_within};
 pub use show::{run_show, show_file};
-pub use subsets::{run_subset, run_subset_with_codes, subset_file, subset_file_with_codes};
+pub use subsets::{
+    run_subset, run_subset_with_codes, run_subset_within, subset_file, subset_file_with_codes,
+    subset_file_within,
+};
 pub use t1_bytes::FILE_LIMIT;
+pub use t1_subset::Budget;
 pub use writing::{write_fault, write_fault_of, write_text};

@@ -2,7 +2,7 @@
 ghost use Rattle.std.specs.Prelude.{◌≡◌, ◌+◌, ◌≤◌, ◌++◌, ◌∷◌, [], None, Ok, OnOk, IfOk, IfErr};
 ghost use Rattle.std.specs.FinMap as fin;
 ghost use Rattle.std.specs.List.{flat_map};
-ghost use Rattle.t1_font.specs.FontModel.{name_at, word_of, subr_at};
+ghost use Rattle.t1_font.specs.FontModel.{name_at, word_of};
 ghost use Rattle.t1_cmd.specs.Count.{calls_counted};
 ghost use Rattle.t1_cmd.specs.Inputs.{input_of};
 ghost use Rattle.t1_bytes.specs.Limits.{file_limit};
@@ -18,7 +18,6 @@ use crate::words::{FontWord, Taking, run_word, text_of_bytes};
 use std::alloc::{AllocError, Global};
 use std::io::{Read, Write};
 use t1_font::Font;
-use t1_run::{Glyphs, Subroutines};
 
 // The line of a code that has a name; nothing for any other.
 fn push_code(alloc: Global, out: &mut Vec<u8>, font: &Font<'_>, code: u8) -> Result<(), AllocError>
@@ -26,7 +25,7 @@ fn push_code(alloc: Global, out: &mut Vec<u8>, font: &Font<'_>, code: u8) -> Res
         ≡ out.old.items ++ line_at code_line code (name_at font.now.encoding code)) }
 {
     if let Some(name) = font.encoding_at(code) {
-        push_about(alloc, out, b"code ", usize::from(code))?;
+        push_about(out, b"code ", usize::from(code))?;
         out.push(b' ')?;
         push_shown(alloc, out, name)?;
         out.push(b'\n')?;
@@ -34,40 +33,24 @@ fn push_code(alloc: Global, out: &mut Vec<u8>, font: &Font<'_>, code: u8) -> Res
     Ok(())
 }
 
-// The line of a Subr that is present; nothing for any other.
-fn push_subr(
-    alloc: Global,
-    out: &mut Vec<u8>,
-    font: &Font<'_>,
-    index: u16,
-) -> Result<(), AllocError>
-    ensures { OnOk result (out.new.items
-        ≡ out.old.items ++ line_at subr_length_line index (subr_at font.now index)) }
+// The line of a Subr.
+fn push_subr(out: &mut Vec<u8>, index: u16, body: &[u8]) -> Result<(), AllocError>
+    ensures { OnOk result (out.new.items ≡ out.old.items ++ subr_length_line index body.now) }
 {
-    if let Some(body) = font.get(index) {
-        push_about(alloc, out, b"subr ", usize::from(index))?;
-        push_about(alloc, out, b" ", body.len())?;
-        out.push(b'\n')?;
-    }
+    push_about(out, b"subr ", usize::from(index))?;
+    push_about(out, b" ", body.len())?;
+    out.push(b'\n')?;
     Ok(())
 }
 
-// The line of a glyph that the font has; nothing for any other.
-fn push_glyph(
-    alloc: Global,
-    out: &mut Vec<u8>,
-    font: &Font<'_>,
-    name: &[u8],
-) -> Result<(), AllocError>
-    ensures { OnOk result (out.new.items
-        ≡ out.old.items ++ line_at glyph_length_line name.now (fin.get font.now.glyphs name.now)) }
+// The line of a glyph.
+fn push_glyph(alloc: Global, out: &mut Vec<u8>, name: &[u8], body: &[u8]) -> Result<(), AllocError>
+    ensures { OnOk result (out.new.items ≡ out.old.items ++ glyph_length_line name.now body.now) }
 {
-    if let Some(plain) = font.glyph(name) {
-        out.extend_from_slice(b"glyph ")?;
-        push_shown(alloc, out, name)?;
-        push_about(alloc, out, b" ", plain.len())?;
-        out.push(b'\n')?;
-    }
+    out.extend_from_slice(b"glyph ")?;
+    push_shown(alloc, out, name)?;
+    push_about(out, b" ", body.len())?;
+    out.push(b'\n')?;
     Ok(())
 }
 
@@ -95,13 +78,12 @@ fn push_encoding(alloc: Global, out: &mut Vec<u8>, font: &Font<'_>) -> Result<()
     Ok(())
 }
 
-fn push_subrs(alloc: Global, out: &mut Vec<u8>, font: &Font<'_>) -> Result<(), AllocError>
+fn push_subrs(out: &mut Vec<u8>, font: &Font<'_>) -> Result<(), AllocError>
     ensures { OnOk result (out.new.items
         ≡ out.old.items ++ flat_map (λ e. subr_length_line e.0 e.1) (fin.entries font.now.subrs)) }
 {
-    font.proof_is_font();
-    'indices: for index in 0..font.count() {
-        push_subr(alloc, out, font, index)?;
+    'subrs: for (index, body) in font.subrs().entries() {
+        push_subr(out, index, body)?;
     }
     Ok(())
 }
@@ -110,8 +92,8 @@ fn push_glyphs(alloc: Global, out: &mut Vec<u8>, font: &Font<'_>) -> Result<(), 
     ensures { OnOk result (out.new.items
         ≡ out.old.items ++ flat_map (λ e. glyph_length_line e.0 e.1) (fin.entries font.now.glyphs)) }
 {
-    'names: for name in font.names() {
-        push_glyph(alloc, out, font, name)?;
+    'glyphs: for (name, body) in font.glyphs().entries() {
+        push_glyph(alloc, out, name, body)?;
     }
     Ok(())
 }
@@ -122,7 +104,7 @@ pub(crate) fn list_text(alloc: Global, font: &Font<'_>) -> Result<Vec<u8>, Alloc
 {
     let mut text = Vec::new(alloc);
     push_encoding(alloc, &mut text, font)?;
-    push_subrs(alloc, &mut text, font)?;
+    push_subrs(&mut text, font)?;
     push_glyphs(alloc, &mut text, font)?;
     Ok(text)
 }

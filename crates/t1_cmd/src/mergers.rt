@@ -1,5 +1,6 @@
 //! The engine that merges fonts.
-ghost use Rattle.std.specs.Prelude.{◌≡◌, ◌++◌, ◌∷◌, [], None, Ok, OnOk, IfOk, IfErr, MatchResult};
+ghost use Rattle.std.specs.Prelude.{◌≡◌, None, Ok, OnOk, IfOk, IfErr, MatchResult};
+ghost use Rattle.t1_subset.specs.Budgets.{fonts_least, IsEnough};
 ghost use Rattle.t1_algebra.specs.Merges.{ComesTo};
 ghost use Rattle.t1_cmd.specs.Fonts.{font_input};
 ghost use Rattle.t1_subset.specs.NameSets.{lent};
@@ -7,6 +8,7 @@ ghost use Rattle.t1_cmd.specs.Answers.{MayRefuse};
 ghost use Rattle.t1_cmd.specs.Files.{OfFiles, RefusesFiles};
 ghost use Rattle.t1_cmd.specs.Runs.{RunEnds, Succeeds};
 ghost use Rattle.t1_cmd.specs.Mergers.{inputs_of, InTurns, MergesToFile};
+ghost use Rattle.t1_cmd.specs.Budgets.{MergesWithin};
 ghost use Rattle.t1_cmd.specs.WrittenSubsets.{OfUnion, WritesUnion};
 
 use crate::counting::Counted;
@@ -17,26 +19,34 @@ use crate::words::Taking;
 use std::alloc::Global;
 use std::io::{Read, Write};
 use t1_font::{Font, Form, Source};
-use t1_subset::{Conflict, fonts_of, merge_all};
+use t1_subset::{Budget, BudgetFault, Conflict, fonts_of, merge_all_within};
 
-// The font that fonts come to, merged from left to right.
-fn merge_fonts<'a>(alloc: Global, fonts: &[Font<'a>]) -> Result<Font<'a>, Reason>
+// The font that fonts come to, merged from left to right, within a budget.
+fn merge_fonts<'a>(alloc: Global, fonts: &[Font<'a>], budget: Budget) -> Result<Font<'a>, Reason>
     ensures comes { IfOk result (λ j. ComesTo fonts.now j) }
-    ensures refused { IfErr result (λ e. (form : Form) → MayRefuse (MergesToFile form fonts.now) e) }
+    ensures enough { OnOk result (IsEnough budget.left (fonts_least fonts.now)) }
+    ensures refused { IfErr result
+        (λ e. (form : Form) → MayRefuse (MergesWithin budget.left form fonts.now) e) }
 {
-    match merge_all(alloc, fonts) {
+    match merge_all_within(alloc, fonts, budget) {
         Ok(font) => Ok(font),
-        Err(Conflict::Memory) => Err(Reason::Memory),
-        Err(conflict) => Err(Reason::Merge(conflict)),
+        Err(BudgetFault::TooManyTokens) => Err(Reason::TooManyTokens),
+        Err(BudgetFault::Plain(Conflict::Memory)) => Err(Reason::Memory),
+        Err(BudgetFault::Plain(conflict)) => Err(Reason::Merge(conflict)),
     }
 }
 
-// The canonical file of the font that fonts come to. The fonts are dropped before it is written.
-fn merged_file(alloc: Global, fonts: Vec<Font<'_>>, form: Form) -> Result<Vec<u8>, Reason>
-    ensures text { IfOk result (λ text. MergesToFile form fonts.entry.items (Ok text.items)) }
-    ensures refused { IfErr result (MayRefuse (MergesToFile form fonts.entry.items)) }
+// The canonical file of the font that fonts come to, within a budget. The fonts are dropped before it is written.
+fn merged_file(
+    alloc: Global,
+    fonts: Vec<Font<'_>>,
+    form: Form,
+    budget: Budget,
+) -> Result<Vec<u8>, Reason>
+    ensures text { IfOk result (λ text. MergesWithin budget.left form fonts.entry.items (Ok text.items)) }
+    ensures refused { IfErr result (MayRefuse (MergesWithin budget.left form fonts.entry.items)) }
 {
-    let font = match merge_fonts(alloc, fonts.as_slice()) {
+    let font = match merge_fonts(alloc, fonts.as_slice(), budget) {
         Ok(font) => font,
         Err(reason) => return Err(reason),
     };
@@ -47,18 +57,19 @@ fn merged_file(alloc: Global, fonts: Vec<Font<'_>>, form: Form) -> Result<Vec<u8
     Ok(text)
 }
 
-/// The word `merge`, and the form that it writes.
+/// The word `merge`, the form that it writes, and the tokens that it may execute.
 #[derive(Drop)]
 pub(crate) struct Merge {
     form: Form,
+    budget: Budget,
 }
 
 impl FontsWord for Merge {
-    ghost Answers = { λ word. MergesToFile word.form };
+    ghost Answers = { λ word. MergesWithin word.budget.left word.form };
 
     fn text(&self, alloc: Global, sources: Vec<Source>) -> Result<Vec<u8>, Reason> {
         let fonts = fonts_of(alloc, sources.as_slice())?;
-        merged_file(alloc, fonts, self.form)
+        merged_file(alloc, fonts, self.form, self.budget)
     }
 }
 
@@ -75,7 +86,26 @@ pub fn merge_files(alloc: Global, files: &[&[u8]], form: Form) -> Result<Vec<u8>
     ensures subsets { OfUnion form (lent files.now) (λ union. MatchResult result
         (λ text. text.items ≡ union) (λ e. (e.place ≡ None) × (e.reason ≡ Reason.Memory))) }
 {
-    text_of_files(alloc, Taking::Spelled, &Merge { form }, files)
+    merge_files_within(alloc, files, form, Budget { left: None })
+}
+
+/// The same as [`merge_files`] within a budget, out of which the runs of glyphs take their tokens.
+///
+/// # Errors
+///
+/// As [`merge_files`]; but behind what the files are refused for comes [`Reason::TooManyTokens`], only if the runs of all glyphs of
+/// all fonts execute more tokens than the budget has.
+pub fn merge_files_within(
+    alloc: Global,
+    files: &[&[u8]],
+    form: Form,
+    budget: Budget,
+) -> Result<Vec<u8>, FilesRefusal>
+    ensures text { IfOk result
+        (λ text. OfFiles font_input (MergesWithin budget.left form) (lent files.now) (Ok text.items)) }
+    ensures refused { IfErr result (RefusesFiles font_input (MergesWithin budget.left form) (lent files.now)) }
+{
+    text_of_files(alloc, Taking::Spelled, &Merge { form, budget }, files)
 }
 
 /// Writes the canonical file, in one of the two forms, of the font that fonts come to when they are merged from left
@@ -97,5 +127,24 @@ pub fn run_merge<R: Read, W: Write>(
         (inputs_of R.remaining readers.old readers.new) writer.old writer.new result }
     ensures turns { InTurns readers.old readers.new }
 {
-    run_words(alloc, Taking::Spelled, &Merge { form }, readers, writer)
+    run_merge_within(alloc, readers, form, Budget { left: None }, writer)
+}
+
+/// Writes what [`run_merge`] writes, within a budget, out of which the runs of glyphs take their tokens.
+///
+/// Behind what an input is refused for, and before most conflicts, it is refused with [`Reason::TooManyTokens`], only if the runs of
+/// all glyphs of all fonts execute more tokens than the budget has.
+pub fn run_merge_within<R: Read, W: Write>(
+    alloc: Global,
+    readers: &mut [Counted<R>],
+    form: Form,
+    budget: Budget,
+    writer: &mut Counted<W>,
+) -> Result<(), RunFault>
+    ensures ends { RunEnds font_input (MergesWithin budget.left form) W.contents
+        (inputs_of R.remaining readers.old readers.new) writer.old writer.new result }
+    ensures turns { InTurns readers.old readers.new }
+{
+    let word = Merge { form, budget };
+    run_words(alloc, Taking::Spelled, &word, readers, writer)
 }

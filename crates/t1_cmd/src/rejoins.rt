@@ -1,15 +1,15 @@
 //! The engine that rejoins fonts that other programs cut.
-ghost use Rattle.std.specs.Prelude.{◌≡◌, List, None, IfOk, IfErr, MatchResult, Ok};
+ghost use Rattle.std.specs.Prelude.{◌≡◌, ℕ, List, Option, None, IfOk, IfErr, MatchResult, Ok};
 ghost use Rattle.t1_font.specs.FontValue.{FontValue};
 ghost use Rattle.t1_font.specs.Evening.{evened_shells};
 ghost use Rattle.t1_subset.specs.NameSets.{lent};
-ghost use Rattle.t1_subset.specs.Rejoins.{NotRejoined};
 ghost use Rattle.t1_cmd.specs.Answers.{MayRefuse};
 ghost use Rattle.t1_cmd.specs.Files.{OfFiles, RefusesFiles};
 ghost use Rattle.t1_cmd.specs.Fonts.{mended_input};
 ghost use Rattle.t1_cmd.specs.Runs.{RunEnds, Succeeds};
 ghost use Rattle.t1_cmd.specs.Mergers.{inputs_of, InTurns};
 ghost use Rattle.t1_cmd.specs.Rejoins.{RejoinsTo};
+ghost use Rattle.t1_cmd.specs.Budgets.{RejoinsWithin, NotRejoinedWithin};
 ghost use Rattle.t1_cmd.specs.Cuts.{OfRejoined, WritesRejoined};
 
 use crate::counting::Counted;
@@ -20,36 +20,44 @@ use crate::words::Taking;
 use std::alloc::Global;
 use std::io::{Read, Write};
 use t1_font::{Form, Source, even_shells};
-use t1_subset::{Conflict, RejoinFault, rejoin};
+use t1_subset::{Budget, BudgetFault, Conflict, RejoinFault, rejoin_within};
 
-// Why fonts don't rejoin, as a reason.
-fn reason_of(alloc: Global, fault: RejoinFault) -> Reason
-    ensures { (form : Form) (whole : List FontValue)
-        → NotRejoined (evened_shells whole) fault
-        → MayRefuse (RejoinsTo form whole) result }
+// Why fonts don't rejoin within a budget, as a reason.
+fn reason_of(alloc: Global, fault: BudgetFault<RejoinFault>) -> Reason
+    ensures { (left : Option ℕ) (form : Form) (whole : List FontValue)
+        → NotRejoinedWithin left (evened_shells whole) fault
+        → MayRefuse (RejoinsWithin left form whole) result }
 {
     match fault {
-        RejoinFault::Lacks { glyph, index } => match Name::new(alloc, glyph.as_slice()) {
-            Ok(glyph) => Reason::Lacks { glyph, index },
-            Err(_) => Reason::Memory,
-        },
-        RejoinFault::Merge(Conflict::Memory) => Reason::Memory,
-        RejoinFault::Merge(conflict) => Reason::Merge(conflict),
+        BudgetFault::TooManyTokens => Reason::TooManyTokens,
+        BudgetFault::Plain(RejoinFault::Lacks { glyph, index }) => {
+            match Name::new(alloc, glyph.as_slice()) {
+                Ok(glyph) => Reason::Lacks { glyph, index },
+                Err(_) => Reason::Memory,
+            }
+        }
+        BudgetFault::Plain(RejoinFault::Merge(Conflict::Memory)) => Reason::Memory,
+        BudgetFault::Plain(RejoinFault::Merge(conflict)) => Reason::Merge(conflict),
     }
 }
 
 // The canonical file of the font that sources of one declared count come to when they are filled, where no glyph lacks a Subr that
-// another of them has.
-fn filled_file(alloc: Global, sources: &[Source], form: Form) -> Result<Vec<u8>, Reason>
+// another of them has, within a budget.
+fn filled_file(
+    alloc: Global,
+    sources: &[Source],
+    form: Form,
+    budget: Budget,
+) -> Result<Vec<u8>, Reason>
     ensures text { (fonts : List FontValue)
         → sources.now ≡ evened_shells fonts
-        → IfOk result (λ text. RejoinsTo form fonts (Ok text.items)) }
+        → IfOk result (λ text. RejoinsWithin budget.left form fonts (Ok text.items)) }
     ensures refused { (fonts : List FontValue)
         → sources.now ≡ evened_shells fonts
-        → IfErr result (MayRefuse (RejoinsTo form fonts)) }
+        → IfErr result (MayRefuse (RejoinsWithin budget.left form fonts)) }
 {
     let mut indices = Vec::new(alloc);
-    let font = match rejoin(alloc, sources, &mut indices) {
+    let font = match rejoin_within(alloc, sources, &mut indices, budget) {
         Ok(font) => font,
         Err(fault) => return Err(reason_of(alloc, fault)),
     };
@@ -59,26 +67,32 @@ fn filled_file(alloc: Global, sources: &[Source], form: Form) -> Result<Vec<u8>,
     Ok(text)
 }
 
-// The canonical file of the font that these come to when they are made even.
-fn rejoined_file(alloc: Global, sources: Vec<Source>, form: Form) -> Result<Vec<u8>, Reason>
-    ensures text { IfOk result (λ text. RejoinsTo form sources.items (Ok text.items)) }
-    ensures refused { IfErr result (MayRefuse (RejoinsTo form sources.items)) }
+// The canonical file of the font that these come to when they are made even, within a budget.
+fn rejoined_file(
+    alloc: Global,
+    sources: Vec<Source>,
+    form: Form,
+    budget: Budget,
+) -> Result<Vec<u8>, Reason>
+    ensures text { IfOk result (λ text. RejoinsWithin budget.left form sources.items (Ok text.items)) }
+    ensures refused { IfErr result (MayRefuse (RejoinsWithin budget.left form sources.items)) }
 {
     let evened = even_shells(alloc, sources)?;
-    filled_file(alloc, evened.as_slice(), form)
+    filled_file(alloc, evened.as_slice(), form, budget)
 }
 
-/// The word `rejoin`, and the form that it writes.
+/// The word `rejoin`, the form that it writes, and the tokens that it may execute.
 #[derive(Drop)]
 pub(crate) struct Rejoin {
     form: Form,
+    budget: Budget,
 }
 
 impl FontsWord for Rejoin {
-    ghost Answers = { λ word. RejoinsTo word.form };
+    ghost Answers = { λ word. RejoinsWithin word.budget.left word.form };
 
     fn text(&self, alloc: Global, sources: Vec<Source>) -> Result<Vec<u8>, Reason> {
-        rejoined_file(alloc, sources, self.form)
+        rejoined_file(alloc, sources, self.form, self.budget)
     }
 }
 
@@ -97,7 +111,26 @@ pub fn rejoin_files(alloc: Global, files: &[&[u8]], form: Form) -> Result<Vec<u8
     ensures cuts { OfRejoined form (lent files.now) (λ whole. MatchResult result
         (λ text. text.items ≡ whole) (λ e. (e.place ≡ None) × (e.reason ≡ Reason.Memory))) }
 {
-    text_of_files(alloc, Taking::Mended, &Rejoin { form }, files)
+    rejoin_files_within(alloc, files, form, Budget { left: None })
+}
+
+/// The same as [`rejoin_files`] within a budget, out of which the runs of glyphs take their tokens.
+///
+/// # Errors
+///
+/// As [`rejoin_files`]; but behind what the files are refused for comes [`Reason::TooManyTokens`], only if the runs of all glyphs of
+/// all fonts execute more tokens than the budget has.
+pub fn rejoin_files_within(
+    alloc: Global,
+    files: &[&[u8]],
+    form: Form,
+    budget: Budget,
+) -> Result<Vec<u8>, FilesRefusal>
+    ensures text { IfOk result
+        (λ text. OfFiles mended_input (RejoinsWithin budget.left form) (lent files.now) (Ok text.items)) }
+    ensures refused { IfErr result (RefusesFiles mended_input (RejoinsWithin budget.left form) (lent files.now)) }
+{
+    text_of_files(alloc, Taking::Mended, &Rejoin { form, budget }, files)
 }
 
 /// Writes the canonical file, in one of the two forms, of the font that fonts come to when they are made even and then
@@ -122,5 +155,24 @@ pub fn run_rejoin<R: Read, W: Write>(
         (inputs_of R.remaining readers.old readers.new) writer.old writer.new result }
     ensures turns { InTurns readers.old readers.new }
 {
-    run_words(alloc, Taking::Mended, &Rejoin { form }, readers, writer)
+    run_rejoin_within(alloc, readers, form, Budget { left: None }, writer)
+}
+
+/// Writes what [`run_rejoin`] writes, within a budget, out of which the runs of glyphs take their tokens.
+///
+/// Behind what an input is refused for, and before most conflicts, it is refused with [`Reason::TooManyTokens`], only if the runs of
+/// all glyphs of all fonts execute more tokens than the budget has.
+pub fn run_rejoin_within<R: Read, W: Write>(
+    alloc: Global,
+    readers: &mut [Counted<R>],
+    form: Form,
+    budget: Budget,
+    writer: &mut Counted<W>,
+) -> Result<(), RunFault>
+    ensures ends { RunEnds mended_input (RejoinsWithin budget.left form) W.contents
+        (inputs_of R.remaining readers.old readers.new) writer.old writer.new result }
+    ensures turns { InTurns readers.old readers.new }
+{
+    let word = Rejoin { form, budget };
+    run_words(alloc, Taking::Mended, &word, readers, writer)
 }

@@ -22,83 +22,72 @@ use t1_font::{DrawFault, Font, Layout, Mark, Pen, PlacedPart, Point, lay_out, tr
 // How many counts of 1/65536 make a unit.
 const UNIT: u64 = 65536;
 
-fn push_amount(alloc: Global, out: &mut Vec<u8>, count: u64) -> Result<(), AllocError>
+fn push_amount(out: &mut Vec<u8>, count: u64) -> Result<(), AllocError>
     ensures { OnOk result (out.new.items ≡ out.old.items ++ amount count) }
 {
     if count % UNIT == 0 {
-        return push_number(alloc, out, (count / UNIT) as usize);
+        return push_number(out, (count / UNIT) as usize);
     }
-    push_number(alloc, out, count as usize)?;
+    push_number(out, count as usize)?;
     out.extend_from_slice(b"/65536")
 }
 
-fn push_count(alloc: Global, out: &mut Vec<u8>, count: i64) -> Result<(), AllocError>
+fn push_count(out: &mut Vec<u8>, count: i64) -> Result<(), AllocError>
     ensures { OnOk result (out.new.items ≡ out.old.items ++ unit_number count) }
 {
     if count < 0 {
         out.push(b'-')?;
     }
-    push_amount(alloc, out, count.unsigned_abs())
+    push_amount(out, count.unsigned_abs())
 }
 
-fn push_counts(alloc: Global, out: &mut Vec<u8>, counts: &[i64]) -> Result<(), AllocError>
+fn push_counts(out: &mut Vec<u8>, counts: &[i64]) -> Result<(), AllocError>
     ensures { OnOk result (out.new.items ≡ out.old.items ++ numbers counts.now) }
 {
     for count in counts {
         out.push(b' ')?;
-        push_count(alloc, out, *count)?;
+        push_count(out, *count)?;
     }
     Ok(())
 }
 
 /// A word and its numbers.
-pub(crate) fn push_line(
-    alloc: Global,
-    out: &mut Vec<u8>,
-    word: &[u8],
-    counts: &[i64],
-) -> Result<(), AllocError>
+pub(crate) fn push_line(out: &mut Vec<u8>, word: &[u8], counts: &[i64]) -> Result<(), AllocError>
     ensures { OnOk result (out.new.items ≡ out.old.items ++ line word.now counts.now) }
 {
     out.extend_from_slice(word)?;
-    push_counts(alloc, out, counts)?;
+    push_counts(out, counts)?;
     out.push(b'\n')?;
     Ok(())
 }
 
 // A word and two numbers.
-fn push_pair(
-    alloc: Global,
-    out: &mut Vec<u8>,
-    word: &[u8],
-    first: i64,
-    second: i64,
-) -> Result<(), AllocError>
+fn push_pair(out: &mut Vec<u8>, word: &[u8], first: i64, second: i64) -> Result<(), AllocError>
     ensures { OnOk result (out.new.items ≡ out.old.items ++ line word.now (first ∷ second ∷ [])) }
 {
-    push_line(alloc, out, word, &[first, second])
+    push_line(out, word, &[first, second])
 }
 
-fn push_mark(alloc: Global, out: &mut Vec<u8>, mark: Mark) -> Result<(), AllocError>
+fn push_mark(out: &mut Vec<u8>, mark: Mark) -> Result<(), AllocError>
     ensures { OnOk result (out.new.items ≡ out.old.items ++ mark_line mark) }
 {
     match mark {
-        Mark::Move(p) => push_pair(alloc, out, b"move", p.x, p.y),
-        Mark::Line(p) => push_pair(alloc, out, b"line", p.x, p.y),
+        Mark::Move(p) => push_pair(out, b"move", p.x, p.y),
+        Mark::Line(p) => push_pair(out, b"line", p.x, p.y),
         Mark::Curve(c) => {
             let points = [
                 c.first.x, c.first.y, c.second.x, c.second.y, c.end.x, c.end.y,
             ];
-            push_line(alloc, out, b"curve", &points)
+            push_line(out, b"curve", &points)
         }
-        Mark::Close => push_line(alloc, out, b"close", &[]),
-        Mark::Hstem(y, dy) => push_pair(alloc, out, b"hstem", y, dy),
-        Mark::Vstem(x, dx) => push_pair(alloc, out, b"vstem", x, dx),
-        Mark::Hstem3(a, b, c, d, e, f) => { push_line(alloc, out, b"hstem3", &[a, b, c, d, e, f]) }
-        Mark::Vstem3(a, b, c, d, e, f) => { push_line(alloc, out, b"vstem3", &[a, b, c, d, e, f]) }
-        Mark::Dot => push_line(alloc, out, b"dot", &[]),
-        Mark::Replace => push_line(alloc, out, b"replace", &[]),
-        Mark::Flex(height) => push_line(alloc, out, b"flex", &[height]),
+        Mark::Close => push_line(out, b"close", &[]),
+        Mark::Hstem(y, dy) => push_pair(out, b"hstem", y, dy),
+        Mark::Vstem(x, dx) => push_pair(out, b"vstem", x, dx),
+        Mark::Hstem3(a, b, c, d, e, f) => { push_line(out, b"hstem3", &[a, b, c, d, e, f]) }
+        Mark::Vstem3(a, b, c, d, e, f) => { push_line(out, b"vstem3", &[a, b, c, d, e, f]) }
+        Mark::Dot => push_line(out, b"dot", &[]),
+        Mark::Replace => push_line(out, b"replace", &[]),
+        Mark::Flex(height) => push_line(out, b"flex", &[height]),
     }
 }
 
@@ -117,7 +106,7 @@ impl Pen for Lines {
     ghost marked = { with_mark_line };
 
     fn mark(&mut self, mark: Mark) -> Result<(), AllocError> {
-        push_mark(self.alloc, &mut self.text, mark)
+        push_mark(&mut self.text, mark)
     }
 }
 
@@ -126,7 +115,7 @@ fn push_part(font: &Font<'_>, lines: &mut Lines, part: &PlacedPart<'_>) -> Resul
     ensures { OnOk result (lines.new.text.items
         ≡ lines.old.text.items ++ part_lines (traced (subr_at font.now) part.now)) }
 {
-    push_pair(lines.alloc, &mut lines.text, b"part", part.dx, part.dy)?;
+    push_pair(&mut lines.text, b"part", part.dx, part.dy)?;
     trace(lines.alloc, font, part.charstring, lines)?;
     Ok(())
 }
@@ -159,8 +148,8 @@ fn drawn(
         ≡ drawn_lines width bearing (map (traced (subr_at font.now)) parts.now)) }
 {
     let mut text = Vec::new(alloc);
-    push_pair(alloc, &mut text, b"width", width.x, width.y)?;
-    push_pair(alloc, &mut text, b"bearing", bearing.x, bearing.y)?;
+    push_pair(&mut text, b"width", width.x, width.y)?;
+    push_pair(&mut text, b"bearing", bearing.x, bearing.y)?;
     let mut lines = Lines { alloc, text };
     push_parts(font, &mut lines, parts)?;
     Ok(lines.text)

@@ -1,5 +1,6 @@
 //! The engine that subsets a font.
 ghost use Rattle.std.specs.Prelude.{◌≡◌, ◌+◌, ◌≤◌, ◌∷◌, [], List, ℕ, None, Ok, OnOk, IfOk, IfErr};
+ghost use Rattle.t1_subset.specs.Budgets.{kept_longer, kept_tokens, IsEnough};
 ghost use Rattle.std.specs.Option.{option_map};
 ghost use Rattle.std.specs.Str.{bytes_eq};
 ghost use Rattle.t1_algebra.specs.Profile.{profile};
@@ -9,50 +10,62 @@ ghost use Rattle.t1_cmd.specs.Count.{calls_counted};
 ghost use Rattle.t1_cmd.specs.Inputs.{input_of};
 ghost use Rattle.t1_bytes.specs.Limits.{file_limit};
 ghost use Rattle.t1_cmd.specs.Runs.{RunEnds, Succeeds};
-ghost use Rattle.t1_cmd.specs.Answers.{Prints, MayRefuse};
+ghost use Rattle.t1_cmd.specs.Answers.{Prints, OfOne, OfThere, MayRefuse};
+ghost use Rattle.t1_cmd.specs.Budgets.{Within, CutsWithin, SubsetsWithin};
 ghost use Rattle.t1_cmd.specs.Fonts.{font_input, of_file};
 ghost use Rattle.t1_cmd.specs.Subsets.{first_absent, unless_absent, subset_answer, standard_word, code_name, names_with, subset_with_codes};
 
 use crate::counting::Counted;
 use crate::faults::{Name, Reason, RunFault};
 use crate::fonts::font_file;
-use crate::words::{FontWord, Taking, run_word, text_of_bytes};
+use crate::several::source_in;
+use crate::words::{Taking, read_font};
+use crate::writing::write_text;
 use std::alloc::Global;
 use std::io::{Read, Write};
-use t1_font::{Font, Form};
+use t1_font::{Font, Form, Source};
 use t1_run::standard_name;
-use t1_subset::{SubsetFault, subset};
+use t1_subset::{Budget, BudgetFault, SubsetFault, subset_within};
 
-// The subset of a font.
-fn cut<'a>(alloc: Global, font: &Font<'a>, names: &[&[u8]]) -> Result<Font<'a>, Reason>
+// The subset of a font, within a budget.
+fn cut<'a>(
+    alloc: Global,
+    font: &Font<'a>,
+    names: &[&[u8]],
+    budget: Budget,
+) -> Result<Font<'a>, Reason>
     ensures cut { IfOk result (λ s. s ≡ subset profile font.now (asked names.now)) }
     ensures present { OnOk result (first_absent font.now (lent names.now) ≡ None) }
+    ensures enough { OnOk result (IsEnough budget.left (kept_longer font.now (asked names.now))) }
     ensures refused { IfErr result (λ e. (text : List ℕ)
-        → MayRefuse (λ a. a ≡ unless_absent (first_absent font.now (lent names.now)) text) e) }
+        → MayRefuse (Within budget.left (kept_longer font.now (asked names.now)) (kept_tokens font.now (asked names.now))
+        (λ a. a ≡ unless_absent (first_absent font.now (lent names.now)) text)) e) }
 {
-    match subset(alloc, font, names) {
+    match subset_within(alloc, font, names, budget) {
         Ok(cut) => Ok(cut),
-        Err(SubsetFault::NoSuchGlyph { name }) => {
+        Err(BudgetFault::TooManyTokens) => Err(Reason::TooManyTokens),
+        Err(BudgetFault::Plain(SubsetFault::NoSuchGlyph { name })) => {
             let name = Name::new(alloc, name.as_slice())?;
             Err(Reason::NoGlyph { name })
         }
-        Err(SubsetFault::Memory) => Err(Reason::Memory),
+        Err(BudgetFault::Plain(SubsetFault::Memory)) => Err(Reason::Memory),
     }
 }
 
-// The canonical file of a font's subset. The font is dropped before the file is written.
+// The canonical file of a font's subset, within a budget. The font is dropped before the file is written.
 fn file_of_cut(
     alloc: Global,
     font: Font<'_>,
     names: &[&[u8]],
     form: Form,
+    budget: Budget,
 ) -> Result<Vec<u8>, Reason>
-    ensures text { IfOk result (λ text. subset_answer form (lent names.now) font.entry
-        ≡ Ok text.items) }
+    ensures text { IfOk result (λ text. CutsWithin budget.left form (lent names.now) font.entry
+        (Ok text.items)) }
     ensures refused { IfErr result
-        (MayRefuse (λ a. a ≡ subset_answer form (lent names.now) font.entry)) }
+        (MayRefuse (CutsWithin budget.left form (lent names.now) font.entry)) }
 {
-    let cut = match cut(alloc, &font, names) {
+    let cut = match cut(alloc, &font, names, budget) {
         Ok(cut) => cut,
         Err(reason) => return Err(reason),
     };
@@ -110,55 +123,43 @@ fn names_and_codes<'t, 'a: 't>(
     Ok(all)
 }
 
-// The canonical file of a font's subset over names and the names of codes.
+// The canonical file of a font's subset over names and the names of codes, within a budget.
 fn file_with_codes(
     alloc: Global,
     font: Font<'_>,
     names: &[&[u8]],
     codes: &[u8],
     form: Form,
+    budget: Budget,
 ) -> Result<Vec<u8>, Reason>
-    ensures text { IfOk result (λ text. subset_with_codes form (lent names.now) codes.now font.entry
-        ≡ Ok text.items) }
+    ensures text { IfOk result (λ text. SubsetsWithin budget.left form (lent names.now) codes.now font.entry
+        (Ok text.items)) }
     ensures refused { IfErr result
-        (MayRefuse (λ a. a ≡ subset_with_codes form (lent names.now) codes.now font.entry)) }
+        (MayRefuse (SubsetsWithin budget.left form (lent names.now) codes.now font.entry)) }
 {
     let all = match names_and_codes(alloc, &font, names, codes) {
         Ok(all) => all,
         Err(reason) => return Err(reason),
     };
-    file_of_cut(alloc, font, all.as_slice(), form)
+    file_of_cut(alloc, font, all.as_slice(), form, budget)
 }
 
-/// The word `subset` with names of glyphs, and the form that it writes.
-#[derive(Drop)]
-pub(crate) struct Subset<'a> {
-    names: &'a [&'a [u8]],
+// The canonical file of the subset of a source's font over names and the names of codes, within a budget.
+fn text_within(
+    alloc: Global,
+    source: &Source,
+    names: &[&[u8]],
+    codes: &[u8],
     form: Form,
-}
-
-impl FontWord for Subset<'_> {
-    ghost answer = { λ word. subset_answer word.form (lent word.names.now) };
-
-    fn text(&self, alloc: Global, font: Font<'_>) -> Result<Vec<u8>, Reason> {
-        file_of_cut(alloc, font, self.names, self.form)
-    }
-}
-
-/// The word `subset` with names of glyphs and codes, and the form that it writes.
-#[derive(Drop)]
-pub(crate) struct SubsetWithCodes<'a> {
-    names: &'a [&'a [u8]],
-    codes: &'a [u8],
-    form: Form,
-}
-
-impl FontWord for SubsetWithCodes<'_> {
-    ghost answer = { λ word. subset_with_codes word.form (lent word.names.now) word.codes.now };
-
-    fn text(&self, alloc: Global, font: Font<'_>) -> Result<Vec<u8>, Reason> {
-        file_with_codes(alloc, font, self.names, self.codes, self.form)
-    }
+    budget: Budget,
+) -> Result<Vec<u8>, Reason>
+    ensures text { IfOk result (λ text. SubsetsWithin budget.left form (lent names.now) codes.now source.now
+        (Ok text.items)) }
+    ensures refused { IfErr result
+        (MayRefuse (SubsetsWithin budget.left form (lent names.now) codes.now source.now)) }
+{
+    let font = source.font(alloc)?;
+    file_with_codes(alloc, font, names, codes, form, budget)
 }
 
 /// The canonical file, in one of the two forms, of the subset of the font of a file over these names, as [`run_subset`]
@@ -177,7 +178,7 @@ pub fn subset_file(
     ensures text { IfOk result (λ text. of_file (subset_answer form (lent names.now)) file.now ≡ Ok text.items) }
     ensures refused { IfErr result (MayRefuse (λ a. a ≡ of_file (subset_answer form (lent names.now)) file.now)) }
 {
-    text_of_bytes(alloc, Taking::Spelled, &Subset { names, form }, file)
+    subset_file_within(alloc, file, names, &[], form, Budget { left: None })
 }
 
 /// Writes the canonical file, in one of the two forms, of the subset of a font that keeps what these names need: their
@@ -199,13 +200,8 @@ pub fn run_subset<R: Read, W: Write>(
         (input_of R.remaining reader.old reader.new ∷ []) writer.old writer.new result }
     ensures turns { calls_counted reader.new ≤ calls_counted reader.old + (file_limit + 1) }
 {
-    run_word(
-        alloc,
-        Taking::Spelled,
-        &Subset { names, form },
-        reader,
-        writer,
-    )
+    let budget = Budget { left: None };
+    run_subset_within(alloc, reader, names, &[], form, budget, writer)
 }
 
 /// The canonical file, in one of the two forms, of the subset of the font of a file over these names and the names that these
@@ -227,12 +223,7 @@ pub fn subset_file_with_codes(
     ensures text { IfOk result (λ text. of_file (subset_with_codes form (lent names.now) codes.now) file.now ≡ Ok text.items) }
     ensures refused { IfErr result (MayRefuse (λ a. a ≡ of_file (subset_with_codes form (lent names.now) codes.now) file.now)) }
 {
-    text_of_bytes(
-        alloc,
-        Taking::Spelled,
-        &SubsetWithCodes { names, codes, form },
-        file,
-    )
+    subset_file_within(alloc, file, names, codes, form, Budget { left: None })
 }
 
 /// Writes what [`run_subset`] writes of these names and the names that these codes have in the font's Encoding. If that is the
@@ -254,11 +245,60 @@ pub fn run_subset_with_codes<R: Read, W: Write>(
         (input_of R.remaining reader.old reader.new ∷ []) writer.old writer.new result }
     ensures turns { calls_counted reader.new ≤ calls_counted reader.old + (file_limit + 1) }
 {
-    run_word(
-        alloc,
-        Taking::Spelled,
-        &SubsetWithCodes { names, codes, form },
-        reader,
-        writer,
-    )
+    let budget = Budget { left: None };
+    run_subset_within(alloc, reader, names, codes, form, budget, writer)
+}
+
+/// The same as [`subset_file_with_codes`] within a budget, out of which the runs of glyphs take their tokens.
+///
+/// # Errors
+///
+/// As [`subset_file_with_codes`]; but behind all else comes [`Reason::TooManyTokens`], only if the runs of the glyphs that are kept
+/// execute more tokens than the budget has.
+pub fn subset_file_within(
+    alloc: Global,
+    file: &[u8],
+    names: &[&[u8]],
+    codes: &[u8],
+    form: Form,
+    budget: Budget,
+) -> Result<Vec<u8>, Reason>
+    ensures text { IfOk result (λ text. OfThere (SubsetsWithin budget.left form (lent names.now) codes.now)
+        (font_input file.now) (Ok text.items)) }
+    ensures refused { IfErr result (MayRefuse (OfThere
+        (SubsetsWithin budget.left form (lent names.now) codes.now) (font_input file.now))) }
+{
+    let source = match source_in(alloc, Taking::Spelled, file) {
+        Ok(source) => source,
+        Err(reason) => return Err(reason),
+    };
+    text_within(alloc, &source, names, codes, form, budget)
+}
+
+/// Writes what [`run_subset_with_codes`] writes, within a budget, out of which the runs of glyphs take their tokens.
+///
+/// Behind all else it is refused with [`Reason::TooManyTokens`], only if the runs of the glyphs that are kept execute more tokens
+/// than the budget has.
+pub fn run_subset_within<R: Read, W: Write>(
+    alloc: Global,
+    reader: &mut Counted<R>,
+    names: &[&[u8]],
+    codes: &[u8],
+    form: Form,
+    budget: Budget,
+    writer: &mut Counted<W>,
+) -> Result<(), RunFault>
+    ensures ends { RunEnds font_input (OfOne (SubsetsWithin budget.left form (lent names.now) codes.now)) W.contents
+        (input_of R.remaining reader.old reader.new ∷ []) writer.old writer.new result }
+    ensures turns { calls_counted reader.new ≤ calls_counted reader.old + (file_limit + 1) }
+{
+    let source = match read_font(alloc, Taking::Spelled, reader) {
+        Ok(source) => source,
+        Err(fault) => return Err(fault),
+    };
+    let text = match text_within(alloc, &source, names, codes, form, budget) {
+        Ok(text) => text,
+        Err(reason) => return Err(RunFault::Refused(reason)),
+    };
+    write_text(writer, text.as_slice())
 }

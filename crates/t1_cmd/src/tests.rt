@@ -1,3 +1,4 @@
+mod budgets;
 mod changed;
 mod codes;
 mod counts;

@@ -1,39 +1,59 @@
 //! The lines that report a fault.
 ghost use Rattle.std.specs.Prelude.{◌≡◌, ◌++◌, OnOk, IfOk};
 ghost use Rattle.std.specs.Fmt.{decimal};
-ghost use Rattle.t1_join.specs.Shown.{shown};
+ghost use Rattle.std.specs.List.{list_all};
+ghost use Rattle.t1_join.specs.Shown.{is_plain, shown};
 ghost use Rattle.t1_cmd.specs.Texts.{fault_line, fault_line_of};
 
 use crate::faults::RunFault;
+use itoa::Buffer;
 use std::alloc::{AllocError, Global};
 use t1_join::Shown;
+
+// Whether a byte is printed as it stands.
+fn is_plain(byte: u8) -> bool
+    ensures { result ≡ is_plain byte }
+{
+    33 <= byte && byte <= 126 && byte != b'\\'
+}
+
+// Whether each byte of a name is printed as it stands.
+fn are_plain(name: &[u8]) -> bool
+    ensures { result ≡ list_all is_plain name.now }
+{
+    'bytes: for byte in name {
+        if !is_plain(*byte) {
+            return false;
+        }
+    }
+    true
+}
 
 /// Adds a name at the end, as it is printed.
 pub(crate) fn push_shown(alloc: Global, out: &mut Vec<u8>, name: &[u8]) -> Result<(), AllocError>
     ensures { OnOk result (out.new.items ≡ out.old.items ++ shown name.now) }
 {
+    if are_plain(name) {
+        return out.extend_from_slice(name);
+    }
     let text = Shown(name).to_string(alloc)?;
     out.extend_from_slice(text.as_bytes())
 }
 
-pub(crate) fn push_number(alloc: Global, out: &mut Vec<u8>, n: usize) -> Result<(), AllocError>
+/// Adds a number at the end.
+pub(crate) fn push_number(out: &mut Vec<u8>, n: usize) -> Result<(), AllocError>
     ensures { OnOk result (out.new.items ≡ out.old.items ++ decimal n) }
 {
-    let text = n.to_string(alloc)?;
-    out.extend_from_slice(text.as_bytes())
+    let mut buffer = Buffer::new();
+    out.extend_from_slice(buffer.format(n).as_bytes())
 }
 
 // The words, and then the number.
-pub(crate) fn push_about(
-    alloc: Global,
-    out: &mut Vec<u8>,
-    words: &[u8],
-    n: usize,
-) -> Result<(), AllocError>
+pub(crate) fn push_about(out: &mut Vec<u8>, words: &[u8], n: usize) -> Result<(), AllocError>
     ensures { OnOk result (out.new.items ≡ out.old.items ++ (words.now ++ decimal n)) }
 {
     out.extend_from_slice(words)?;
-    push_number(alloc, out, n)
+    push_number(out, n)
 }
 
 /// The line that reports a fault: its text, and a line feed.

@@ -1,9 +1,10 @@
 -- Searches for a lack, number by number.
-use Rattle.std.proofs.Common.{◌≡◌, ◌<◌, ◌+◌, ℕ, zero, suc, arith, refl, sym, ap, subst, ◌∙◌, Bool, true, false, ◌&&◌, true≢false, nat_cmp, List, [], ◌∷◌, Option, Some, None, is_some, nat_lt}
+use Rattle.std.proofs.Common.{◌≡◌, ◌<◌, ◌≤◌, ◌+◌, ℕ, zero, suc, arith, refl, sym, ap, subst, ◌∙◌, Bool, true, false, ◌&&◌, true≢false, nat_cmp, List, [], ◌∷◌, Option, Some, None, is_some}
+use Rattle.std.proofs.Common.{nat_lt, cond, not}
 use Rattle.std.proofs.lemmas.Bool.{ltb-true, ltb-false}
 use Rattle.std.specs.{Option.{option_map}, List.{AllByRecursion, list_any}, Ordering.{eq_by_cmp}}
 use Rattle.t1_font.specs.FontValue.{FontValue}
-use Rattle.t1_algebra.specs.{Lacks.{first_lack, first_below}, Interpreter.{same_bytes}, Searches.{found}}
+use Rattle.t1_algebra.specs.{Lacks.{Lack, user_of, is_had, lack_at, first_lack, first_below}, Interpreter.{same_bytes}, Searches.{found}}
 use Rattle.t1_algebra.proofs.{Sets.{tied, name_same}, Words.{nat_list_cmp_total}, rejoining.Lacking.{same_indices_lack_none}}
 use Rattle.t1_subset.specs.Lacks.{have_same_subrs}
 use Rattle.std.specs.FinMap as maps
@@ -13,6 +14,20 @@ module _ {X : Type 0} (value : ℕ → Option X) where
   pub none_there : (i : ℕ) → first_below value i ≡ None → value i ≡ None → first_below value (i + 1) ≡ None
   none_there i none h =
       let next : suc i ≡ i + 1 = omega arith in subst (λ (n : ℕ). first_below value n ≡ None) next (λ k. found (λ x. x) (none k) (h k))
+
+  -- nor below more numbers if nothing is at any of these
+  pub none_beyond : (n m : ℕ) → first_below value n ≡ None → n ≤ m → ((k : ℕ) → n ≤ k → k < m → value k ≡ None) → first_below value m ≡ None
+  none_beyond n zero none l far = refl
+  none_beyond n (suc m) none l far = by (nat_lt n (suc m)) refl (λ less. none_beyond n m none less (λ k a b. far k a (omega (arith, b))))
+    where
+      by : (b : Bool) → nat_lt n (suc m) ≡ b → (n ≤ m → first_below value m ≡ None) → first_below value (suc m) ≡ None
+      by true t sooner =
+          let less : n < suc m = ltb-true n (suc m) t in
+          λ k. found (λ x. x) (sooner (omega (arith, less)) k) (far m (omega (arith, less)) (omega arith) k)
+      by false t sooner =
+          let not_less : suc m ≤ n = ltb-false n (suc m) t in
+          let same : n ≡ suc m = omega (arith, l, not_less) in
+          subst (λ (x : ℕ). first_below value x ≡ None) same none
 
   -- what is first found at a number is found below each larger one
   pub found_there : (i n : ℕ) (x : X) → first_below value i ≡ None → value i ≡ Some x → i < n → first_below value n ≡ Some x
@@ -50,3 +65,12 @@ have_these f (g ∷ gs) h =
 -- so none lacks any
 pub same_subrs_lack_none : (f : FontValue) (fs : List FontValue) → have_same_subrs f fs ≡ true → first_lack fs ≡ None
 same_subrs_lack_none f fs h = same_indices_lack_none (maps.contains_key f.subrs) fs (have_these f fs h)
+
+-- a font lacks nothing where no glyph executes it
+pub unused_lacks_none : (fs : List FontValue) (f : FontValue) (i : ℕ) → user_of f i ≡ None → lack_at fs f i ≡ None
+unused_lacks_none fs f i h = ap (λ (o : Option (List ℕ)). cond (not (maps.contains_key f.subrs i) && is_had fs i) (option_map (λ n. (i, n)) o) None) h
+    ∙ nothing (not (maps.contains_key f.subrs i) && is_had fs i)
+  where
+    nothing : (b : Bool) → ◌≡◌ {A = Option Lack} (cond b None None) None
+    nothing true = refl
+    nothing false = refl

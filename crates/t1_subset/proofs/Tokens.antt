@@ -12,7 +12,9 @@ use Rattle.t1_run.specs.{Budgets.{tokens_of_longer, tokens_of_both, HasFewer, Ta
 use Rattle.t1_run.proofs.Taken.{takes_wider, takes_twice, takes_nothing, fewer_before, fewer_than_more}
 use Rattle.t1_font.{specs.{FontValue.{FontValue, Named, name_cmp, names_in}, FontModel.{subr_at}, IsFont.{IsFont}}, proofs.FontReaders.{all_seen}}
 use Rattle.t1_algebra.{specs.{Interpreter.{same_bytes, Names}, Keep.{charstring, keep}, Profile.{profile}}, proofs.{Sets.{in_list, tied, name_same, any_filter, any_filtered}, Kept.{keep_from}}}
-use Rattle.t1_subset.{specs.{Budgets.{longer_tokens, glyph_tokens, kept_names, kept_longer, kept_tokens, IsEnough}}, proofs.closing.Closures.{ClosureSoFar, closure_end, all_front}}
+use Rattle.t1_subset.specs.{Budgets.{longer_tokens, glyph_tokens, font_tokens, fonts_tokens, least_of, font_least, fonts_least, kept_names, kept_longer, kept_tokens, IsEnough}}
+use Rattle.t1_subset.specs.{Callers.{same_charstring}}
+use Rattle.t1_subset.{proofs.closing.Closures.{ClosureSoFar, closure_end, all_front}}
 use Rattle.t1_subset.specs.ClosureNames.{push_all}
 use Rattle.std.specs.FinMap as maps
 use Rattle.std.specs.FinSet as sets
@@ -55,13 +57,6 @@ module _ {X : Type 0} (g : X → ℕ) where
       takes_wider (sum_by g' done + g' x) (sum_by g done + g x) (sum_by g' next) (sum_by g next) old new (omega (arith, least)) (omega (arith, most))
       (takes_twice (sum_by g' done) (sum_by g done) (g' x) (g x) old mid new h k)
 
-  -- the same, where it is said only how much was taken at most
-  pub takes_on : (done next : List X) (x : X) (old mid new : Option ℕ) → next ≡ done ++ x ∷ [] →
-      Takes 0 (sum_by g done) old mid → Takes 0 (g x) mid new → Takes 0 (sum_by g next) old new
-  takes_on done next x old mid new is h k =
-      let most : sum_by g next ≡ sum_by g done + g x = ap (sum_by g) is ∙ sum_by_push g done x in
-      takes_wider 0 (sum_by g done + g x) 0 (sum_by g next) old new (omega arith) (omega (arith, most)) (takes_twice 0 (sum_by g done) 0 (g x) old mid new h k)
-
   -- if too little is left for one more, what there was is too little for all
   pub refused_on : (least : ℕ) (done next : List X) (x : X) (all : ℕ) (old mid : Option ℕ) → next ≡ done ++ x ∷ [] → sum_by g next ≤ all →
       Takes least (sum_by g done) old mid → HasFewer mid (g x) → HasFewer old all
@@ -69,47 +64,72 @@ module _ {X : Type 0} (g : X → ℕ) where
       let most : sum_by g next ≡ sum_by g done + g x = ap (sum_by g) is ∙ sum_by_push g done x in
       fewer_than_more (sum_by g done + g x) all old (omega (arith, most, few)) (fewer_before least (sum_by g done) (g x) old mid h k)
 
-  -- What was taken so far, where so much of all is left to be taken.
-  pub record SpentSoFar (all : ℕ) (left : List X) (old new : Option ℕ) : Type 0 where
-    pub spent : ℕ
-    pub are : spent + sum_by g left ≡ all
-    pub takes : Takes 0 spent old new
+-- ---- the glyphs of a font, of which one with the charstring of the one before takes nothing
+
+module _ (f : FontValue) where
+  -- What was taken so far, where these glyphs are left, and this is the charstring of the one before.
+  pub record SpentSoFar (before : Option (List ℕ)) (left : List (List ℕ)) (old new : Option ℕ) : Type 0 where
+    pub least : ℕ
+    pub most : ℕ
+    pub must : least + least_of f before left ≡ font_least f
+    pub may : most + sum_by (glyph_tokens f) left ≡ font_tokens f
+    pub takes : Takes least most old new
 
   -- before anything is taken
-  pub spent_starts : (xs left : List X) (budget : Option ℕ) → left ≡ xs → SpentSoFar (sum_by g xs) left budget budget
-  spent_starts xs left budget is =
-      let e : sum_by g left ≡ sum_by g xs = ap (sum_by g) is in
-      record { spent = 0; are = omega (arith, e); takes = takes_nothing budget }
+  pub spent_starts : (left : List (List ℕ)) (budget : Option ℕ) → left ≡ names_in f.glyphs → SpentSoFar None left budget budget
+  spent_starts left budget is = record {
+    least = 0;
+    most = 0;
+    must = let e : least_of f None left ≡ font_least f = ap (least_of f None) is in omega (arith, e);
+    may = let e : sum_by (glyph_tokens f) left ≡ font_tokens f = ap (sum_by (glyph_tokens f)) is in omega (arith, e);
+    takes = takes_nothing budget;
+  }
 
-  module _ (all : ℕ) (xs left : List X) (x : X) (old mid : Option ℕ) (is : xs ≡ x ∷ left) (h : SpentSoFar all xs old mid) where
-    next_of : sum_by g xs ≡ g x + sum_by g left
-    next_of = ap (sum_by g) is ∙ sum_by-cons g x left
+  module _ (before : Option (List ℕ)) (names left : List (List ℕ)) (n : List ℕ) (old mid : Option ℕ) (is : names ≡ n ∷ left)
+      (h : SpentSoFar before names old mid) where
+    tokens_of_next : sum_by (glyph_tokens f) names ≡ glyph_tokens f n + sum_by (glyph_tokens f) left
+    tokens_of_next = ap (sum_by (glyph_tokens f)) is ∙ sum_by-cons (glyph_tokens f) n left
+
+    least_of_next : (b : Bool) → same_charstring before (maps.get f.glyphs n) ≡ b →
+        least_of f before names ≡ cond b 0 (longer_tokens f n) + least_of f (maps.get f.glyphs n) left
+    unfolding least_of
+    least_of_next b same = ap (least_of f before) is ∙ ap (λ x. cond x 0 (longer_tokens f n) + least_of f (maps.get f.glyphs n) left) same
 
     -- the next takes its part
-    pub spent_more : (least : ℕ) (new : Option ℕ) → Takes least (g x) mid new → SpentSoFar all left old new
-    spent_more least new k = record {
-      spent = h.spent + g x;
-      are = let e = next_of in omega (arith, e, h.are);
-      takes = takes_wider (0 + least) (h.spent + g x) 0 (h.spent + g x) old new (omega arith) (omega arith)
-          (takes_twice 0 h.spent least (g x) old mid new h.takes k);
+    pub spent_more : (c : Option (List ℕ)) (new : Option ℕ) → c ≡ maps.get f.glyphs n → same_charstring before (maps.get f.glyphs n) ≡ false →
+        Takes (longer_tokens f n) (glyph_tokens f n) mid new → SpentSoFar c left old new
+    spent_more c new there other k = record {
+      least = h.least + longer_tokens f n;
+      most = h.most + glyph_tokens f n;
+      must = let e = least_of_next false other in let m = ap (λ x. least_of f x left) there in omega (arith, e, m, h.must);
+      may = let e = tokens_of_next in omega (arith, e, h.may);
+      takes = takes_twice h.least h.most (longer_tokens f n) (glyph_tokens f n) old mid new h.takes k;
     }
 
     -- the next takes nothing
-    pub spent_again : SpentSoFar all left old mid
-    spent_again = record {
-      spent = h.spent + g x;
-      are = let e = next_of in omega (arith, e, h.are);
-      takes = takes_wider 0 h.spent 0 (h.spent + g x) old mid (omega arith) (omega arith) h.takes;
+    pub spent_again : before ≡ maps.get f.glyphs n → same_charstring before (maps.get f.glyphs n) ≡ true → SpentSoFar before left old mid
+    spent_again there same = record {
+      least = h.least;
+      most = h.most + glyph_tokens f n;
+      must = let e = least_of_next true same in let m = ap (λ x. least_of f x left) there in omega (arith, e, m, h.must);
+      may = let e = tokens_of_next in omega (arith, e, h.may);
+      takes = takes_wider h.least h.most h.least (h.most + glyph_tokens f n) old mid (omega arith) (omega arith) h.takes;
     }
 
     -- too little is left for the next
-    pub spent_refused : HasFewer mid (g x) → HasFewer old all
+    pub spent_refused : HasFewer mid (glyph_tokens f n) → HasFewer old (font_tokens f)
     spent_refused k =
-        let e = next_of in fewer_than_more (h.spent + g x) all old (omega (arith, e, h.are)) (fewer_before 0 h.spent (g x) old mid h.takes k)
+        let e = tokens_of_next in
+        fewer_than_more (h.most + glyph_tokens f n) (font_tokens f) old (omega (arith, e, h.may))
+        (fewer_before h.least h.most (glyph_tokens f n) old mid h.takes k)
 
   -- what was taken in all
-  pub spent_ends : (all : ℕ) (left : List X) (old new : Option ℕ) → SpentSoFar all left old new → Takes 0 all old new
-  spent_ends all left old new h = takes_wider 0 h.spent 0 all old new (omega arith) (omega (arith, h.are)) h.takes
+  pub spent_ends : (before : Option (List ℕ)) (left : List (List ℕ)) (old new : Option ℕ) → left ≡ [] → SpentSoFar before left old new →
+      Takes (font_least f) (font_tokens f) old new
+  unfolding least_of
+  spent_ends before left old new none h =
+      let e : least_of f before left ≡ 0 = ap (least_of f before) none in
+      takes_wider h.least h.most (font_least f) (font_tokens f) old new (omega (arith, e, h.must)) (omega (arith, h.may)) h.takes
 
 -- ---- names without repeats, and those that are kept
 
@@ -271,9 +291,37 @@ module _ {X : Type 0} (g : X → ℕ) (xs : List X) (i : ℕ) (x : X) (l : i < l
   one_more = take_more xs i x l ∙ ap (λ (y : X). take i xs ++ y ∷ []) (sym at)
 
   -- the next of a list takes its part
-  pub list_takes : (old mid new : Option ℕ) → Takes 0 (sum_by g (take i xs)) old mid → Takes 0 (g x) mid new → Takes 0 (sum_by g (take (i + 1) xs)) old new
-  list_takes old mid new h k = takes_on g (take i xs) (take (i + 1) xs) x old mid new one_more h k
+  pub list_takes : (g' : X → ℕ) (old mid new : Option ℕ) → Takes (sum_by g' (take i xs)) (sum_by g (take i xs)) old mid → Takes (g' x) (g x) mid new →
+      Takes (sum_by g' (take (i + 1) xs)) (sum_by g (take (i + 1) xs)) old new
+  list_takes g' old mid new h k = takes_more g g' (take i xs) (take (i + 1) xs) x old mid new one_more h k
 
   -- too little is left for the next of a list
-  pub list_refused : (old mid : Option ℕ) → Takes 0 (sum_by g (take i xs)) old mid → HasFewer mid (g x) → HasFewer old (sum_by g xs)
-  list_refused old mid h k = refused_on g 0 (take i xs) (take (i + 1) xs) x (sum_by g xs) old mid one_more (sum_by-take-le g xs (i + 1)) h k
+  pub list_refused : (least : ℕ) (old mid : Option ℕ) → Takes least (sum_by g (take i xs)) old mid → HasFewer mid (g x) → HasFewer old (sum_by g xs)
+  list_refused least old mid h k = refused_on g least (take i xs) (take (i + 1) xs) x (sum_by g xs) old mid one_more (sum_by-take-le g xs (i + 1)) h k
+
+-- ---- two fonts
+
+module _ (f g : FontValue) (old : Option ℕ) where
+  two_least : fonts_least (f ∷ g ∷ []) ≡ font_least f + font_least g
+  two_least = let one = sum_by-cons font_least f (g ∷ []) in let two = sum_by-cons font_least g [] in omega (arith, one, two)
+
+  two_tokens : fonts_tokens (f ∷ g ∷ []) ≡ font_tokens f + font_tokens g
+  two_tokens = let one = sum_by-cons font_tokens f (g ∷ []) in let two = sum_by-cons font_tokens g [] in omega (arith, one, two)
+
+  -- what both took is allowed
+  pub two_enough : (mid new : Option ℕ) → Takes (font_least f) (font_tokens f) old mid → Takes (font_least g) (font_tokens g) mid new →
+      IsEnough old (fonts_least (f ∷ g ∷ []))
+  two_enough mid new h k =
+      takes_enough (fonts_least (f ∷ g ∷ [])) (fonts_tokens (f ∷ g ∷ [])) old new
+      (takes_wider (font_least f + font_least g) (font_tokens f + font_tokens g) (fonts_least (f ∷ g ∷ [])) (fonts_tokens (f ∷ g ∷ [])) old new
+      (omega (arith, two_least)) (omega (arith, two_tokens)) (takes_twice (font_least f) (font_tokens f) (font_least g) (font_tokens g) old mid new h k))
+
+  -- too little is left for the first
+  pub first_refused : HasFewer old (font_tokens f) → HasFewer old (fonts_tokens (f ∷ g ∷ []))
+  first_refused h = fewer_than_more (font_tokens f) (fonts_tokens (f ∷ g ∷ [])) old (omega (arith, two_tokens)) h
+
+  -- too little is left for the second
+  pub second_refused : (mid : Option ℕ) → Takes (font_least f) (font_tokens f) old mid → HasFewer mid (font_tokens g) → HasFewer old (fonts_tokens (f ∷ g ∷ []))
+  second_refused mid h k =
+      fewer_than_more (font_tokens f + font_tokens g) (fonts_tokens (f ∷ g ∷ [])) old (omega (arith, two_tokens))
+      (fewer_before (font_least f) (font_tokens f) (font_tokens g) old mid h k)

@@ -1,10 +1,10 @@
 -- The tokens that the glyphs of fonts execute, and what calls within a budget of tokens answer.
-use Rattle.std.specs.{Prelude.{◌≡◌, ◌⊎◌, ◌≤◌, ℕ, List, filter, Option, Some, None, Result, Ok, Err, MatchResult}, List.{sum_by, AllByRecursion}}
+use Rattle.std.specs.{Prelude.{◌≡◌, ◌⊎◌, ◌+◌, ◌≤◌, ℕ, List, [], ◌∷◌, cond, filter, Option, Some, None, Result, Ok, Err, MatchResult}, List.{sum_by, AllByRecursion}}
 use Rattle.t1_run.specs.{declared.budget.Stop.{Stop}, Budgets.{tokens_of_longer, tokens_of_both}}
 use Rattle.t1_font.specs.{FontValue.{FontValue, names_in}, IsFont.{IsFont}}
 use Rattle.t1_algebra.specs.{Interpreter.{Names}, Keep.{charstring, keep}, Profile.{profile}, Merges.{ComesTo}}
 use Rattle.t1_subset.specs.{declared.budgets.BudgetFault.{BudgetFault}, declared.budgets.BudgetFault.TheVariants.{TooManyTokens, Plain}}
-use Rattle.t1_subset.specs.{declared.conflict.Conflict.{Conflict}, declared.conflict.Conflict.TheVariants.{Memory}, Merger.{NotMerged}}
+use Rattle.t1_subset.specs.{declared.conflict.Conflict.{Conflict}, declared.conflict.Conflict.TheVariants.{Memory}, Merger.{NotMerged}, Callers.{same_charstring}}
 use Rattle.t1_run.specs.declared.budget.Stop.TheVariants as stop
 use Rattle.std.specs.FinMap as maps
 use Rattle.std.specs.FinSet as sets
@@ -24,6 +24,19 @@ font_tokens f = sum_by (glyph_tokens f) (names_in f.glyphs)
 -- The tokens that both runs of all glyphs of all these fonts execute.
 abbrev pub fonts_tokens : List FontValue → ℕ
 fonts_tokens fs = sum_by font_tokens fs
+
+-- The tokens that the longer run of each of these glyphs executes whose charstring isn't that of the glyph before; this is that of the glyph before the first.
+unfoldable pub least_of : FontValue → Option (List ℕ) → List (List ℕ) → ℕ
+least_of f before [] = 0
+least_of f before (n ∷ ns) = cond (same_charstring before (maps.get f.glyphs n)) 0 (longer_tokens f n) + least_of f (maps.get f.glyphs n) ns
+
+-- The same of all glyphs of a font, by name.
+abbrev pub font_least : FontValue → ℕ
+font_least f = least_of f None (names_in f.glyphs)
+
+-- The same of all these fonts.
+abbrev pub fonts_least : List FontValue → ℕ
+fonts_least fs = sum_by font_least fs
 
 -- The names of a font's glyphs that a set of names keeps.
 abbrev pub kept_names : FontValue → Names → List (List ℕ)

@@ -2,6 +2,7 @@
 use Rattle.std.specs.{Prelude.{ℕ, Option, Some, None, List, [], ◌++◌, codes}, Fmt.{decimal}, Global.{Vec}}
 use Rattle.t1_join.specs.Shown.{shown}
 use Rattle.t1_subset.specs.{declared.conflict.ShellPart.{ShellPart}, declared.conflict.Conflict.{Conflict}, declared.fault.SubsetFault.{SubsetFault}, declared.fault.RejoinFault.{RejoinFault}}
+use Rattle.t1_subset.specs.{declared.budgets.BudgetFault.{BudgetFault}, declared.budgets.BudgetFault.TheVariants.{TooManyTokens, Plain}}
 use Rattle.t1_subset.specs.declared.conflict.ShellPart.TheVariants as part
 use Rattle.t1_subset.specs.declared.conflict.Conflict.TheVariants as conflict
 use Rattle.t1_subset.specs.declared.fault.SubsetFault.TheVariants as fault
@@ -44,3 +45,8 @@ subset_text fault.Memory = codes "out of memory"
 abbrev pub rejoin_text : RejoinFault → List ℕ
 rejoin_text (rejoin.Lacks glyph index) = codes "glyph " ++ (shown glyph.items ++ (codes " lacks subr " ++ decimal index))
 rejoin_text (rejoin.Merge e) = conflict_text e
+
+-- what is printed of a fault within a budget, by what is printed of one without
+abbrev pub text_within : {E : Type 0} → (E → Option (List ℕ)) → BudgetFault E → Option (List ℕ)
+text_within text TooManyTokens = Some (codes "too many tokens")
+text_within text (Plain e) = text e

@@ -2,6 +2,7 @@
 
 ghost use Rattle.std.specs.Prelude.{◌≡◌};
 ghost use Rattle.t1_subset.specs.Budgets.{stopped};
+ghost use Rattle.t1_subset.specs.FaultTexts.{text_within};
 ghost use Rattle.t1_subset.specs.declared.conflict.Conflict.TheVariants as conflict;
 ghost use Rattle.t1_subset.specs.declared.fault.SubsetFault.TheVariants as subset;
 ghost use Rattle.t1_subset.specs.declared.fault.RejoinFault.TheVariants.{Merge};
@@ -10,6 +11,7 @@ ghost use Rattle.t1_subset.specs.declared.budgets.BudgetFault.TheVariants.{Plain
 use crate::conflict::Conflict;
 use crate::fault::{RejoinFault, SubsetFault};
 use std::alloc::AllocError;
+use std::fmt;
 use t1_run::Stop;
 
 /// Why a call within a budget of tokens has no answer.
@@ -20,6 +22,19 @@ pub enum BudgetFault<E> {
     /// What the call answers without a budget.
     Plain(E),
 }
+
+impl<E: fmt::Display + Drop> fmt::Display for BudgetFault<E> {
+    ghost output = { λ fault. text_within E.output fault };
+
+    fn fmt<W: fmt::Write>(&self, f: &mut fmt::Formatter<W>) -> fmt::Result {
+        match self {
+            BudgetFault::TooManyTokens => f.write_str("too many tokens"),
+            BudgetFault::Plain(fault) => write!(f, "{fault}"),
+        }
+    }
+}
+
+impl<E: fmt::Debug + fmt::Display + Drop> std::error::Error for BudgetFault<E> {}
 
 impl From<Stop> for BudgetFault<SubsetFault> {
     ghost from_gives = { λ stop e. e ≡ stopped stop subset.Memory };

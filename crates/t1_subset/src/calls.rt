@@ -1,6 +1,7 @@
 //! What the run of a glyph comes to: the Subrs that it executes, and the components that it names.
 
-ghost use Rattle.std.specs.Prelude.{◌≡◌, IfOk, IfErr, OnOk, ◌∷◌, [], map};
+ghost use Rattle.std.specs.Prelude.{◌≡◌, ℕ, List, Some, IfOk, IfErr, OnOk, ◌∷◌, [], map};
+ghost use Rattle.std.specs.FinMap as maps;
 ghost use Rattle.std.specs.FinSet as sets;
 ghost use Rattle.t1_algebra.specs.Profile.{profile, set_of};
 ghost use Rattle.t1_algebra.specs.Keep.{components, charstring};
@@ -12,8 +13,36 @@ use std::alloc::{AllocError, Global};
 use t1_font::Font;
 use t1_run::{Budget, Called, Glyphs, Stop, parts_and_executed_within};
 
-/// The components that the runs of a glyph name, within a budget. The Subrs that the runs execute are added to `calls`.
-#[tactic(auto, using(crate::proofs::closing::Runs::components_are, crate::proofs::closing::Runs::no_components, crate::proofs::closing::Runs::no_calls, crate::proofs::closing::NumberSets::union_none))]
+/// The components that the runs of a charstring name, within a budget. The Subrs that the runs execute are added to `calls`. Each glyph
+/// that has the charstring names and executes these.
+fn run(
+    alloc: Global,
+    font: &Font<'_>,
+    body: &[u8],
+    calls: &mut Called,
+    budget: &mut Budget,
+) -> Result<Vec<&'static str>, Stop>
+    ensures components { IfOk result (λ names. (n : List ℕ)
+        → maps.get font.now.glyphs n ≡ Some body.now
+        → map (λ s. s.now) names.items ≡ components profile font.now.subrs (charstring font.now n)) }
+    ensures calls { OnOk result ((n : List ℕ)
+        → maps.get font.now.glyphs n ≡ Some body.now
+        → set_of calls.new ≡ sets.union (set_of calls.old) (profile.exec font.now.subrs (charstring font.now n))) }
+    ensures takes { OnOk result ((n : List ℕ)
+        → maps.get font.now.glyphs n ≡ Some body.now
+        → Takes (longer_tokens font.now n) (glyph_tokens font.now n) budget.old.left budget.new.left) }
+    ensures refused { IfErr result (λ e. e ≡ TooManyTokens
+        → (n : List ℕ)
+        → maps.get font.now.glyphs n ≡ Some body.now
+        → HasFewer budget.old.left (glyph_tokens font.now n)) }
+{
+    font.proof_is_font();
+    let names = parts_and_executed_within(alloc, font, body, calls, budget)?;
+    Ok(names)
+}
+
+/// The components that the runs of the glyph of a name name, within a budget. The Subrs that the runs execute are added to `calls`.
+#[tactic(auto, using(crate::proofs::closing::Runs::no_components, crate::proofs::closing::Runs::no_calls, crate::proofs::closing::NumberSets::union_none))]
 pub(crate) fn run_of(
     alloc: Global,
     font: &Font<'_>,
@@ -31,36 +60,37 @@ pub(crate) fn run_of(
     ensures refused { IfErr result (λ e. e ≡ TooManyTokens
         → HasFewer budget.old.left (glyph_tokens font.now name.now)) }
 {
-    font.proof_is_font();
     match font.glyph(name) {
-        Some(charstring) => {
-            let names = parts_and_executed_within(alloc, font, charstring, calls, budget)?;
-            Ok(names)
-        }
+        Some(charstring) => run(alloc, font, charstring, calls, budget),
         None => Ok(Vec::new(alloc)),
     }
 }
 
-/// The components that the runs of a glyph name, within a budget. Only the Subrs that these runs execute are in `calls` afterwards.
-#[tactic(auto, using(std::proofs::lemmas::Result::on_ok_weaker, crate::proofs::closing::NumberSets::none_union, crate::proofs::closing::Runs::calls_by))]
+/// The components that the runs of a charstring name, within a budget. Only the Subrs that these runs execute are in `calls` afterwards.
+/// Each glyph that has the charstring names and executes these.
 pub(crate) fn run_alone(
     alloc: Global,
     font: &Font<'_>,
-    name: &[u8],
+    body: &[u8],
     calls: &mut Called,
     budget: &mut Budget,
 ) -> Result<Vec<&'static str>, Stop>
-    ensures components { IfOk result (λ names. map (λ s. s.now) names.items
-        ≡ components profile font.now.subrs (charstring font.now name.now)) }
-    ensures calls { OnOk result (set_of calls.new
-        ≡ profile.exec font.now.subrs (charstring font.now name.now)) }
-    ensures takes { OnOk result (Takes (longer_tokens font.now name.now) (glyph_tokens font.now name.now)
-        budget.old.left budget.new.left) }
+    ensures components { IfOk result (λ names. (n : List ℕ)
+        → maps.get font.now.glyphs n ≡ Some body.now
+        → map (λ s. s.now) names.items ≡ components profile font.now.subrs (charstring font.now n)) }
+    ensures calls { OnOk result ((n : List ℕ)
+        → maps.get font.now.glyphs n ≡ Some body.now
+        → set_of calls.new ≡ profile.exec font.now.subrs (charstring font.now n)) }
+    ensures takes { OnOk result ((n : List ℕ)
+        → maps.get font.now.glyphs n ≡ Some body.now
+        → Takes (longer_tokens font.now n) (glyph_tokens font.now n) budget.old.left budget.new.left) }
     ensures refused { IfErr result (λ e. e ≡ TooManyTokens
-        → HasFewer budget.old.left (glyph_tokens font.now name.now)) }
+        → (n : List ℕ)
+        → maps.get font.now.glyphs n ≡ Some body.now
+        → HasFewer budget.old.left (glyph_tokens font.now n)) }
 {
     calls.clear();
-    run_of(alloc, font, name, calls, budget)
+    run(alloc, font, body, calls, budget)
 }
 
 /// The indices 0 to 3, which stand in for the PostScript of flex and hint replacement and are always kept

@@ -1,6 +1,6 @@
 //! All conflicts of two fonts.
 
-ghost use Rattle.std.specs.Prelude.{◌≡◌, ◌↔◌, [], ◌∷◌, ◌++◌, ◌||◌, not, cond, map, filter, IfOk, OnOk, IsTrue};
+ghost use Rattle.std.specs.Prelude.{◌≡◌, ◌↔◌, [], ◌∷◌, ◌++◌, ◌||◌, not, cond, map, filter, IfOk, IfErr, OnOk, IsTrue};
 ghost use Rattle.std.specs.Option.{option_map};
 ghost use Rattle.std.specs.FinMap as maps;
 ghost use Rattle.t1_join.specs.Meaning.{of_number};
@@ -12,6 +12,9 @@ ghost use Rattle.t1_algebra.specs.Keep.{has};
 ghost use Rattle.t1_algebra.specs.States.{Join};
 ghost use Rattle.t1_algebra.specs.Conflicts.{ShellDiffers, CodeDiffers, GlyphDiffers, agrees, codes_of_both, keys_of_both, code_clashes, glyph_clashes, glyphs_of_both};
 ghost use Rattle.t1_algebra.specs.Conflicts.{component_clashes, subr_clashes, lacks_component, subr_differs, states_conflicts, conflicts};
+ghost use Rattle.t1_run.specs.Budgets.{Takes, HasFewer};
+ghost use Rattle.t1_run.specs.declared.budget.Stop.TheVariants.{TooManyTokens};
+ghost use Rattle.t1_subset.specs.Budgets.{font_least, font_tokens, fonts_least, fonts_tokens, IsEnough};
 ghost use Rattle.t1_subset.specs.Differences.{shell_part};
 ghost use Rattle.t1_subset.specs.Callers.{IsNoted};
 ghost use Rattle.t1_subset.specs.Refusals.{Adds, AddsOne, TellEach};
@@ -27,7 +30,7 @@ use crate::users::user_in;
 use std::alloc::{AllocError, Global};
 use t1_font::Font;
 use t1_join::{Join, Table};
-use t1_run::Budget;
+use t1_run::{Budget, Stop};
 
 /// A font's callers and states.
 #[derive(Drop)]
@@ -36,21 +39,21 @@ struct Side<'t, 'a> {
     states: States<'a>,
 }
 
-/// The callers and the states of a font. Each glyph of the font is run once.
-fn side_of<'t, 'a>(alloc: Global, font: &'t Font<'a>) -> Result<Side<'t, 'a>, AllocError>
+/// The callers and the states of a font, within a budget. Each glyph of the font is run once.
+fn side_of<'t, 'a>(
+    alloc: Global,
+    font: &'t Font<'a>,
+    budget: &mut Budget,
+) -> Result<Side<'t, 'a>, Stop>
     ensures font { IfOk result (λ side. side.callers.font.now ≡ font.now) }
     ensures noted { IfOk result (λ side. IsNoted side.callers side.states) }
+    ensures takes { OnOk result (Takes (font_least font.now) (font_tokens font.now) budget.old.left budget.new.left) }
+    ensures refused { IfErr result (λ e. e ≡ TooManyTokens
+        → HasFewer budget.old.left (font_tokens font.now)) }
 {
     font.proof_is_font();
-    match note_font(
-        alloc,
-        font,
-        Shared::of(alloc, font)?,
-        &mut Budget { left: None },
-    ) {
-        Ok((callers, states)) => Ok(Side { callers, states }),
-        Err(_) => Err(AllocError),
-    }
+    let (callers, states) = note_font(alloc, font, Shared::of(alloc, font)?, budget)?;
+    Ok(Side { callers, states })
 }
 
 /// One more conflict.
@@ -359,6 +362,30 @@ fn all_conflicts(
     Ok(all)
 }
 
+/// The same as [`conflicts`] within a budget, out of which each run takes its tokens. It is refused with [`Stop::TooManyTokens`] only
+/// if the runs of all glyphs of both fonts execute more. Each glyph is run once, or twice if the two answers after OtherSubr 3 lead to
+/// different runs, or not at all if the one before it has the same charstring.
+pub fn conflicts_within<'a>(
+    alloc: Global,
+    left: &Font<'a>,
+    right: &Font<'a>,
+    budget: Budget,
+) -> Result<Vec<Conflict>, Stop>
+    ensures all { IfOk result (λ all. TellEach all.items (conflicts profile left.now right.now)) }
+    ensures joins { IfOk result (λ all. (all.items ≡ []) ↔ Join profile left.now right.now) }
+    ensures enough { OnOk result (IsEnough budget.left (fonts_least (left.now ∷ right.now ∷ []))) }
+    ensures refused { IfErr result (λ e. e ≡ TooManyTokens
+        → HasFewer budget.left (fonts_tokens (left.now ∷ right.now ∷ []))) }
+{
+    let mut budget = budget;
+    let own = side_of(alloc, left, &mut budget)?;
+    let other = side_of(alloc, right, &mut budget)?;
+    match all_conflicts(alloc, &own, &other) {
+        Ok(all) => Ok(all),
+        Err(_) => Err(Stop::Memory),
+    }
+}
+
 /// All conflicts of two fonts, the lowest first: each part of the shells that differs, each code, each glyph, each component
 /// that one font lacks and the other has, with its smallest caller, and each Subr, with its smallest user. If there is none of
 /// these, the limits may be one. There are none exactly if the fonts join, and the first is the one that
@@ -374,7 +401,8 @@ pub fn conflicts<'a>(
     ensures all { IfOk result (λ all. TellEach all.items (conflicts profile left.now right.now)) }
     ensures joins { IfOk result (λ all. (all.items ≡ []) ↔ Join profile left.now right.now) }
 {
-    let own = side_of(alloc, left)?;
-    let other = side_of(alloc, right)?;
-    all_conflicts(alloc, &own, &other)
+    match conflicts_within(alloc, left, right, Budget { left: None }) {
+        Ok(all) => Ok(all),
+        Err(_) => Err(AllocError),
+    }
 }

@@ -13,7 +13,7 @@ ghost use Rattle.t1_subset.specs.Merger.{NotMerged, FirstShare};
 ghost use Rattle.t1_subset.specs.Refusals.{Tells};
 ghost use Rattle.t1_run.specs.Budgets.{Takes, HasFewer};
 ghost use Rattle.t1_run.specs.declared.budget.Stop.TheVariants.{TooManyTokens};
-ghost use Rattle.t1_subset.specs.Budgets.{fonts_tokens};
+ghost use Rattle.t1_subset.specs.Budgets.{fonts_least, fonts_tokens};
 
 use crate::callers::Callers;
 use crate::conflict::{Conflict, ShellPart};
@@ -125,8 +125,8 @@ pub(crate) fn note_fonts<'t, 'a>(
     ensures fonts { IfOk result (λ n. fonts_of n.0.items ≡ map (λ f. f.now) fonts.now) }
     ensures noted { IfOk result (λ n. AreNoted n.0.items) }
     ensures states { IfOk result (λ n. n.1.items ≡ map (states_of profile) (fonts_of n.0.items)) }
-    ensures takes { OnOk result (Takes 0 (fonts_tokens (map (λ f. f.now) fonts.now))
-        budget.old.left budget.new.left) }
+    ensures takes { OnOk result (Takes (fonts_least (map (λ f. f.now) fonts.now))
+        (fonts_tokens (map (λ f. f.now) fonts.now)) budget.old.left budget.new.left) }
     ensures refused { IfErr result (λ e. e ≡ TooManyTokens
         → HasFewer budget.old.left (fonts_tokens (map (λ f. f.now) fonts.now))) }
 {

@@ -8,10 +8,10 @@ ghost use Rattle.t1_subset.specs.Lacks.{lack_view, have_same_subrs};
 ghost use Rattle.t1_subset.specs.Users.{noted_at};
 ghost use Rattle.t1_run.specs.Budgets.{Takes, HasFewer};
 ghost use Rattle.t1_run.specs.declared.budget.Stop.TheVariants.{TooManyTokens};
-ghost use Rattle.t1_subset.specs.Budgets.{font_tokens, fonts_tokens};
+ghost use Rattle.t1_subset.specs.Budgets.{font_least, font_tokens, fonts_tokens};
 
 use crate::state_making::uses_of;
-use crate::users::{Noted, noted_user};
+use crate::users::{Noted, noted_below, noted_user};
 use std::alloc::{AllocError, Global};
 use t1_font::Font;
 use t1_run::{Budget, Stop, Subroutines};
@@ -78,7 +78,7 @@ pub(crate) fn lack_by<'a>(
         → noted_at users.now.items i ≡ user_of font.now i }
     ensures { option_map lack_view result ≡ lack_in fonts.now font.now }
 {
-    'indices: for index in 0..font.count() {
+    'indices: for index in 0..noted_below(users, font.count()) {
         let lack = lack_at(fonts, font, noted_user(users, index), index);
         if lack.is_some() {
             return lack;
@@ -96,7 +96,7 @@ fn lack_in<'a>(
     budget: &mut Budget,
 ) -> Result<Option<Lack<'a>>, Stop>
     ensures lack { IfOk result (λ lack. option_map lack_view lack ≡ lack_in fonts.now font.now) }
-    ensures takes { OnOk result (Takes 0 (font_tokens font.now) budget.old.left budget.new.left) }
+    ensures takes { OnOk result (Takes (font_least font.now) (font_tokens font.now) budget.old.left budget.new.left) }
     ensures refused { IfErr result (λ e. e ≡ TooManyTokens
         → HasFewer budget.old.left (font_tokens font.now)) }
 {

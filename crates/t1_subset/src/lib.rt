@@ -3,7 +3,7 @@
 //! [`subset`] cuts a font to the glyphs of some names and to what these glyphs need: the components of accented glyphs,
 //! and the Subrs that are executed; [`closure`] answers what that is. [`merge`] and [`merge_all`] make one font of
 //! several; subsets of one font merge to the subset over all their names. [`states`] answers what fonts are compared by.
-//! [`subset_within`], [`merge_all_within`] and [`rejoin_within`] execute no more tokens than a [`Budget`] allows.
+//! [`subset_within`], [`merge_all_within`], [`rejoin_within`] and [`conflicts_within`] execute no more tokens than a [`Budget`] allows.
 //! A font that is made here borrows from the sources of the fonts that it was made from.
 //!
 //! ```text
@@ -45,7 +45,7 @@ mod users;
 pub use budgets::BudgetFault;
 pub use closures::closure;
 pub use conflict::{Conflict, ShellPart};
-pub use differences::conflicts;
+pub use differences::{conflicts, conflicts_within};
 pub use fault::{RejoinFault, SubsetFault};
 pub use groupings::shells_conflict;
 pub use lacks::{Lack, first_lack};
@@ -55,7 +55,7 @@ pub use rejoins::{fonts_of, rejoin, rejoin_within};
 pub use state_making::states;
 pub use state_value::States;
 pub use subsets::{subset, subset_within};
-pub use t1_run::Budget;
+pub use t1_run::{Budget, Stop};
 
 #[cfg(test)]
 mod tests;

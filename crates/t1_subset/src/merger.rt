@@ -1,6 +1,6 @@
 //! The join of two fonts, or their lowest conflict.
 
-ghost use Rattle.std.specs.Prelude.{◌≡◌, ◌<◌, length, map, IfOk, IfErr};
+ghost use Rattle.std.specs.Prelude.{◌≡◌, ◌<◌, length, map, OnOk, IfOk, IfErr};
 ghost use Rattle.t1_algebra.specs.Profile.{profile};
 ghost use Rattle.t1_algebra.specs.States.{Join, joined_font};
 ghost use Rattle.t1_algebra.specs.Conflicts.{conflict};
@@ -10,7 +10,7 @@ ghost use Rattle.t1_subset.specs.Callers.{AreNoted, fonts_of};
 ghost use Rattle.t1_algebra.specs.StateTables.{states_of};
 ghost use Rattle.t1_run.specs.Budgets.{HasFewer};
 ghost use Rattle.t1_subset.specs.declared.budgets.BudgetFault.TheVariants.{TooManyTokens};
-ghost use Rattle.t1_subset.specs.Budgets.{fonts_tokens, OnPlain, IsMergerOf, IsMergerOfFonts};
+ghost use Rattle.t1_subset.specs.Budgets.{fonts_least, fonts_tokens, IsEnough, OnPlain, IsMergerOf, IsMergerOfFonts};
 ghost use Rattle.t1_subset.specs.Merger.{IsMerger, MergesItself, NotMerged, AcceptsAllJoin, MergesInAnyOrder, MergesSubsets, MergesAllSubsets};
 ghost use Rattle.t1_algebra.specs.Merges.{DrawsBoth, DrawsAll, ComesTo};
 
@@ -57,6 +57,7 @@ fn merge_lent<'a>(
 ) -> Result<Font<'a>, BudgetFault<Conflict>>
     requires { 0 < length fonts.now }
     ensures merges { OnPlain result (IsMergerOf (map (λ f. f.now) fonts.now)) }
+    ensures enough { OnOk result (IsEnough budget.left (fonts_least (map (λ f. f.now) fonts.now))) }
     ensures refused { IfErr result (λ e. e ≡ TooManyTokens
         → HasFewer budget.left (fonts_tokens (map (λ f. f.now) fonts.now))) }
 {
@@ -127,6 +128,7 @@ fn merge_list<'a>(
     budget: Budget,
 ) -> Result<Font<'a>, BudgetFault<Conflict>>
     ensures merges { OnPlain result (IsMergerOfFonts fonts.now) }
+    ensures enough { OnOk result (IsEnough budget.left (fonts_least fonts.now)) }
     ensures refused { IfErr result (λ e. e ≡ TooManyTokens
         → HasFewer budget.left (fonts_tokens fonts.now)) }
 {
@@ -154,6 +156,7 @@ pub fn merge_all_within<'a>(
     ensures any_order { OnPlain result (MergesInAnyOrder fonts.now) }
     ensures draws { IfOk result (λ j. DrawsAll fonts.now j) }
     ensures subsets { OnPlain result (MergesAllSubsets fonts.now) }
+    ensures enough { OnOk result (IsEnough budget.left (fonts_least fonts.now)) }
     ensures refused { IfErr result (λ e. e ≡ TooManyTokens
         → HasFewer budget.left (fonts_tokens fonts.now)) }
 {

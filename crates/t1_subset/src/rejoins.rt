@@ -14,7 +14,7 @@ ghost use Rattle.t1_subset.specs.Refusals.{Tells};
 ghost use Rattle.t1_subset.specs.Rejoins.{heavy_conflict, TellsLack, Rejoin, NotRejoined};
 ghost use Rattle.t1_run.specs.Budgets.{Takes, HasFewer};
 ghost use Rattle.t1_subset.specs.declared.budgets.BudgetFault.TheVariants.{Plain, TooManyTokens};
-ghost use Rattle.t1_subset.specs.Budgets.{font_tokens, fonts_tokens, OnPlain};
+ghost use Rattle.t1_subset.specs.Budgets.{font_least, font_tokens, fonts_least, fonts_tokens, IsEnough, OnPlain};
 
 use crate::budgets::BudgetFault;
 use crate::callers::Callers;
@@ -96,7 +96,7 @@ fn note_filled<'t, 'a>(
     ensures states { IfOk result (λ n. n.1 ≡ states_of profile full.now) }
     ensures none { IfOk result (λ _. lack_in fonts.now font.now ≡ None) }
     ensures lack { OnPlain result (λ r. IfErr r (λ e. TellsLack e (lack_in fonts.now font.now))) }
-    ensures takes { OnOk result (Takes 0 (font_tokens font.now) budget.old.left budget.new.left) }
+    ensures takes { OnOk result (Takes (font_least font.now) (font_tokens font.now) budget.old.left budget.new.left) }
     ensures refused { IfErr result (λ e. e ≡ TooManyTokens
         → HasFewer budget.old.left (font_tokens font.now)) }
 {
@@ -122,6 +122,7 @@ fn note_each<'t, 'a>(
     ensures states { IfOk result (λ n. n.1.items ≡ map (states_of profile) (fonts_of n.0.items)) }
     ensures none { IfOk result (λ _. first_lack fonts.now ≡ None) }
     ensures lack { OnPlain result (λ r. IfErr r (λ e. TellsLack e (first_lack fonts.now))) }
+    ensures enough { OnOk result (IsEnough budget.left (fonts_least fonts.now)) }
     ensures refused { IfErr result (λ e. e ≡ TooManyTokens
         → HasFewer budget.left (fonts_tokens fonts.now)) }
 {
@@ -152,6 +153,7 @@ fn merge_filled<'a>(
     requires light { AreLight full.now }
     ensures ok { IfOk result (λ j. Rejoin fonts.now j) }
     ensures err { OnPlain result (λ r. IfErr r (λ e. NotRejoined fonts.now e)) }
+    ensures enough { OnOk result (IsEnough budget.left (fonts_least fonts.now)) }
     ensures refused { IfErr result (λ e. e ≡ TooManyTokens
         → HasFewer budget.left (fonts_tokens fonts.now)) }
 {
@@ -177,6 +179,7 @@ pub fn rejoin_within<'a>(
 ) -> Result<Font<'a>, BudgetFault<RejoinFault>>
     ensures ok { IfOk result (λ j. Rejoin sources.now j) }
     ensures err { OnPlain result (λ r. IfErr r (λ e. NotRejoined sources.now e)) }
+    ensures enough { OnOk result (IsEnough budget.left (fonts_least sources.now)) }
     ensures refused { IfErr result (λ e. e ≡ TooManyTokens
         → HasFewer budget.left (fonts_tokens sources.now)) }
 {

@@ -1,13 +1,13 @@
 //! The making of states: one run of each glyph.
 
-ghost use Rattle.std.specs.Prelude.{◌≡◌, IfOk, IfErr, OnOk};
+ghost use Rattle.std.specs.Prelude.{◌≡◌, Some, IfOk, IfErr, OnOk};
 ghost use Rattle.std.specs.Option.{option_map};
 ghost use Rattle.t1_algebra.specs.Profile.{profile};
 ghost use Rattle.t1_algebra.specs.StateTables.{states_of};
 ghost use Rattle.t1_algebra.specs.Shared.{shared_of};
 ghost use Rattle.t1_run.specs.Budgets.{Takes, HasFewer};
 ghost use Rattle.t1_run.specs.declared.budget.Stop.TheVariants.{TooManyTokens};
-ghost use Rattle.t1_subset.specs.Budgets.{font_tokens};
+ghost use Rattle.t1_subset.specs.Budgets.{font_least, font_tokens};
 ghost use Rattle.t1_subset.specs.Callers.{AreUsesOf, AreCallersOf, RunAlike, same_charstring};
 
 use crate::callers::{Callers, Seekers, note_seekers};
@@ -22,14 +22,12 @@ use t1_font::Font;
 use t1_run::{Budget, Called, Stop};
 
 /// Whether a glyph has the same charstring as the one before it, and so executes and names the same.
-fn is_again(last: Option<&[u8]>, charstring: Option<&[u8]>) -> bool
-    ensures { result
-        ≡ same_charstring (option_map (λ b. b.now) last.entry)
-        (option_map (λ b. b.now) charstring.entry) }
+fn is_again(last: Option<&[u8]>, charstring: &[u8]) -> bool
+    ensures { result ≡ same_charstring (option_map (λ b. b.now) last.entry) (Some charstring.now) }
 {
-    match (last, charstring) {
-        (Some(last), Some(charstring)) => same_bytes(last, charstring),
-        _ => false,
+    match last {
+        Some(last) => same_bytes(last, charstring),
+        None => false,
     }
 }
 
@@ -49,7 +47,7 @@ pub(crate) fn uses_of<'a>(
     budget: &mut Budget,
 ) -> Result<Uses<'a>, Stop>
     ensures uses { IfOk result (λ uses. AreUsesOf uses font.now) }
-    ensures takes { OnOk result (Takes 0 (font_tokens font.now) budget.old.left budget.new.left) }
+    ensures takes { OnOk result (Takes (font_least font.now) (font_tokens font.now) budget.old.left budget.new.left) }
     ensures refused { IfErr result (λ e. e ≡ TooManyTokens
         → HasFewer budget.old.left (font_tokens font.now)) }
 {
@@ -57,15 +55,14 @@ pub(crate) fn uses_of<'a>(
     let mut seekers = Seekers::new(alloc);
     let mut calls = Called::new(alloc);
     let mut last = None;
-    'names: for name in font.names() {
-        let charstring = font.charstring(name);
+    'glyphs: for (name, charstring) in font.glyphs().entries() {
         if is_again(last, charstring) {
             continue;
         }
-        let components = run_alone(alloc, font, name, &mut calls, budget)?;
+        let components = run_alone(alloc, font, charstring, &mut calls, budget)?;
         note_users(&mut users, &calls, name)?;
         note_seekers(font, &mut seekers, components.as_slice(), name)?;
-        last = charstring;
+        last = Some(charstring);
     }
     Ok(Uses { users, seekers })
 }
@@ -134,7 +131,7 @@ pub(crate) fn note_font<'t, 'a>(
     ensures font { IfOk result (λ n. n.0.font.now ≡ font.now) }
     ensures callers { IfOk result (λ n. AreCallersOf n.0 font.now) }
     ensures states { IfOk result (λ n. n.1 ≡ states_of profile font.now) }
-    ensures takes { OnOk result (Takes 0 (font_tokens font.now) budget.old.left budget.new.left) }
+    ensures takes { OnOk result (Takes (font_least font.now) (font_tokens font.now) budget.old.left budget.new.left) }
     ensures refused { IfErr result (λ e. e ≡ TooManyTokens
         → HasFewer budget.old.left (font_tokens font.now)) }
 {

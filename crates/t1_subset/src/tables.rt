@@ -11,7 +11,7 @@ ghost use Rattle.t1_subset.specs.Differences.{with_state, entry_state};
 ghost use Rattle.t1_subset.specs.Users.{noted_at};
 ghost use Rattle.t1_algebra.specs.Lacks.{user_of};
 
-use crate::users::{Noted, Users, noted_user};
+use crate::users::{Noted, Users, noted_below, noted_user};
 use std::alloc::{AllocError, Global};
 use t1_font::{Font, STUB};
 use t1_join::{Kept, Key, Table};
@@ -88,7 +88,7 @@ pub(crate) fn used<'a>(
         → maps.get used (of_number q) ≡ noted_at users.now.items q) }
 {
     let mut used = Table::new(alloc);
-    'indices: for index in 0..font.count() {
+    'indices: for index in 0..noted_below(users, font.count()) {
         put(&mut used, index, noted_user(users, index))?;
     }
     Ok(used)

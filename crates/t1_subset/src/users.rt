@@ -1,6 +1,6 @@
 //! The smallest glyph that executes each Subr of a font.
 
-ghost use Rattle.std.specs.Prelude.{◌≡◌, ◌<◌, ℕ, length, OnOk, None, Some, cond};
+ghost use Rattle.std.specs.Prelude.{◌≡◌, ◌<◌, ◌≤◌, ℕ, length, min, OnOk, None, Some, cond};
 ghost use Rattle.std.specs.Option.{option_map};
 ghost use Rattle.std.specs.FinMap as maps;
 ghost use Rattle.std.specs.FinSet as sets;
@@ -81,6 +81,18 @@ pub(crate) fn noted_user<'a>(users: &Noted<'a>, index: u16) -> Option<&'a [u8]>
     match users.get(index as usize) {
         Some(user) => *user,
         None => None,
+    }
+}
+
+/// How many of so many indices have a place. None has a user behind these.
+pub(crate) fn noted_below(users: &Noted<'_>, count: u16) -> u16
+    ensures places { result ≡ min (length users.now.items) count }
+    ensures none { (q : ℕ) → result ≤ q → q < count → noted_at users.now.items q ≡ None }
+{
+    if users.len() < count as usize {
+        users.len() as u16
+    } else {
+        count
     }
 }
 

@@ -55,6 +55,9 @@ There is no glyph of this name, which the standard requires of every Type 1 font
 const OVER_A_LIMIT: &str = "\
 A font, or the merged font, is larger than LIMITS allows. Merge fewer fonts.";
 
+const TOO_MANY_TOKENS: &str = "\
+The glyphs that have to be run execute more tokens than --tokens allows; see LIMITS. Allow more if you trust the files.";
+
 const NO_GLYPH_NAME: &str = "\
 The font has no glyph of this name, the first missing one that was asked for. t1subset list prints the names.";
 
@@ -169,6 +172,7 @@ fn of_reason(reason: &Reason) -> &'static str {
         Reason::NoGlyph { .. } => NO_GLYPH_NAME,
         Reason::NoFont { .. } => NO_FONT_NAME,
         Reason::NoCode { .. } => NO_CODE_N,
+        Reason::TooManyTokens => TOO_MANY_TOKENS,
         Reason::Lacks { .. } => GLYPH_NAME_LACKS_SUBR_N,
         Reason::Merge(conflict) => of_conflict(conflict),
     }
@@ -178,9 +182,11 @@ fn of_reason(reason: &Reason) -> &'static str {
 fn tell_file<E: Write>(reason: &Reason, input: &str, err: &mut E) -> io::Result<()> {
     match reason {
         Reason::Memory => writeln!(err, "file: none"),
-        Reason::Join(_) | Reason::NoFont { .. } | Reason::Lacks { .. } | Reason::Merge(_) => {
-            writeln!(err, "files: all of them together")
-        }
+        Reason::Join(_)
+        | Reason::NoFont { .. }
+        | Reason::TooManyTokens
+        | Reason::Lacks { .. }
+        | Reason::Merge(_) => writeln!(err, "files: all of them together"),
         _ => writeln!(err, "file: {input}"),
     }
 }

@@ -1,6 +1,6 @@
 //! The words of the program, and their help.
 use clap::error::ErrorKind;
-use clap::{Arg, ArgAction, ArgMatches, Command, Error};
+use clap::{Arg, ArgAction, ArgMatches, Command, Error, value_parser};
 use std::alloc::{AllocError, Global};
 use t1_cmd::read_codes;
 
@@ -78,6 +78,16 @@ fn pfb_option<'a>(alloc: Global) -> Arg<'a> {
         .help("Writes a PFB")
 }
 
+/// The option that limits what glyphs' runs execute.
+fn tokens_option<'a>(alloc: Global) -> Arg<'a> {
+    Arg::new(alloc, "tokens")
+        .long("tokens")
+        .value_name("N")
+        .value_parser(value_parser!(u64))
+        .action(ArgAction::Set)
+        .help("Refuses if the glyphs' charstrings execute more than N tokens")
+}
+
 fn names_word<'a>(alloc: Global) -> Arg<'a> {
     Arg::new(alloc, "NAME")
         .num_args(0..)
@@ -95,6 +105,7 @@ fn subset_command<'a>(alloc: Global) -> Result<Command<'a>, AllocError> {
         .arg(names_option(alloc))?
         .arg(codes_option(alloc))?
         .arg(text_option(alloc))?
+        .arg(tokens_option(alloc))?
         .arg(pfb_option(alloc))
 }
 
@@ -146,6 +157,7 @@ fn list_of_fonts_command<'a>(
         .after_help(help)
         .arg(word(alloc, "OUT", "The file that is written"))?
         .arg(fonts_word(alloc))?
+        .arg(tokens_option(alloc))?
         .arg(pfb_option(alloc))
 }
 
@@ -271,7 +283,8 @@ fn diff_command<'a>(alloc: Global) -> Result<Command<'a>, AllocError> {
         .about("Prints all conflicts of two fonts")
         .after_help(DIFF_HELP)
         .arg(word(alloc, "A", "The first font"))?
-        .arg(word(alloc, "B", "The second font"))
+        .arg(word(alloc, "B", "The second font"))?
+        .arg(tokens_option(alloc))
 }
 
 const PFA_HELP: &str = "\

@@ -10,9 +10,9 @@ use std::fs;
 use std::io::Write;
 use std::rt::Files;
 use t1_cmd::{
-    Counted, FILE_LIMIT, RunFault, read_all, read_codes, run_check, run_check_of, run_convert,
-    run_diff, run_join, run_list, run_list_full, run_mend, run_merge, run_rejoin, run_show,
-    run_subset_with_codes, status, write_fault, write_fault_of,
+    Budget, Counted, FILE_LIMIT, RunFault, read_all, read_codes, run_check, run_check_of,
+    run_convert, run_diff_within, run_join, run_list, run_list_full, run_mend, run_merge_within,
+    run_rejoin_within, run_show, run_subset_within, status, write_fault, write_fault_of,
 };
 use t1_font::Form;
 
@@ -34,6 +34,13 @@ fn join<'p, R: Files, O: Write + Drop>(
     flush(out)
 }
 
+/// The tokens that the words allow.
+fn budget(given: &ArgMatches<'_>) -> Budget {
+    Budget {
+        left: given.get_one::<u64>("tokens"),
+    }
+}
+
 /// Tells all conflicts of two fonts. Answers status 0 if there is none, else 1.
 fn diff<'p, R: Files, O: Write + Drop>(
     rt: &R,
@@ -45,7 +52,7 @@ fn diff<'p, R: Files, O: Write + Drop>(
     let mut left = named(rt, given, "A", seen)?;
     let mut right = named(rt, given, "B", seen)?;
     let mut out = Counted::new(out);
-    let done = run_diff(alloc, &mut left, &mut right, &mut out);
+    let done = run_diff_within(alloc, &mut left, &mut right, budget(given), &mut out);
     if right.calls() == 0 {
         seen.input = given.get_str("A").unwrap_or("");
     }
@@ -256,12 +263,13 @@ fn subset<'p, R: Files>(
     let codes = codes(alloc, given)?;
     let mut input = font(rt, given, seen)?;
     let mut out = out(rt, alloc, given);
-    let done = run_subset_with_codes(
+    let done = run_subset_within(
         alloc,
         &mut input,
         names.as_slice(),
         codes.as_slice(),
         form(given),
+        budget(given),
         &mut out,
     );
     end(out, done, seen)
@@ -276,7 +284,8 @@ fn merge<'p, R: Files>(
     let paths = given.get_raw("IN").unwrap_or(&[]);
     let mut fonts = opened(rt, alloc, paths, seen)?;
     let mut out = out(rt, alloc, given);
-    let done = run_merge(alloc, fonts.as_mut_slice(), form(given), &mut out);
+    let form = form(given);
+    let done = run_merge_within(alloc, fonts.as_mut_slice(), form, budget(given), &mut out);
     seen.input = last_read(paths, fonts.as_slice());
     end(out, done, seen)
 }
@@ -290,7 +299,8 @@ fn rejoin<'p, R: Files>(
     let paths = given.get_raw("IN").unwrap_or(&[]);
     let mut fonts = opened(rt, alloc, paths, seen)?;
     let mut out = out(rt, alloc, given);
-    let done = run_rejoin(alloc, fonts.as_mut_slice(), form(given), &mut out);
+    let form = form(given);
+    let done = run_rejoin_within(alloc, fonts.as_mut_slice(), form, budget(given), &mut out);
     seen.input = last_read(paths, fonts.as_slice());
     end(out, done, seen)
 }

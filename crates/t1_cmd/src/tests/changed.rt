@@ -128,7 +128,7 @@ pub fn tagged(alloc: Global, file: &[u8], name: &[u8]) -> Result<Vec<u8>, AllocE
 
 /// Adds the length and the encrypted bytes of an entry of a table.
 fn push_entry(alloc: Global, out: &mut Vec<u8>, plain: &[u8]) -> Result<(), AllocError> {
-    push_number(alloc, out, plain.len().saturating_add(4))?;
+    push_number(out, plain.len().saturating_add(4))?;
     out.extend_from_slice(b" RD ")?;
     push_sealed(alloc, out, plain, CHARSTRING_KEY)
 }

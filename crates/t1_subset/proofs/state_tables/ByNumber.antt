@@ -47,6 +47,12 @@ module _ (t : TableMeaning) (x : ℕ → Option (List ℕ)) (n : ℕ) (h : HasBe
       let is : maps.get h.map i ≡ x i = grind (arith, nat_tests, h.shown i) in
       ap (λ (t : TableMeaning). maps.get t (of_number i)) h.table ∙ get-numbered h.map (of_number i) ∙ is
 
+  -- and nothing for a number from n on
+  pub has_no : (i : ℕ) → n ≤ i → maps.get t (of_number i) ≡ None
+  has_no i l =
+      let none : maps.get h.map i ≡ None = grind (arith, nat_tests, h.shown i) in
+      ap (λ (t : TableMeaning). maps.get t (of_number i)) h.table ∙ get-numbered h.map (of_number i) ∙ none
+
   -- a table that is filled below n is filled below n + 1 once the value of n is put
   pub has_next : (u : TableMeaning) (s : Option (List ℕ)) → u ≡ with_state t (of_number n) s → s ≡ x n → HasBelow u x (n + 1)
   has_next u None is e = record { map = h.map; table = is ∙ h.table; shown = λ i. grind (arith, nat_tests, h.shown i, e) }

@@ -3,8 +3,8 @@
 use super::fonts::{ACCENTED, SHELL, Shell, whole, with_glyph, with_shell};
 use super::lacks::sources;
 use crate::{
-    Budget, BudgetFault, Conflict, RejoinFault, SubsetFault, fonts_of, merge_all_within,
-    rejoin_within, subset_within,
+    Budget, BudgetFault, Conflict, RejoinFault, Stop, SubsetFault, conflicts_within, fonts_of,
+    merge_all_within, rejoin_within, subset_within,
 };
 use std::alloc::{AllocError, Global};
 use std::test::Fail;
@@ -69,6 +69,25 @@ pub(super) fn rejoined_within(
     }
 }
 
+/// How the conflicts of two files are told: `Made` if there are none.
+fn differs_within(
+    alloc: Global,
+    files: [&[u8]; 2],
+    left: Option<u64>,
+) -> Result<Answer, AllocError> {
+    let files = sources(alloc, &files)?;
+    let fonts = fonts_of(alloc, files.as_slice())?;
+    let [own, other] = fonts.as_slice() else {
+        return Err(AllocError);
+    };
+    match conflicts_within(alloc, own, other, Budget { left }) {
+        Ok(all) if all.is_empty() => Ok(Answer::Made),
+        Ok(_) => Ok(Answer::Refused),
+        Err(Stop::TooManyTokens) => Ok(Answer::TooMany),
+        Err(Stop::Memory) => Err(AllocError),
+    }
+}
+
 /// Names, and the tokens that the runs of what they keep execute: .notdef 4, A and acute 12, Aacute 9, X 16, and by both answers H
 /// 37 and P 34.
 const CUTS: &[(&[&[u8]], u64)] = &[
@@ -98,6 +117,28 @@ fn cuts_within_budgets(rt: HostRuntime) -> Result<(), Fail> {
 
 /// The tokens that the runs of all glyphs of the whole font execute, of which B is as the one before it.
 const ALL: u64 = 150;
+
+// meets conflicts_within TooManyTokens at 2 fonts
+#[test]
+fn differs_within_budgets(rt: HostRuntime) -> Result<(), Fail> {
+    let alloc = rt.alloc();
+    let file = whole(alloc)?;
+    let other = with_glyph(alloc, 1, (b"A", b"\x0e"))?;
+    let two = [file.as_slice(), file.as_slice()];
+    assert_eq!(rt; differs_within(alloc, two, Some(2 * ALL))?, Answer::Made);
+    assert_eq!(rt;
+        differs_within(alloc, two, Some(2 * ALL - 1))?,
+        Answer::TooMany
+    );
+    assert_eq!(rt; differs_within(alloc, two, None)?, Answer::Made);
+    let unlike = [file.as_slice(), other.as_slice()];
+    assert_eq!(rt;
+        differs_within(alloc, unlike, Some(2 * ALL))?,
+        Answer::Refused
+    );
+    assert_eq!(rt; differs_within(alloc, unlike, Some(0))?, Answer::TooMany);
+    Ok(())
+}
 
 // meets merge_all_within TooManyTokens at 1, 2 fonts
 #[test]

@@ -81,7 +81,6 @@ fn cut_keeps(alloc: Global, file: &[u8], names: &[&[u8]], want: &[u8]) -> bool {
 
 // meets closure Ok at 0, 1 names
 // meets subset Ok at 0, 1 names
-// like subset: subset_within
 #[test]
 fn what_names_keep(rt: HostRuntime) -> Result<(), Fail> {
     let file = whole(rt.alloc())?;
@@ -139,7 +138,6 @@ pub fn file_lacks(alloc: Global, file: &[u8], names: &[&[u8]], want: &[u8]) -> b
 
 // meets closure NoSuchGlyph at 1, 3 names
 // meets subset NoSuchGlyph at 1, 3 names
-// like subset: subset_within
 #[test]
 fn names_that_are_absent(rt: HostRuntime) -> Result<(), Fail> {
     let file = whole(rt.alloc())?;

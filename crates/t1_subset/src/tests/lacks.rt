@@ -213,7 +213,6 @@ const ALL: &[&[u8]] = &[b"0", b"1", b"2", b"3", b"4", b"5", b"6", b"7", b"8", b"
 // meets rejoin Ok at 1, 2, 3 fonts
 // meets rejoin Lacks at 2, 3 fonts
 // meets rejoin Merge at 0, 2, 3 fonts
-// like rejoin: rejoin_within
 #[test]
 fn the_first_lack(rt: HostRuntime) -> Result<(), Fail> {
     for (name, all, want, rejoins) in LACKS {
@@ -283,7 +282,6 @@ fn many(alloc: Global, subrs: &[Entry]) -> Result<Vec<u8>, AllocError> {
 // meets rejoin Ok at 65535 glyphs
 // meets fonts_of Ok at 65535 glyphs
 // meets shells_conflict None at 65535 glyphs
-// like rejoin: rejoin_within
 #[test]
 fn a_lack_of_many_glyphs(rt: HostRuntime) -> Result<(), Fail> {
     let whole = lacking(rt.alloc(), &WHOLE)?;

@@ -134,7 +134,6 @@ fn lacks(alloc: Global, file: &[u8], numbers: Range<u32>, name: &[u8]) -> Result
 // meets merge Glyph at 6000 glyphs
 // meets closure NoSuchGlyph at 6000 glyphs
 // meets subset NoSuchGlyph at 6000 glyphs
-// like subset: subset_within
 #[test]
 fn the_last_of_thousands_of_glyphs(rt: HostRuntime) -> Result<(), Fail> {
     let file = many(rt.alloc(), 0..6000, CALLS_5)?;
@@ -183,8 +182,6 @@ fn has_states(alloc: Global, file: &[u8]) -> bool {
 // meets closure Ok at 65535 glyphs
 // meets subset Ok at 65535 glyphs
 // meets states Ok at 65535 glyphs
-// like merge_all: merge_all_within
-// like subset: subset_within
 #[test]
 fn as_many_glyphs_as_a_font_can_have(rt: HostRuntime) -> Result<(), Fail> {
     let one = many(rt.alloc(), 0..32_767, CALLS_5)?;

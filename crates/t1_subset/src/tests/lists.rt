@@ -126,7 +126,6 @@ fn two_are_refused(alloc: Global, even: &[u8], odd: &[u8], text: &str) -> Result
 // meets merge_all Glyph at 3, 4, 5, 10, 34 fonts
 // meets merge_all Part at 3, 4, 5, 10, 34 fonts
 // meets merge_all Subr at 3, 4, 5, 10, 34 fonts
-// like merge_all: merge_all_within
 #[test]
 fn an_odd_font_wherever_it_stands(rt: HostRuntime) -> Result<(), Fail> {
     for &(kind, text) in ODD {
@@ -173,7 +172,6 @@ fn singles_merge(alloc: Global, count: u32) -> Result<bool, AllocError> {
 }
 
 // meets merge_all Ok at 1, 2, 3, 4, 5, 6, 7, 8, 9, 40, 300 fonts
-// like merge_all: merge_all_within
 #[test]
 fn lists_of_subsets(rt: HostRuntime) -> Result<(), Fail> {
     for count in [1u32, 2, 3, 4, 5, 6, 7, 8, 9, 40, 300] {

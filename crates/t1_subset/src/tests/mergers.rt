@@ -426,7 +426,6 @@ fn last_glyph_differs(alloc: Global, files: &[&[u8]], want: &[u8]) -> bool {
 }
 
 // meets merge_all Empty at 0 fonts
-// like merge_all: merge_all_within
 #[test]
 fn no_fonts(rt: HostRuntime) {
     let empty = all_merged(rt.alloc(), &[]).err();

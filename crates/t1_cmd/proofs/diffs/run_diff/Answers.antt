@@ -1,35 +1,16 @@
-use Rattle.std.proofs.Common.{◌≡◌, ◌↔◌, ℕ, List, [], ◌∷◌, true, subst, sym}
-use Rattle.t1_cmd.{specs.{Inputs.{input_of}, Fonts.{font_input}, Runs.{RunEnds}, Diffs.{ListsConflicts, DiffersBy}}, proofs.{RunLemmas.{write_ends}, DiffLemmas.{says_join}}}
+use Rattle.std.proofs.Common.{None, [], ◌∷◌}
+use Rattle.t1_cmd.specs.{Inputs.{input_of}, Fonts.{font_input}, Runs.{ended}, Diffs.{DiffersBy}, Budgets.{DiffersWithin}}
+use Rattle.t1_cmd.proofs.{Budgets.{differs_without, ends_too}, RunLemmas.{ends_succeeds}, DiffLemmas.{never_refused}}
 use Rattle.t1_cmd.proofs.diffs.run_diff.Goals as goal
-
-pub returns-in-Ok-write_text-clause-ends : goal.returns-in-Ok-write_text-clause-ends
-returns-in-Ok-write_text-clause-ends g c =
-    let first = input_of g.R.Read.remaining c.args.first.now c.read_font.new.reader in
-    let second = input_of g.S.Read.remaining c.args.second.now c.read_font-2.new.reader in
-    let left = c.in-Ok.left in let right = c.in-Ok-read_font.right in
-    subst (RunEnds font_input DiffersBy g.W.Write.contents (first ∷ second ∷ []) c.args.writer.now c.write_text.new.writer) c.in-Ok-write_text.is
-    (write_ends font_input DiffersBy g.W.Write.contents (first ∷ second ∷ []) (left ∷ right ∷ []) c.args.writer.now c.write_text.new.writer
-    c.as_slice.result.now c.write_text.result (c.in-Ok.ensures.ends, (c.in-Ok-read_font.ensures.ends, tt))
-    (subst (λ (t : List ℕ). ListsConflicts left right t) (sym c.as_slice.ensures.value) c.in-Ok-diff_text.ensures.text)
-    c.write_text.ensures.whole c.write_text.ensures.fault c.write_text.ensures.prefix c.write_text.ensures.rose)
-
-pub returns-in-Ok-write_text-clause-joins : goal.returns-in-Ok-write_text-clause-joins
-returns-in-Ok-write_text-clause-joins g c =
-    let first = input_of g.R.Read.remaining c.args.first.now c.read_font.new.reader in
-    let second = input_of g.S.Read.remaining c.args.second.now c.read_font-2.new.reader in
-    let left = c.in-Ok.left in let right = c.in-Ok-read_font.right in
-    says_join (first ∷ second ∷ []) left right c.is_nothing.result c.in-Ok-diff_text.text.items
-    (c.in-Ok.ensures.ends, (c.in-Ok-read_font.ensures.ends, tt))
-    (subst (λ (t : List ℕ). (c.is_nothing.result ≡ true) ↔ (t ≡ [])) c.as_slice-in-Ok-write_text.ensures.value c.is_nothing.ensures)
-    c.in-Ok-diff_text.ensures.joins
 
 pub returns-clause-ends : goal.returns-clause-ends
 returns-clause-ends g c =
-    let first = input_of g.R.Read.remaining c.args.first.now c.read_font.new.reader in
-    let second = input_of g.S.Read.remaining c.args.second.now c.read_font-2.new.reader in
-    let left = c.in-Ok.left in let right = c.in-Ok-read_font.right in
-    subst (RunEnds font_input DiffersBy g.W.Write.contents (first ∷ second ∷ []) c.args.writer.now c.write_text.new.writer) c.in-Err-write_text.is
-    (write_ends font_input DiffersBy g.W.Write.contents (first ∷ second ∷ []) (left ∷ right ∷ []) c.args.writer.now c.write_text.new.writer
-    c.as_slice.result.now c.write_text.result (c.in-Ok.ensures.ends, (c.in-Ok-read_font.ensures.ends, tt))
-    (subst (λ (t : List ℕ). ListsConflicts left right t) (sym c.as_slice.ensures.value) c.in-Ok-diff_text.ensures.text)
-    c.write_text.ensures.whole c.write_text.ensures.fault c.write_text.ensures.prefix c.write_text.ensures.rose)
+    ends_too font_input (DiffersWithin None) DiffersBy differs_without g.W.Write.contents
+    (input_of g.R.Read.remaining c.args.first.now c.run_diff_within.new.first ∷ input_of g.S.Read.remaining c.args.second.now c.run_diff_within.new.second ∷ [])
+    c.args.writer.now c.run_diff_within.new.writer (ended c.run_diff_within.result) c.run_diff_within.ensures.ends
+
+pub returns-clause-succeeds : goal.returns-clause-succeeds
+returns-clause-succeeds g c =
+    ends_succeeds font_input DiffersBy never_refused g.W.Write.contents
+    (input_of g.R.Read.remaining c.args.first.now c.run_diff_within.new.first ∷ input_of g.S.Read.remaining c.args.second.now c.run_diff_within.new.second ∷ [])
+    c.args.writer.now c.run_diff_within.new.writer (ended c.run_diff_within.result) (returns-clause-ends g c)

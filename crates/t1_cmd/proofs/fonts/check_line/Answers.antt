@@ -11,7 +11,7 @@ returns c =
     (codes "ok ") (decimal (len c.args.font.now.glyphs)) (codes " glyphs, ") (decimal (len c.args.font.now.subrs)) (codes " subrs, weight ")
     (decimal (weight c.args.font.now)) (10 ∷ [])
     c.new-text.ensures.items
-    (c.in_ok-push_about.ensures ∙ ap (λ n. c.new-text.result.items ++ (codes "ok " ++ decimal n)) c.glyph_count.ensures)
-    (c.in_ok-push_about-2.ensures ∙ ap (λ n. c.push_about.new.out.items ++ (codes " glyphs, " ++ decimal n)) c.subr_count.ensures)
+    (c.in_ok-push_about.ensures ∙ ap (λ n. c.new-text.result.items ++ (codes "ok " ++ decimal n)) (c.len.ensures ∙ ap len c.glyphs.ensures))
+    (c.in_ok-push_about-2.ensures ∙ ap (λ n. c.push_about.new.out.items ++ (codes " glyphs, " ++ decimal n)) (c.len-2.ensures ∙ ap len c.subrs.ensures))
     (c.in_ok-push_about-3.ensures ∙ ap (λ n. c.push_about-2.new.out.items ++ (codes " subrs, weight " ++ decimal n)) c.weight.ensures)
     c.in_ok-push.ensures.items))

@@ -1,6 +1,7 @@
-use Rattle.std.proofs.Common.{◌≡◌, ◌++◌}
-use Rattle.t1_cmd.{specs.ListText.{subr_length_line}, proofs.Walks.{lines_under}}
+use Rattle.std.{proofs.Common.{◌≡◌, ◌++◌}, specs.{List.{flat_map}, FinMap.{entries}}}
+use Rattle.t1_cmd.specs.ListText.{subr_length_line}
 use Rattle.t1_cmd.proofs.list.push_subrs.Given as goal
 
-abbrev pub invariant-indices : goal.invariant-indices
-invariant-indices l = l.out.items ≡ l.initial.out.items ++ lines_under l.font.subrs subr_length_line l.index
+abbrev pub invariant-subrs : goal.invariant-subrs
+invariant-subrs l = l.out.items ++ flat_map (λ e. subr_length_line e.0 e.1) l.index-iterator
+    ≡ l.initial.out.items ++ flat_map (λ e. subr_length_line e.0 e.1) (entries l.font.subrs)
