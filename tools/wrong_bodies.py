@@ -148,8 +148,9 @@ def change_of(edit, crate):
     return None
 
 
-# What a check says where a proof names what an edit took away, or cites such a proof: that tells nothing of a contract.
-NAMES = "has no field|is not in scope|has no `|was not admitted"
+# What a check says where a proof names what an edit took away, or cites such a proof, or where the borrow checker doesn't cover an
+# edited body: that tells nothing of a contract.
+NAMES = "has no field|is not in scope|has no `|was not admitted|borrow checker"
 
 
 def told_of(output, crate):

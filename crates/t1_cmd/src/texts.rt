@@ -1,8 +1,7 @@
 //! The lines that report a fault.
 ghost use Rattle.std.specs.Prelude.{◌≡◌, ◌++◌, OnOk, IfOk};
 ghost use Rattle.std.specs.Fmt.{decimal};
-ghost use Rattle.std.specs.List.{list_all};
-ghost use Rattle.t1_join.specs.Shown.{is_plain, shown};
+ghost use Rattle.t1_join.specs.Shown.{shown};
 ghost use Rattle.t1_cmd.specs.Texts.{fault_line, fault_line_of};
 
 use crate::faults::RunFault;
@@ -10,33 +9,15 @@ use itoa::Buffer;
 use std::alloc::{AllocError, Global};
 use t1_join::Shown;
 
-// Whether a byte is printed as it stands.
-fn is_plain(byte: u8) -> bool
-    ensures { result ≡ is_plain byte }
-{
-    33 <= byte && byte <= 126 && byte != b'\\'
-}
-
-// Whether each byte of a name is printed as it stands.
-fn are_plain(name: &[u8]) -> bool
-    ensures { result ≡ list_all is_plain name.now }
-{
-    'bytes: for byte in name {
-        if !is_plain(*byte) {
-            return false;
-        }
-    }
-    true
-}
-
 /// Adds a name at the end, as it is printed.
 pub(crate) fn push_shown(alloc: Global, out: &mut Vec<u8>, name: &[u8]) -> Result<(), AllocError>
     ensures { OnOk result (out.new.items ≡ out.old.items ++ shown name.now) }
 {
-    if are_plain(name) {
+    let shown = Shown(name);
+    if shown.is_plain() {
         return out.extend_from_slice(name);
     }
-    let text = Shown(name).to_string(alloc)?;
+    let text = shown.to_string(alloc)?;
     out.extend_from_slice(text.as_bytes())
 }
 

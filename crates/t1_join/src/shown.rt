@@ -1,6 +1,7 @@
 //! Names as they are printed.
 ghost use Rattle.std.specs.Prelude.{◌≡◌, ◌<◌, Some};
 ghost use Rattle.std.specs.Fmt.{WritesOnOk};
+ghost use Rattle.std.specs.List.{list_all};
 ghost use Rattle.t1_join.specs.Shown.{hex_digit, is_plain, escaped, shown};
 
 use std::fmt;
@@ -35,6 +36,20 @@ fn write_byte<W: fmt::Write>(f: &mut fmt::Formatter<W>, byte: u8) -> fmt::Result
     f.write_str("\\x")?;
     f.write_char(hex_digit(byte / 16) as char)?;
     f.write_char(hex_digit(byte % 16) as char)
+}
+
+impl Shown<'_> {
+    /// Whether each byte is printed as it stands, so that nothing else is printed than the bytes themselves.
+    pub fn is_plain(&self) -> bool
+        ensures { result ≡ list_all is_plain self.now.0.now }
+    {
+        'bytes: for byte in self.0 {
+            if !is_plain(*byte) {
+                return false;
+            }
+        }
+        true
+    }
 }
 
 impl fmt::Display for Shown<'_> {

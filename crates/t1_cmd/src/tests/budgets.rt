@@ -1,5 +1,6 @@
 //! Words within budgets of tokens.
-use super::changed::{tiny_changed, with_all};
+use super::changed::tiny_changed;
+use super::diffs::{OTHER, other};
 use super::engines::{Engine, answer, line_of_reason};
 use super::line_of;
 use crate::{
@@ -159,9 +160,9 @@ fn conflicts(alloc: Global, files: [&[u8]; 2], left: u64) -> Vec<u8> {
 fn conflicts_within_budgets(rt: HostRuntime) -> Result<(), Fail> {
     let alloc = rt.alloc();
     assert!(rt; conflicts(alloc, [PFA, PFB], 0).as_slice() == TOO_MANY);
-    let other = with_all(alloc, PFA, b"dup 66 /Y put", b"dup 66 /A put")?;
-    let lines = conflicts(alloc, [PFA, other.as_slice()], ENOUGH);
-    assert!(rt; lines.as_slice() == b"code 66 differs\n".as_slice());
     assert!(rt; conflicts(alloc, [b"%!", PFA], 0).as_slice() == b"refused: no eexec\n".as_slice());
+    let other = other(alloc)?;
+    let lines = conflicts(alloc, [PFA, other.as_slice()], ENOUGH);
+    assert!(rt; lines.as_slice() == OTHER);
     Ok(())
 }

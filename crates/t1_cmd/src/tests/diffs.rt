@@ -49,12 +49,13 @@ fn tiny_differs(alloc: Global, file: &[u8], want: &[u8]) -> bool {
 }
 
 /// Tiny with another name of code 66 and another X.
-fn other(alloc: Global) -> Result<Vec<u8>, AllocError> {
+pub fn other(alloc: Global) -> Result<Vec<u8>, AllocError> {
     let x = tiny_and(alloc, b"X", b"\x8b\xf8\x88\x0d\x0e")?;
     with_all(alloc, x.as_slice(), b"dup 66 /Y put", b"dup 66 /A put")
 }
 
-const OTHER: &[u8] = b"code 66 differs\nglyph X differs\n";
+/// What Tiny and that differ in.
+pub const OTHER: &[u8] = b"code 66 differs\nglyph X differs\n";
 
 // meets run_diff Ok at 0, 1, 2 conflicts
 // like run_diff: diff_files
