@@ -2,7 +2,7 @@
 use Rattle.std.proofs.Common.{◌≡◌, ◌↔◌, ℕ, zero, suc, ◌+◌, ◌*◌, ◌/◌, ◌%◌, ◌<◌, ◌^◌, List, [], ◌∷◌, ◌++◌, length, get_or, set, take, drop, refl, sym, ap, subst, ◌∙◌, slice_set, slice_index_or, arith}
 use Rattle.std.proofs.{lemmas.List.{take_at, drop_at, length-append, length-replicate}, lemmas.Nat.{xor_lt}}
 use Rattle.std.specs.{Prelude.{bit_xor, replicate}, Int.Bits.{xor_assoc, xor_self, xor_zero_r}}
-use Rattle.t1_bytes.specs.{Cipher.{next_key, Enciphers, encrypted, decrypted, sealed, opened, plain_of}, Laws.{AreBytes}}
+use Rattle.t1_bytes.specs.{Keys.{key_behind}, Cipher.{next_key, Enciphers, encrypted, decrypted, sealed, opened, plain_of}, Laws.{AreBytes}}
 
 pub Enciphers-encrypted : (plains : List ℕ) (key : ℕ) → Enciphers key plains (encrypted key plains)
 Enciphers-encrypted [] key = tt
@@ -81,6 +81,16 @@ byte_encrypted (b ∷ bytes) zero now next cipher lt is key =
     λ j. is j ∷ encrypted (k j) bytes
 byte_encrypted (b ∷ bytes) (suc i) now next cipher lt is key =
     ap (λ (rest : List ℕ). b ∷ rest) (byte_encrypted bytes i now next cipher (omega (arith, lt)) is key)
+
+-- and the key behind the cipher of what is left is the same as before
+pub key_passed : (bytes : List ℕ) (i now next cipher : ℕ) → i < length bytes → cipher ≡ bit_xor (get_or bytes i 0) (now % 65536 / 256)
+    → next % 65536 ≡ next_key (now % 65536) cipher
+    → key_behind (next % 65536) (encrypted (next % 65536) (drop (suc i) (set bytes i cipher))) ≡ key_behind (now % 65536) (encrypted (now % 65536) (drop i bytes))
+key_passed [] i now next cipher lt is key = absurd (omega (arith, lt))
+key_passed (b ∷ bytes) zero now next cipher lt is key =
+    let k : next % 65536 ≡ next_key (now % 65536) (bit_xor b (now % 65536 / 256)) = key ∙ ap (next_key (now % 65536)) is in
+    λ j. key_behind (k j) (encrypted (k j) bytes)
+key_passed (b ∷ bytes) (suc i) now next cipher lt is key = key_passed bytes i now next cipher (omega (arith, lt)) is key
 
 -- the remainder of the next such number, from that of what is carried ahead of the cipher byte
 pub carried : (now ahead next cipher : ℕ) → ahead % 65536 ≡ (now * 52845 + 22719) % 65536 → next % 65536 ≡ (cipher * 52845 + ahead) % 65536

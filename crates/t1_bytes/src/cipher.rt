@@ -23,7 +23,7 @@ pub(crate) const FACTOR: u64 = 52845;
 pub(crate) const SUMMAND: u64 = 22719;
 
 /// The key after a cipher byte.
-pub(crate) fn key_after(key: u16, cipher: u8) -> u16
+fn key_after(key: u16, cipher: u8) -> u16
     ensures { result ≡ next_key key cipher }
 {
     (((cipher as u64 + key as u64) * FACTOR + SUMMAND) % 65536) as u16
@@ -41,7 +41,7 @@ fn key_after_both(key: u16, first: u8, second: u8) -> u16
 // What the next key has of this one, before the cipher byte is known. A key is the remainder by
 // 65536 of such a number.
 #[inline(always)]
-fn ahead_of(now: u32) -> u32
+pub(crate) fn ahead_of(now: u32) -> u32
     ensures { result % 65536 ≡ (now * 52845 + 22719) % 65536 }
 {
     now.wrapping_mul(FACTOR as u32).wrapping_add(SUMMAND as u32)
@@ -49,7 +49,7 @@ fn ahead_of(now: u32) -> u32
 
 // The next key, of that and of the cipher byte.
 #[inline(always)]
-fn key_from(ahead: u32, cipher: u8) -> u32
+pub(crate) fn key_from(ahead: u32, cipher: u8) -> u32
     ensures { result % 65536 ≡ (cipher * 52845 + ahead) % 65536 }
 {
     (cipher as u32)

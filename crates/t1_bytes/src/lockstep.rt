@@ -1,16 +1,25 @@
 //! Two ciphers at once.
 
-ghost use Rattle.std.specs.Prelude.{◌≡◌, ◌++◌, ◌≤◌, take, drop, length};
-ghost use Rattle.t1_bytes.specs.Cipher.{next_key, encrypted};
+ghost use Rattle.std.specs.Prelude.{◌≡◌, ◌+◌, ◌*◌, ◌%◌, ◌++◌, ◌≤◌, take, drop, length};
+ghost use Rattle.t1_bytes.specs.Cipher.{encrypted};
 ghost use Rattle.t1_bytes.specs.Keys.{key_behind};
 
-use crate::cipher::{FACTOR, SUMMAND, key_after};
+use crate::cipher::{FACTOR, SUMMAND, ahead_of, key_from};
 
-/// The key after a cipher byte, in narrower numbers: so the two chains of [`encrypt_both`] stay two for a compiler.
-fn narrow_key_after(key: u16, cipher: u8) -> u16
-    ensures { result ≡ next_key key cipher }
+/// As `ahead_of`, in wider numbers: so the two chains of [`encrypt_both`] stay two for a compiler.
+#[inline(always)]
+fn wide_ahead_of(now: u64) -> u64
+    ensures { result % 65536 ≡ (now * 52845 + 22719) % 65536 }
 {
-    (((cipher as u32 + key as u32) * FACTOR as u32 + SUMMAND as u32) % 65536) as u16
+    now.wrapping_mul(FACTOR).wrapping_add(SUMMAND)
+}
+
+/// As `key_from`, in wider numbers.
+#[inline(always)]
+fn wide_key_from(ahead: u64, cipher: u8) -> u64
+    ensures { result % 65536 ≡ (cipher * 52845 + ahead) % 65536 }
+{
+    (cipher as u64).wrapping_mul(FACTOR).wrapping_add(ahead)
 }
 
 /// Encrypts the bytes from a place on, under a cipher whose key is `key` there, and answers the key behind them.
@@ -19,15 +28,17 @@ fn encrypt_from(bytes: &mut [u8], from: usize, key: u16) -> u16
     ensures value { bytes.new ≡ take from bytes.old ++ encrypted key (drop from bytes.old) }
     ensures key { result ≡ key_behind key (drop from bytes.new) }
 {
-    let mut now = key;
+    let mut now = key as u32;
+    let mut ahead = ahead_of(now);
     let mut at = from;
     'bytes: while at < bytes.len() {
-        let cipher = bytes[at] ^ (now / 256) as u8;
+        let cipher = bytes[at] ^ (now / 256 % 256) as u8;
         bytes[at] = cipher;
-        now = key_after(now, cipher);
+        now = key_from(ahead, cipher);
+        ahead = ahead_of(now);
         at += 1;
     }
-    now
+    (now % 65536) as u16
 }
 
 /// Encrypts two slices in place, each under a cipher of its own, and answers the key behind the first. Each key of a cipher waits
@@ -37,18 +48,22 @@ pub fn encrypt_both(first: &mut [u8], key: u16, second: &mut [u8], other: u16) -
     ensures second { second.new ≡ encrypted other second.old }
     ensures key { result ≡ key_behind key first.new }
 {
-    let mut now = key;
-    let mut then = other;
+    let mut now = key as u32;
+    let mut ahead = ahead_of(now);
+    let mut then = other as u64;
+    let mut beyond = wide_ahead_of(then);
     let mut at = 0;
     'both: while at < first.len() && at < second.len() {
-        let one = first[at] ^ (now / 256) as u8;
-        let two = second[at] ^ (then / 256) as u8;
+        let one = first[at] ^ (now / 256 % 256) as u8;
+        let two = second[at] ^ (then / 256 % 256) as u8;
         first[at] = one;
         second[at] = two;
-        now = key_after(now, one);
-        then = narrow_key_after(then, two);
+        now = key_from(ahead, one);
+        ahead = ahead_of(now);
+        then = wide_key_from(beyond, two);
+        beyond = wide_ahead_of(then);
         at += 1;
     }
-    encrypt_from(second, at, then);
-    encrypt_from(first, at, now)
+    encrypt_from(second, at, (then % 65536) as u16);
+    encrypt_from(first, at, (now % 65536) as u16)
 }

@@ -21,7 +21,7 @@ map_choice : {Y X : Type 0} (h : Y → X) (o p : Option Y) → option_map h (cho
 map_choice h None p = refl
 map_choice h (Some y) p = refl
 
-tie_is : (r s : Ordering) → s ≡ ordering_reverse r → is_eq r ≡ (not (is_lt r) && not (is_lt s))
+pub tie_is : (r s : Ordering) → s ≡ ordering_reverse r → is_eq r ≡ (not (is_lt r) && not (is_lt s))
 tie_is Less s e = refl
 tie_is Equal s e = rw e refl
 tie_is Greater s e = rw e refl

@@ -37,3 +37,4 @@ pub mod even_fonts
 pub mod Untested
 pub mod FontTests
 pub mod Differing
+mod Presorted

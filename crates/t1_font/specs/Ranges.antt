@@ -1,5 +1,5 @@
 -- Byte strings that stand in a buffer.
-use Rattle.std.specs.{Prelude.{ℕ, ◌+◌, ◌-◌, ◌≤◌, max, List, slice_range}, List.{All}, declared.cmp.Ordering.{Ordering}}
+use Rattle.std.specs.{Prelude.{ℕ, ◌+◌, ◌-◌, ◌≤◌, ◌++◌, max, List, take, length, slice_range, replicate}, Int.{w64, from_be_bytes}, List.{All}, declared.cmp.Ordering.{Ordering}}
 use Rattle.t1_font.specs.{declared.ranges.Range.{Range}, FontValue.{name_cmp}}
 
 -- the bytes of a range
@@ -29,6 +29,10 @@ named_at buffer e = (bytes_at buffer e.0, bytes_at buffer e.1)
 -- the order of the names in two ranges
 abbrev pub by_name : List ℕ → Range → Range → Ordering
 by_name buffer r s = name_cmp (bytes_at buffer r) (bytes_at buffer s)
+
+-- what the first eight bytes of a name spell as a number, the first byte highest: bytes 0 stand behind a shorter name
+abbrev pub front : List ℕ → ℕ
+front name = from_be_bytes w64 (take 8 name ++ replicate (8 - length name) 0)
 
 -- the weight of a Subr, and of a glyph, whose charstring is in a range
 abbrev pub subr_at_weight : ℕ → ℕ → Range → ℕ

@@ -5,8 +5,9 @@ ghost use Rattle.std.specs.Cmp.{IsTotalOrder, nat_cmp_total};
 ghost use Rattle.std.specs.Cmp.Lexicographic.{on_texts};
 ghost use Rattle.std.specs.Ordering.{nat_cmp};
 ghost use Rattle.std.specs.declared.cmp.Ordering.{Ordering};
+ghost use Rattle.std.specs.List.Sorted.{IsPermutation, IsStableByKey};
 ghost use Rattle.t1_font.specs.Entries.{comes_again, run_end, run_ends, AreLast, AreSettled};
-ghost use Rattle.t1_font.specs.Ranges.{bytes_at, by_name};
+ghost use Rattle.t1_font.specs.Ranges.{bytes_at, by_name, front};
 
 use crate::ranges::Range;
 use std::alloc::AllocError;
@@ -25,6 +26,11 @@ pub(crate) trait KeyOrder<K>: Copy + Drop {
         ensures { result ≡ by self one.now other.now };
 
     ghost total: { (order : Self) → IsTotalOrder (by order) };
+
+    /// Entries in another order, of which sorting has little left to do. Those of one key stand as they stood.
+    fn presorted<V: Copy + Drop>(self, entries: Vec<(K, V)>) -> Result<Vec<(K, V)>, AllocError>
+        ensures same { IfOk result (λ es. IsPermutation entries.items es.items) }
+        ensures stable { IfOk result (λ es. IsStableByKey (λ e. e.0) (by self) entries.items es.items) };
 }
 
 /// The order of numbers.
@@ -39,6 +45,23 @@ impl KeyOrder<u16> for ByNumber {
     fn compare(self, one: &u16, other: &u16) -> Ordering {
         one.cmp(other)
     }
+
+    fn presorted<V: Copy + Drop>(self, entries: Vec<(u16, V)>) -> Result<Vec<(u16, V)>, AllocError>
+        ensures same { IfOk result (λ es. IsPermutation entries.items es.items) }
+        ensures stable { IfOk result (λ es. IsStableByKey (λ e. e.0) nat_cmp entries.items es.items) }
+    {
+        Ok(entries)
+    }
+}
+
+/// The number that a name's first eight bytes spell, so that names with different ones are told apart at once.
+fn front(name: &[u8]) -> u64
+    ensures { result ≡ front name.now }
+{
+    let mut bytes = [0u8; 8];
+    let len = name.len().min(8);
+    bytes[..len].copy_from_slice(&name[..len]);
+    u64::from_be_bytes(bytes)
 }
 
 /// The order of names that stand in a buffer.
@@ -54,6 +77,19 @@ impl<'a> KeyOrder<Range> for ByName<'a> {
 
     fn compare(self, one: &Range, other: &Range) -> Ordering {
         one.of(self.buffer).cmp(other.of(self.buffer))
+    }
+
+    fn presorted<V: Copy + Drop>(
+        self,
+        entries: Vec<(Range, V)>,
+    ) -> Result<Vec<(Range, V)>, AllocError>
+        ensures same { IfOk result (λ es. IsPermutation entries.items es.items) }
+        ensures stable { IfOk result (λ es. IsStableByKey (λ e. e.0) (by_name self.entry.buffer.now) entries.items es.items) }
+    {
+        let buffer = self.buffer;
+        let mut sorted = entries;
+        sorted.sort_by_cached_key(|entry| front(entry.0.of(buffer)))?;
+        Ok(sorted)
     }
 }
 
@@ -131,7 +167,7 @@ pub(crate) fn last_entries<K: Copy + Drop, V: Copy + Drop, O: KeyOrder<K>>(
 ) -> Result<Vec<(K, V)>, AllocError>
     ensures { IfOk result (λ last. AreLast (O.by order) entries.items last.items) }
 {
-    let mut last = entries;
+    let mut last = order.presorted(entries)?;
     last.sort_by(|one, other| order.compare(&one.0, &other.0))?;
     keep_ends(order, &mut last);
     Ok(last)

@@ -1,14 +1,17 @@
-use Rattle.std.{proofs.{Common.{rules}, lemmas.List.MinMax.{ranks_by}, lemmas.Fn.{always_returns_same}}, specs.Ordering.{is_lt}}
+use Rattle.std.proofs.{Common.{rules, ◌∙◌}, lemmas.List.MinMax.{ranks_by}, lemmas.List.Sorted.{IsPermutation-trans}, lemmas.Fn.{always_returns_same}}
+use Rattle.std.specs.Ordering.{is_lt}
 use Rattle.t1_font.proofs.repeats.last_entries.Goals as goal
 
 pub returns : goal.returns
 returns g c =
     let by = g.O.KeyOrder.by c.args.order in
-    let rank = ranks_by (g.met.O.KeyOrder.total c.args.order) (λ e. e.0) in
+    let rank = ranks_by (g.O.KeyOrder.total c.args.order) (λ e. e.0) in
+    let near = c.in_ok-last.ensures in
+    let sorted = c.in_ok-sort_by.ensures in
     record {
       sorted = c.sort_by.new.self.items;
-      same = c.in_ok-sort_by.ensures.permutation;
-      rise = c.in_ok-sort_by.ensures.sorted (λ x y. is_lt (by x.0 y.0)) rank (always_returns_same _ _ _ (λ a r f' called. search rules));
-      stable = c.in_ok-sort_by.ensures.stable (λ x y. is_lt (by x.0 y.0)) rank (always_returns_same _ _ _ (λ a r f' called. search rules));
+      same = IsPermutation-trans _ _ _ near.same sorted.permutation;
+      rise = sorted.sorted (λ x y. is_lt (by x.0 y.0)) rank (always_returns_same _ _ _ (λ a r f' called. search rules));
+      stable = λ x. sorted.stable (λ y z. is_lt (by y.0 z.0)) rank (always_returns_same _ _ _ (λ a r f' called. search rules)) x ∙ near.stable x;
       last_is = c.keep_ends.ensures;
     }
