@@ -30,7 +30,7 @@ EDITS = os.path.join(TOP, "tools/wrong-bodies")
 # How many edits of different functions are tried by one check.
 TOGETHER = 16
 # How long a test may run that is not built yet, which takes it many times as long.
-SECONDS = "900"
+SECONDS = "3600"
 # What is said of an edit that is refused, and of one that is caught.
 GOOD = ("refused, as it must be", "caught, as it must be, by")
 
