@@ -85,7 +85,8 @@ byte_encrypted (b ∷ bytes) (suc i) now next cipher lt is key =
 -- and the key behind the cipher of what is left is the same as before
 pub key_passed : (bytes : List ℕ) (i now next cipher : ℕ) → i < length bytes → cipher ≡ bit_xor (get_or bytes i 0) (now % 65536 / 256)
     → next % 65536 ≡ next_key (now % 65536) cipher
-    → key_behind (next % 65536) (encrypted (next % 65536) (drop (suc i) (set bytes i cipher))) ≡ key_behind (now % 65536) (encrypted (now % 65536) (drop i bytes))
+    → key_behind (next % 65536) (encrypted (next % 65536) (drop (suc i) (set bytes i cipher)))
+    ≡ key_behind (now % 65536) (encrypted (now % 65536) (drop i bytes))
 key_passed [] i now next cipher lt is key = absurd (omega (arith, lt))
 key_passed (b ∷ bytes) zero now next cipher lt is key =
     let k : next % 65536 ≡ next_key (now % 65536) (bit_xor b (now % 65536 / 256)) = key ∙ ap (next_key (now % 65536)) is in
