@@ -1,10 +1,10 @@
 -- Tables that are filled from others.
 use Rattle.std.proofs.Common.{◌≡◌, ℕ, Bool, true, false, cond, ◌&&◌, List, [], ◌∷◌, map, length, Option, Some, None, is_some, T, refl, sym, ap, subst, ◌∙◌, option_map, unwrap_or, true≢false, Result}
-use Rattle.std.proofs.Common.{Ok, Err, arith}
+use Rattle.std.proofs.Common.{Ok, Err, arith, rules, ◌<◌, ◌++◌}
 use Rattle.std.specs.{Prelude.{filter, nat_lt}, Cmp.{nat_cmp_total, Equal-is}, List.Sorted.{IsSearchInRange, IsBinarySearchResult}, Result.{is_ok}, Ordering.{eq_by_cmp, nat_cmp, is_lt}}
-use Rattle.std.specs.{FinMap.{is_sorted}, FinMap.Entries.{below_all}}
-use Rattle.t1_join.{specs.TableMeaning.{Rises}, proofs.Searches.{searched}}
-use Rattle.t1_font.specs.{Evening.{stubs_at, below_count}, Maps.{merged}, Cut.{stub}, FontValue.{Numbered}, Lent.{stub_at, filled_at}}
+use Rattle.std.specs.{FinMap.{is_sorted}, FinMap.Entries.{below_all}, declared.cmp.Ordering.{Ordering}, declared.cmp.Ordering.TheVariants.{Less, Equal, Greater}}
+use Rattle.t1_join.{specs.TableMeaning.{Rises}, proofs.{Searches.{searched}, Sorted.{both_true}}}
+use Rattle.t1_font.specs.{Filling.{are_below}, Evening.{stubs_at, below_count}, Maps.{merged}, Cut.{stub}, FontValue.{Numbered}, Lent.{stub_at, filled_at}}
 use Rattle.t1_font.proofs.{CutEntries.{entries-retain}, MapLemmas.{get-merged, joined}}
 use Rattle.std.specs.FinMap as fin
 
@@ -64,6 +64,28 @@ same_keys_below k (e ∷ es) = λ i. is_lt (nat_cmp k e.0) && same_keys_below k 
 same_keys_rise : (es : List (ℕ × List ℕ)) → is_sorted nat_cmp (map stub_at (map (λ e. e.0) es)) ≡ is_sorted nat_cmp es
 same_keys_rise [] = refl
 same_keys_rise (e ∷ es) = λ i. same_keys_below e.0 es i && same_keys_rise es i
+
+-- a number that is below all others is below the last of them
+below_the_last : (i last : ℕ) (front : List ℕ) → T (below_all nat_cmp i (map stub_at (front ++ last ∷ []))) → i < last
+below_the_last i last [] h = less (nat_cmp i last) refl (both_true _ _ h).0
+  where
+    less : (r : Ordering) → nat_cmp i last ≡ r → T (is_lt r) → i < last
+    less Less is t = search rules
+    less Equal is t = absurd t
+    less Greater is t = absurd t
+below_the_last i last (j ∷ front) h = below_the_last i last front (both_true _ _ h).1
+
+-- numbers that rise are all below a count if the last one is
+pub below_by_last : (n last : ℕ) (front : List ℕ) → Rises nat_cmp (map stub_at (front ++ last ∷ [])) → nat_lt last n ≡ are_below n (front ++ last ∷ [])
+below_by_last n last [] rise = elim (nat_lt last n) as (λ b. b ≡ (b && true)) [ true ↦ refl | false ↦ refl ]
+below_by_last n last (i ∷ front) rise =
+    let less : i < last = below_the_last i last front (both_true _ _ rise).0 in
+    with_first (nat_lt i n) (nat_lt last n) (λ t. grind (arith, less, t)) ∙ ap (λ b. nat_lt i n && b) (below_by_last n last front (both_true _ _ rise).1)
+  where
+    with_first : (a b : Bool) → (b ≡ true → a ≡ true) → b ≡ (a && b)
+    with_first true b h = refl
+    with_first false true h = absurd (true≢false (sym (h refl)))
+    with_first false false h = refl
 
 -- the keys of a map rise
 pub keys_rise : (m : Numbered) → Rises nat_cmp (map stub_at (fin.keys m))

@@ -45,11 +45,15 @@ fn stubs_of_all<'a>(alloc: Global, fonts: &[Font<'a>]) -> Result<Numbered<'a>, A
     cut_subrs(alloc, &all, &BTreeSet::new(alloc))
 }
 
-/// Whether all indices are below a count.
+/// Whether all indices are below a count. They rise, so the last one says it.
 fn are_below(indices: &[u16], declared: u16) -> bool
+    requires { Rises nat_cmp (map stub_at indices.now) }
     ensures { result ≡ are_below declared indices.now }
 {
-    indices.iter().all(|index| *index < declared)
+    match indices.split_last() {
+        Some((last, _)) => *last < declared,
+        None => true,
+    }
 }
 
 /// The Subrs, and stubs at the indices that are below a count and have no Subr, in a list of their own.
