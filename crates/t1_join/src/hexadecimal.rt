@@ -32,11 +32,15 @@ impl<'a> Model for Hex<'a> {
     ghost invariant = { λ h. is_some (bytes_of h.digits.now) ≡ true };
 }
 
-/// Whether each byte is a hexadecimal digit.
+/// Whether each byte is a hexadecimal digit. Each is looked at, whatever those before it are, so that many are at once.
 fn are_digits(text: &[u8]) -> bool
     ensures { result ≡ list_all is_hex_digit text.now }
 {
-    text.iter().all(|digit| digit.is_ascii_hexdigit())
+    let mut all = true;
+    'digits: for digit in text {
+        all &= digit.is_ascii_hexdigit();
+    }
+    all
 }
 
 /// The most digits that a value has: two for each of at most 65,535 bytes.
@@ -99,7 +103,7 @@ impl<'a> Kept for Hex<'a> {
     ghost meaning = { λ h. h };
 
     fn same(&self, other: &Hex<'a>) -> bool {
-        self.digits.eq_ignore_ascii_case(other.digits)
+        self.digits == other.digits || self.digits.eq_ignore_ascii_case(other.digits)
     }
 
     fn copy(&self, _alloc: Global) -> Result<Hex<'a>, AllocError> {
