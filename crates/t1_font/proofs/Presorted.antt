@@ -1,7 +1,7 @@
 -- Lists in another order in which those that tie stand as they stood.
-use Rattle.std.proofs.Common.{◌≡◌, ℕ, refl, sym, ap, subst, ◌∙◌, rules, arith, Bool, true, false, cond, not, ◌&&◌, List, [], ◌∷◌, true≢false}
-use Rattle.std.specs.{Prelude.{filter}, List.Sorted.{IsStableByKey, ties}, declared.cmp.Ordering.{Ordering}, declared.cmp.Ordering.TheVariants.{Equal}}
-use Rattle.std.specs.{Ordering.{nat_cmp, is_lt, is_eq, ordering_reverse}, Cmp.{IsTotalOrder, Equal-is, nat_cmp_total}, Cmp.Lexicographic.{nat_list_cmp_total}}
+use Rattle.std.proofs.Common.{◌≡◌, ℕ, refl, sym, ap, subst, ◌∙◌, rules, Bool, true, false, cond, not, ◌&&◌, List, [], ◌∷◌, true≢false}
+use Rattle.std.specs.{Prelude.{filter}, List.Sorted.{IsStableByKey, ties}}
+use Rattle.std.specs.{Ordering.{nat_cmp, is_lt, is_eq}, Cmp.{Equal-is}, Cmp.Lexicographic.{nat_list_cmp_total}}
 use Rattle.std.specs.FinSet.{slice_cmp-IsAntisymmetric, nat_cmp-IsAntisymmetric}
 use Rattle.t1_font.{specs.{declared.ranges.Range.{Range}, FontValue.{name_cmp}, Ranges.{bytes_at, by_name, front}}, proofs.Lasts.{tie_is}}
 

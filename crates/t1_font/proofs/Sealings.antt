@@ -1,5 +1,5 @@
 -- A private text whose first bytes are encrypted, and the charstring that is encrypted behind it.
-use Rattle.std.proofs.Common.{◌≡◌, ℕ, ◌≤◌, ◌+◌, List, ◌++◌, length, take, drop, sym, ap, ◌∙◌, append_assoc, arith}
+use Rattle.std.proofs.Common.{◌≡◌, ℕ, ◌≤◌, List, ◌++◌, length, take, drop, sym, ap, ◌∙◌, append_assoc, arith}
 use Rattle.std.proofs.lemmas.List.{take_at, drop_at, take-append-le, length-append, length-take, length-drop}
 use Rattle.t1_bytes.specs.{Cipher.{encrypted, decrypted}, Keys.{key_behind}}
 use Rattle.t1_bytes.proofs.{Ciphers.{decrypted-encrypted, encrypted-decrypted, length-encrypted}, Keys.{decrypted-append, key_behind-append}}

@@ -1,5 +1,5 @@
 -- How long a canonical file is.
-use Rattle.std.proofs.Common.{◌≡◌, ℕ, zero, suc, ◌+◌, ◌*◌, ◌≤◌, ◌<◌, Bool, true, false, leb, List, [], ◌∷◌, ◌++◌, map, length, Option, Some, None, refl, ap, arith, is_lt, Ordering, Less, Equal}
+use Rattle.std.proofs.Common.{◌≡◌, ℕ, suc, ◌+◌, ◌*◌, ◌≤◌, ◌<◌, Bool, true, false, leb, List, [], ◌∷◌, ◌++◌, map, length, Option, Some, None, refl, ap, arith, is_lt, Ordering, Less, Equal}
 use Rattle.std.proofs.{Common.{Greater}, lemmas.Bool.{leb-true, and_parts}, lemmas.Fmt.{length-decimal-le}, lemmas.List.{length-append, length-map}}
 use Rattle.std.specs.{Prelude.{codes}, Fmt.{decimal as digits}, List.{AllByRecursion}, Option.{option_map}, Ordering.{nat_cmp}, Cmp.{nat_cmp_total, ranked}}
 use Rattle.std.specs.{FinMap.{entries, entries_sorted, len-entries, is_sorted, nat_cmp-IsAntisymmetric}, FinMap.Entries.{below_all}, Cmp.Lexicographic.{nat_list_cmp_total}}
