@@ -32,7 +32,7 @@ impl<'a> Model for Hex<'a> {
     ghost invariant = { λ h. is_some (bytes_of h.digits.now) ≡ true };
 }
 
-/// Whether each byte is a hexadecimal digit. Each is looked at, whatever those before it are, so that many are at once.
+/// Whether each byte is a hexadecimal digit. Each is looked at, whatever those before it are, so that a compiler takes many at once.
 fn are_digits(text: &[u8]) -> bool
     ensures { result ≡ list_all is_hex_digit text.now }
 {
