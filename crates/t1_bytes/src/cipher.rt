@@ -1,8 +1,9 @@
 //! The cipher of eexec and of charstrings (Adobe Type 1 Font Format 1.1, chapter 7).
 
-ghost use Rattle.std.specs.Prelude.{◌≡◌, ◌+◌, ◌*◌, ◌%◌, IfOk, IfErr};
+ghost use Rattle.std.specs.Prelude.{◌≡◌, ◌≤◌, ◌+◌, ◌*◌, ◌%◌, ◌++◌, take, drop, length, IfOk, IfErr};
 ghost use Rattle.t1_bytes.specs.declared.fault.BytesFault.TheVariants.{Memory};
 ghost use Rattle.t1_bytes.specs.Cipher.{next_key, Enciphers, encrypted, decrypted, sealed, opened};
+ghost use Rattle.t1_bytes.specs.Keys.{key_behind};
 
 use crate::blocks::decrypt_blocks;
 use crate::fault::BytesFault;
@@ -57,20 +58,32 @@ pub(crate) fn key_from(ahead: u32, cipher: u8) -> u32
         .wrapping_add(ahead)
 }
 
+/// Encrypts the bytes from a place on, under a cipher whose key is `key` there, and answers the key behind them.
+pub(crate) fn encrypt_from(bytes: &mut [u8], from: usize, key: u16) -> u16
+    requires { from ≤ length bytes.old }
+    ensures value { bytes.new ≡ take from bytes.old ++ encrypted key (drop from bytes.old) }
+    ensures key { result ≡ key_behind key (drop from bytes.new) }
+{
+    let mut now = key as u32;
+    let mut ahead = ahead_of(now);
+    let mut at = from;
+    'bytes: while at < bytes.len() {
+        let cipher = bytes[at] ^ (now / 256 % 256) as u8;
+        bytes[at] = cipher;
+        now = key_from(ahead, cipher);
+        ahead = ahead_of(now);
+        at += 1;
+    }
+    (now % 65536) as u16
+}
+
 /// Encrypts bytes in place, under a cipher whose key starts as `key`. Lead bytes are encrypted like
 /// the others.
 pub fn encrypt(bytes: &mut [u8], key: u16)
     ensures value { bytes.new ≡ encrypted key bytes.old }
     ensures cipher { Enciphers key bytes.old bytes.new }
 {
-    let mut now = key as u32;
-    let mut ahead = ahead_of(key as u32);
-    for byte in bytes.iter_mut() {
-        let cipher = *byte ^ (now / 256 % 256) as u8;
-        *byte = cipher;
-        now = key_from(ahead, cipher);
-        ahead = ahead_of(now);
-    }
+    encrypt_from(bytes, 0, key);
 }
 
 // Decrypts a few bytes in place, two at a time.

@@ -1,10 +1,10 @@
 //! Two ciphers at once.
 
-ghost use Rattle.std.specs.Prelude.{◌≡◌, ◌+◌, ◌*◌, ◌%◌, ◌++◌, ◌≤◌, take, drop, length};
+ghost use Rattle.std.specs.Prelude.{◌≡◌, ◌+◌, ◌*◌, ◌%◌};
 ghost use Rattle.t1_bytes.specs.Cipher.{encrypted};
 ghost use Rattle.t1_bytes.specs.Keys.{key_behind};
 
-use crate::cipher::{FACTOR, SUMMAND, ahead_of, key_from};
+use crate::cipher::{FACTOR, SUMMAND, ahead_of, encrypt_from, key_from};
 
 /// As `ahead_of`, in wider numbers: so the two chains of [`encrypt_both`] stay two for a compiler.
 #[inline(always)]
@@ -20,25 +20,6 @@ fn wide_key_from(ahead: u64, cipher: u8) -> u64
     ensures { result % 65536 ≡ (cipher * 52845 + ahead) % 65536 }
 {
     (cipher as u64).wrapping_mul(FACTOR).wrapping_add(ahead)
-}
-
-/// Encrypts the bytes from a place on, under a cipher whose key is `key` there, and answers the key behind them.
-fn encrypt_from(bytes: &mut [u8], from: usize, key: u16) -> u16
-    requires { from ≤ length bytes.old }
-    ensures value { bytes.new ≡ take from bytes.old ++ encrypted key (drop from bytes.old) }
-    ensures key { result ≡ key_behind key (drop from bytes.new) }
-{
-    let mut now = key as u32;
-    let mut ahead = ahead_of(now);
-    let mut at = from;
-    'bytes: while at < bytes.len() {
-        let cipher = bytes[at] ^ (now / 256 % 256) as u8;
-        bytes[at] = cipher;
-        now = key_from(ahead, cipher);
-        ahead = ahead_of(now);
-        at += 1;
-    }
-    (now % 65536) as u16
 }
 
 /// Encrypts two slices in place, each under a cipher of its own, and answers the key behind the first. Each key of a cipher waits

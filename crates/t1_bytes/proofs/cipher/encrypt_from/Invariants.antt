@@ -1,6 +1,6 @@
 use Rattle.std.proofs.Common.{◌≡◌, ◌+◌, ◌*◌, ◌%◌, ◌++◌, ◌≤◌, ◌-◌, length, take, drop}
 use Rattle.t1_bytes.specs.{Cipher.{encrypted}, Keys.{key_behind}}
-use Rattle.t1_bytes.proofs.lockstep.encrypt_from.Given as goal
+use Rattle.t1_bytes.proofs.cipher.encrypt_from.Given as goal
 
 abbrev pub invariant-bytes : goal.invariant-bytes
 invariant-bytes l = (l.from ≤ l.at) × ((l.at ≤ length l.bytes)
