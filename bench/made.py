@@ -1,4 +1,4 @@
-"""The fonts that the benchmarks make, and what a word costs on them."""
+"""The fonts that the benchmarks make, and what a command costs on them."""
 import os
 import re
 import subprocess
@@ -22,7 +22,7 @@ def private_text(subrs, glyphs, words=b"", lead=LEAD):
 
 
 def cost(words):
-    """Processor seconds, peak kilobytes, and the first line that is printed if a word is refused, else nothing."""
+    """Processor seconds, peak kilobytes, and the first line that is printed if a command is refused, else nothing."""
     done = subprocess.run(
         ["/usr/bin/time", "-f", "%U %S %M"] + words, stdout=subprocess.DEVNULL, stderr=subprocess.PIPE, text=True
     )

@@ -170,7 +170,7 @@ uint32_t t1subset_subset_codes(const uint8_t *font, size_t size, const t1subset_
 uint32_t t1subset_merge(const t1subset_bytes *fonts, size_t count, uint32_t form, t1subset_answer *answer);
 
 /* The same for subsets that another program cut, such as dvips or pdfTeX: they are first mended, as t1subset_mend does, and
- * made even (white space is squeezed, lines of UniqueID and XUID and the tag before the FontName are removed, and every table of
+ * normalized (white space is squeezed, lines of UniqueID and XUID and the tag before the FontName are removed, and every table of
  * Subrs declares as many). */
 uint32_t t1subset_rejoin(const t1subset_bytes *fonts, size_t count, uint32_t form, t1subset_answer *answer);
 

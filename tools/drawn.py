@@ -22,7 +22,7 @@ SHOW = 'program=$1; shift; for name do echo =; "$program" show font -- "$name" 2
 
 
 class ByLibrary:
-    """The words over libt1subset, from bytes to text."""
+    """The commands over libt1subset, from bytes to text."""
 
     def __init__(self):
         sys.path.insert(0, os.path.join(TOP, "python"))
@@ -62,7 +62,7 @@ class ByProgram:
 
     @contextlib.contextmanager
     def ran(self, words, **files):
-        """The folder with these files in which the words were run, and what they printed."""
+        """The folder with these files in which the command was run, and what it printed."""
         with tempfile.TemporaryDirectory() as folder:
             for name, data in files.items():
                 put(data, folder, name)

@@ -11,6 +11,7 @@ import re
 import sys
 
 from common import TOP, below, needs, put, put_between, say, text_of
+from make_definitions import imports_of
 
 MAKER = "make_calling.py"
 # The crate that tests alone need.
@@ -20,7 +21,7 @@ EXAMPLE = os.path.join(TOP, "crates/t1_example")
 PAGES = {
     "t1_bytes": ("private_texts", "sealed_and_opened", [("cipher", "seal"), ("cipher", "open"), ("laws", "opens_sealed")]),
     "t1_char": ("spaces", "space", [("spelling", "write"), ("charstring", "new")]),
-    "t1_run": ("widths", "width", [("layouts", "lay_out"), ("drawings", "draw")]),
+    "t1_run": ("widths", "width", [("layouts", "lay_out"), ("composed", "draw")]),
     "t1_join": ("listings", "joined_text", [("listing", "read"), ("listing", "join"), ("listing", "write"), ("laws", "reads_what_is_written")]),
     "t1_font": ("spellings", "respelled", [("file", "read"), ("source", "font"), ("writing", "write")]),
     "t1_subset": ("subset_files", "subset_file", [("subsets", "subset"), ("merger", "merge")]),
@@ -45,7 +46,8 @@ def shown(*path):
 def caller(module, function):
     """A module of the example, the definitions of the example that it cites, and its proof."""
     lines = shown("src", module + ".rt")
-    for cited in re.findall(r"Rattle\.t1_example\.specs\.(\w+)\.", text_of(EXAMPLE, "src", module + ".rt")):
+    named = imports_of(text_of(EXAMPLE, "src", module + ".rt")).values()
+    for cited in dict.fromkeys(file for crate, file, _ in named if crate == "t1_example"):
         lines += ["", *shown("specs", cited + ".antt")]
     proof = ("proofs", module, function, "Answers.antt")
     if os.path.exists(os.path.join(EXAMPLE, *proof)):

@@ -1,5 +1,5 @@
 #!/usr/bin/env python3
-"""Makes the completions for bash and zsh out of what the program says of itself: its words, and the options and arguments of
+"""Makes the completions for bash and zsh out of what the program says of itself: its commands, and the options and arguments of
 each. They stand in packaging/completions; with --check nothing is written, and the status is 1 if another file would be.
 
 usage: tools/make_completions.py [--check] PROGRAM
@@ -15,7 +15,7 @@ MADE = "# Made by tools/make_completions.py from what t1subset says of itself."
 
 
 class Word:
-    """A word of the program: what it does, its options with what each does, which of them take a value and what it is, and its
+    """A command of the program: what it does, its options with what each does, which of them take a value and what it is, and its
     arguments, each with whether it may stand more than once."""
 
     def __init__(self, program, name, about):
@@ -34,7 +34,7 @@ class Word:
 
 
 def words_of(program):
-    """The words of the program, and its own options."""
+    """The commands of the program, and its own options."""
     text = printed([program, "--help"])
     listed = re.search(r"^Commands:\n(.*?)\n\n", text, re.M | re.S)[1]
     pairs = re.findall(r"^  (\w+) +(\S.*)$", listed, re.M)
@@ -96,7 +96,7 @@ def plain(text):
 
 
 def zsh_arguments(word):
-    """What zsh's _arguments takes for a word."""
+    """What zsh's _arguments takes for a command."""
     for option, about in word.options.items():
         value = word.takes.get(option, "")
         yield quoted(f"{option}[{plain(about)}]" + (f":{value}:{'_files' if value == 'FILE' else ' '}" if value else ""))
@@ -116,16 +116,16 @@ def zsh(words, own):
         "    compadd -a names",
         "}",
         "_t1subset() {",
-        "    local -a words_of_it line",
+        "    local -a commands_of_it line",
         "    if ((CURRENT > 2)) && [[ $words[2] == --explain ]]; then",
         "        shift words",
         "        ((CURRENT -= 1))",
         "    fi",
         "    if ((CURRENT == 2)); then",
-        "        words_of_it=(",
+        "        commands_of_it=(",
         *[f"            {quoted(word.name + ':' + plain(word.about))}" for word in words],
         "        )",
-        f"        _describe word words_of_it && compadd -- help {' '.join(own)}",
+        f"        _describe command commands_of_it && compadd -- help {' '.join(own)}",
         "        return",
         "    fi",
         "    local word=$words[2]",

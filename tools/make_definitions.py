@@ -9,11 +9,10 @@ import os
 import re
 
 from common import TOP, needs, put, say, text_of
-from definitions import Definitions
+from definitions import DEFINED, Definitions, imported
 
 PAGE = os.path.join(TOP, "docs/DEFINITIONS.md")
-# `ghost use Rattle.CRATE.specs.MODULE.{NAMES};`: what code declares (`specs.declared`) is no definition.
-IMPORT = re.compile(r"ghost use Rattle\.(t1_\w+)\.specs\.(?!declared)([\w.]+)\.\{([^}]*)\};")
+IMPORT = re.compile(r"ghost use (Rattle\..*);$", re.M)
 # A public function, from its name to its body, which is empty where the function is a law.
 PUBLIC = re.compile(r"^ *pub fn (\w+)(.*?)^ *\{\}?$", re.M | re.S)
 CLAUSES = re.compile(r"\b(?:ensures|requires)\b.*", re.S)
@@ -27,12 +26,13 @@ and the gate compares it. [GLOSSARY.md](GLOSSARY.md) has the words.
 
 
 def imports_of(text):
-    """The definitions that a file of code names, by the names that it gives them."""
+    """The definitions that a file of code names, by the names that it gives them: what code declares (`specs.declared`) is none."""
     names = {}
-    for crate, module, group in IMPORT.findall(text):
-        for name in filter(None, map(str.strip, group.split(","))):
+    for path, name in [pair for line in IMPORT.findall(text) for pair in imported("", line)]:
+        module = DEFINED.match(path)
+        if module and name and not module[2].startswith("declared"):
             theirs, _, ours = name.partition(" as ")
-            names[ours or theirs] = (crate, module, theirs)
+            names[ours or theirs] = (*module.groups(), theirs)
     return names
 
 

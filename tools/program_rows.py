@@ -1,6 +1,6 @@
-"""The rows of words that the program is run on, and the files that each row finds.
+"""The rows of arguments that the program is run on, and the files that each row finds.
 
-`tools/test_program.py` runs the program on them, `tools/test_library.py` the same words over the library.
+`tools/test_program.py` runs the program on them, `tools/test_library.py` the same arguments over the library.
 """
 from collections import namedtuple
 
@@ -40,7 +40,7 @@ ACROSS, UP, STUB = b"\xef\x16\x0b", b"\xef\x04\x0b", RETURN
 TESTED = (b"FontDirectory/Small known{/Small findfont dup/UniqueID known{dup/UniqueID get 7 eq exch\n/FontType get 1 eq and}"
           b"{pop false}ifelse{save true}{false}ifelse}{false}ifelse")
 
-# The words; the exit status; what is printed on standard output and on standard error; the files that are changed.
+# The arguments; the exit status; what is printed on standard output and on standard error; the files that are changed.
 Row = namedtuple("Row", "words status out err left", defaults=(b"", b"", {}))
 
 
@@ -137,7 +137,7 @@ def files():
 
 
 def rows_of_words():
-    """Words that ask for help or don't parse."""
+    """Arguments that ask for help or don't parse."""
     commands = ["subset", "merge", "rejoin", "pool", "level", "fonts", "diff", "mend", "check", "list", "show", "pfa", "pfb", "join"]
     yield Row(["--help"], 0, SOME)
     yield Row(["--version"], 0, version_of_the_man_page() + b"\n")
@@ -269,7 +269,7 @@ def rows_of_outputs(given):
 
 
 def rows_of_names():
-    """Names that stand in a file, a name a line, beside those of the words."""
+    """Names that stand in a file, a name a line, beside those of the command line."""
     whole = small_font(b"Small", [STUB] * 4 + [ACROSS, UP], {b"A": 4, b"B": 5})
     one = small_font(b"Small", [STUB] * 5 + [UP], {b"B": 5})
     words = ["subset", "whole.font", "out", "--names"]
@@ -324,7 +324,7 @@ REFUSED_CODES = [
 
 
 def rows_of_limits():
-    """Words that limit the tokens that glyphs execute: .notdef 4, and A and B 9 each, by either answer to hint replacement."""
+    """Arguments that limit the tokens that glyphs execute: .notdef 4, and A and B 9 each, by either answer to hint replacement."""
     one, whole, most = small_font(b"Small", [STUB] * 4 + [ACROSS, STUB], {b"A": 4}), files()["whole.font"], "18446744073709551615"
     for tokens, made in (("0", None), ("12", None), ("26", one), (most, one)):
         for words in (["subset", "whole.font", "out", "A"], ["subset", "whole.font", "out", "--codes", "65"]):
@@ -353,12 +353,12 @@ def rows_of_limits():
 
 
 def limited(words, made):
-    """The row of words that make this file, or that allow too few tokens."""
+    """The row of arguments that make this file, or that allow too few tokens."""
     return Row(words, 0, b"", b"", {"out": made}) if made else Row(words, 1, b"", b"refused: too many tokens\n")
 
 
 def compared(words, found):
-    """The row of words that print these conflicts, or that allow too few tokens."""
+    """The row of arguments that print these conflicts, or that allow too few tokens."""
     return Row(words, 1, b"", b"refused: too many tokens\n") if found is None else Row(words, int(found != b""), found)
 
 

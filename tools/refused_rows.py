@@ -1,4 +1,4 @@
-"""Files that are refused, or that don't merge or join: words and files for each number of include/t1subset.h that files can
+"""Files that are refused, or that don't merge or join: arguments and files for each number of include/t1subset.h that files can
 bring about. What is answered is not said here: `tools/test_library.py` asks the program.
 """
 from common import EMPTY, ENDCHAR, RETURN, WIDTH, as_binary, glyphs_table, subrs_table
@@ -88,7 +88,7 @@ def listings():
 
 
 def limited(good):
-    """Words that allow fewer tokens than a font's glyphs execute, of which .notdef has 4 and A has 6; and what is told before them."""
+    """Arguments that allow fewer tokens than a font's glyphs execute, of which .notdef has 4 and A has 6; and what is told before them."""
     for words in (["merge", "out", "good"], ["rejoin", "out", "good"], ["subset", "good", "out", "A"], ["subset", "good", "out", "--codes", "65"]):
         for tokens in ("0", "9"):
             yield "too_many_tokens", [*words, "--tokens", tokens], {"good": good}
@@ -112,7 +112,7 @@ def limited(good):
 
 
 def rows():
-    """The name of the number, the words, and the files that they name."""
+    """The name of the number, the arguments, and the files that they name."""
     good = made()
     for name, file in no_fonts():
         yield name, ["check", "bad"], {"bad": file}

@@ -163,7 +163,7 @@ def by_file(folder, program, part):
 
 
 def joined(folder, word, parts):
-    """What a word says of two fonts: nothing, or the reason of a refusal."""
+    """What a command says of two fonts: nothing, or the reason of a refusal."""
     for name, part in zip(("one", "two"), parts):
         put(part, folder, name)
     return said(folder, word, "out", "one", "two")

@@ -2,7 +2,7 @@
 """Refuses one growth after another in what `rt ci` built, until a run meets no refused growth.
 
 In each crate a test `growths` makes every call that grows, and repeats it if it answers want of memory, so each run of
-it has to end well. A test `no_growth` makes calls that take no memory, and ends well with every growth refused. A word
+it has to end well. A test `no_growth` makes calls that take no memory, and ends well with every growth refused. A command
 of the program gives the right answer, or says that it is out of memory and has written nothing. A call that grows and
 is in no such test is a fault, and so is a sweep that met no growth.
 
@@ -23,7 +23,7 @@ from test_answers import calls, stand_over
 PROGRAM = BUILDS[0]
 CRATES = ["t1_bytes", "t1_char", "t1_run", "t1_join", "t1_font", "t1_document", "t1_subset", "t1_example", "t1_cmd"]
 NO_MEMORY = b"refused: out of memory\n"
-# What is said where there is no memory for the words, with status 2; and all that the program said.
+# What is said where there is no memory for the arguments, with status 2; and all that the program said.
 NO_ROOM = b"error: out of memory\n"
 SAID = set()
 LANES = os.cpu_count() or 1
@@ -68,7 +68,7 @@ line 150 0
 close
 """
 
-# The words; what they write (None: anything); the file that they write to (None: standard output); the line with
+# The arguments; what they write (None: anything); the file that they write to (None: standard output); the line with
 # which they are refused, with or without memory.
 Case = collections.namedtuple("Case", "words want out refusal status", defaults=(None, None, 0))
 
@@ -125,7 +125,7 @@ def wrong(case, refused, done, written):
     if done.returncode not in (0, 1, 2, 3):
         return "no documented status"
     if b"UTF-8" in done.stderr:
-        return "words that are text are refused as none"
+        return "arguments that are text are refused as none"
     if done.returncode == 0 and (case.refusal or case.status or not told):
         return "done, and the result is not there"
     if not told and written != b"":
@@ -146,7 +146,7 @@ def taken(path):
 
 
 def sweep_words(shim, case):
-    """How many growths the program meets with these words; each of its runs ends as the man page says."""
+    """How many growths the program meets with these arguments; each of its runs ends as the man page says."""
     words = [PROGRAM] + case.words
     number, refused = 0, True
     while refused:
@@ -182,7 +182,7 @@ def subset(font, out, names, length=None):
 
 
 def font_cases(folder):
-    """Every word about fonts, over Tiny and subsets of it."""
+    """Every command about fonts, over Tiny and subsets of it."""
     tiny, out = TINY, os.path.join(folder, "out")
     other = put(tiny_without_subr_5(), folder, "other")
     _, none = subset(tiny, os.path.join(folder, "none"), [], 2141)
@@ -282,7 +282,7 @@ def main():
         for case in [*listing_cases(), *font_cases(folder)]:
             runs += sweep_words(shim, case) + 1
     if NO_ROOM not in SAID:
-        sys.exit("no run said that there is no memory for the words")
+        sys.exit("no run said that there is no memory for the arguments")
     print(f"sweep of growths: {runs} runs, each refused growth answered")
 
 

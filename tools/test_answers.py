@@ -32,7 +32,7 @@ CALL = re.compile(r"^( *)pub fn (\w+)(?:<[^(]*>)?\(([^)]*)\)(?: -> ([^{\n]*))?",
 READS, RUNS = "ReadFault", "Fault"
 ANSWERS = {
     "Drawing": ["Drawn", "DrawFault"],
-    "Layout<'f>": ["Drawn", "DrawFault"],
+    "Drawing<&'f [u8]>": ["Drawn", "DrawFault"],
     "Direct": ["Plain", "Seac", RUNS],
     "RunFault": [],
 }
@@ -103,9 +103,9 @@ NEVER = {
 LARGE = {
     "t1_bytes": {"": 100_000},
     "t1_char": {"write": 65_535},
-    "t1_run": {"": 1000, "Called::new": None, "Called::insert": 65_535, "Called::to_set": 65_535},
+    "t1_run": {"": 1000, "SubrSet::new": None, "SubrSet::insert": 65_535, "SubrSet::to_set": 65_535},
     "t1_join": {"": 60_000, "Table::new": None, "Hex::bytes": 131_070},
-    "t1_font": {"": 65_535, "even_shells": 1000, "even_boxes": 1000, "even_named": 1000, "fill_all": 65_535},
+    "t1_font": {"": 65_535, "normalize_shells": 1000, "normalize_boxes": 1000, "normalize_named": 1000, "fill_all": 65_535},
     "t1_document": {"": 300, "Texts::new": None, "Place::source": None, "Place::can_stand": None},
     "t1_subset": {"": 65_535, "merge": 65_535},
     "t1_cmd": {
@@ -124,6 +124,8 @@ THRESHOLDS = {
     "t1_font/COUNT_LIMIT": ["read", "read_vec", "read_wide", "read_wide_vec", "mends", "join_parts"],
     "t1_font/WEIGHT_LIMIT": ["read", "read_vec", "read_wide", "read_wide_vec", "mends", "join_parts", "fill_all"],
     "t1_font/MARKERS": ["write"],
+    "t1_font/FEW": ["likely_places"],
+    "t1_font/INDICES": ["likely_places"],
     "t1_font/CODES": ["read", "read_vec", "read_wide", "read_wide_vec", "mends"],
     "t1_join/NAME_LIMIT": ["read"],
     "t1_join/DIGITS_LIMIT": ["read"],
@@ -291,7 +293,7 @@ def check(crate, enums, wrong):
 
 
 # What tests meet beside the calls that need memory by their names: methods of traits, and a call that goes two ways by a size.
-MORE = {"join_if_agreed", "decrypt"}
+MORE = {"join_if_agreed", "decrypt", "likely_places"}
 
 
 def main():

@@ -23,7 +23,7 @@ HOSTILE = b"`id`"
 
 
 def rows(font):
-    """The words of a command line, of which the last is to be completed, and what it may become."""
+    """The arguments of a command line, of which the last is to be completed, and what it may become."""
     yield [""], WORDS + " help --explain --help --version"
     yield ["--explain", "su"], "subset"
     yield ["--explain", "show", TINY, "Aa"], "Aacute"

@@ -32,7 +32,7 @@ def row_of(line, rows):
 
 
 def said(program, words, files):
-    """What the program says of these words over these files."""
+    """What the program says of these arguments over these files."""
     with tempfile.TemporaryDirectory() as folder:
         for name, text in files.items():
             put(text, folder, name)

@@ -1,7 +1,7 @@
 #!/usr/bin/env python3
 """Holds libt1subset to its header and to the program: exports, answers, numbers, refused growths, threads, an installation.
 
-The words of the program run over the library (c/tests/words.c), and the status, what is printed and the files are
+The commands of the program run over the library (c/tests/words.c), and the status, what is printed and the files are
 compared with the program's, on the rows of tools/program_rows.py, on files that are refused, and on fonts that are
 installed here. The print filter of examples/ has to pool jobs as the program does. In the end a library that lies has to
 be found out.
@@ -34,7 +34,7 @@ FONTS = 30
 WARNINGS = ["-O1", "-g", "-Wall", "-Wextra", "-Wconversion", "-Wpedantic", "-Wshadow", "-Werror"]
 IN_C = ["-std=c11", "-Wstrict-prototypes"]
 SANITIZERS = ["-fsanitize=address,undefined", "-fno-sanitize-recover=all"]
-# Numbers that no word over the library answers: growths.c and edges.c meet them.
+# Numbers that no command over the library answers: growths.c and edges.c meet them.
 ELSEWHERE = {"ok", "memory", "bad_call", "file_too_long", "no_font", "nothing_to_merge"}
 # As many tokens as a call can be allowed.
 NO_LIMIT = str(2 ** 64 - 1)
@@ -70,7 +70,7 @@ class Library:
 
 def library_rows(given):
     """The rows that a library can be held to. Status 2 is a fault of the command line, and 3 of opening files, which are the
-    program's own; so are its help and its version, files of names, `check` of several files, and the word that writes documents into a folder."""
+    program's own; so are its help and its version, files of names, `check` of several files, and the command that writes documents into a folder."""
     rows = [row for row in program_rows.all_rows(given) if row.status < 2 and row.out is not program_rows.SOME]
     rows = [row for row in rows if not OWN_OPTIONS.intersection(word.split("=")[0] for word in row.words if isinstance(word, str))]
     rows = [row for row in rows if not (row.err and "--tags" in row.words)]
@@ -79,7 +79,7 @@ def library_rows(given):
 
 
 def run_rows(words):
-    """How many rows the words over the library answer rightly; a fault is returned as text."""
+    """How many rows the commands over the library answer rightly; a fault is returned as text."""
     given = program_rows.files()
     rows = library_rows(given)
     for row in rows:
@@ -89,7 +89,7 @@ def run_rows(words):
     return len(rows)
 
 
-# The words of a job, and one of more bytes than a file may have.
+# The arguments of a job, and one of more bytes than a file may have.
 JOB = ("7", "me", "title", "1", "")
 TOO_LONG = bytes(268435457)
 
@@ -134,7 +134,7 @@ def print_filter(library, program, folder):
 
 
 class Pair:
-    """The program, and its words over the library, in one folder."""
+    """The program, and its commands over the library, in one folder."""
 
     def __init__(self, program, words, folder):
         self.programs, self.folder = (program, words), folder
@@ -158,7 +158,7 @@ class Pair:
         return done.returncode, done.stdout, done.stderr, self.taken("out")
 
     def both(self, words):
-        """What both answer to these words; a difference ends the run."""
+        """What both answer to these arguments; a difference ends the run."""
         one, other = (self.alone(program, words) for program in self.programs)
         self.calls += 1
         if one != other:
@@ -171,7 +171,7 @@ class Pair:
 
 
 def inputs_of(words):
-    """The files of these words, whose options stand last."""
+    """The files of these arguments, whose options stand last."""
     words = list(itertools.takewhile(lambda word: not word.startswith("--"), words))
     return words[2:] if words[0] in ("merge", "rejoin") else words[1:] if words[0] in ("diff", "join") else words[1:2]
 
@@ -242,8 +242,8 @@ def fonts_here():
 
 
 def run_within(pair, words):
-    """These words, and the same within limits of tokens: one that allows everything, and two that are often too small. What the
-    words answer is returned."""
+    """A command, and the same within limits of tokens: one that allows everything, and two that are often too small. What the
+    command answers is returned."""
     plain = pair.both(words)
     within = {tokens: pair.both([words[0], "--tokens", tokens, *words[1:]]) for tokens in ("0", "1000", NO_LIMIT)}
     few = (1, b"", b"refused: too many tokens\n", None)
@@ -253,7 +253,7 @@ def run_within(pair, words):
 
 
 def run_font(pair, font, last):
-    """All words over a font, and over two subsets of it; the first of these is returned, if there is one."""
+    """All commands over a font, and over two subsets of it; the first of these is returned, if there is one."""
     for words in (["check", font], ["pfa", font, "out"], ["pfb", font, "out"], ["mend", font, "out"]):
         pair.both(words)
     pair.both(["list", "--full", font])

@@ -57,7 +57,7 @@ class Visit:
             self.says(f"{name} is removed")
 
     def made(self, *words):
-        """What the program writes: the words have OUT as `out`."""
+        """What the program writes: the arguments have OUT as `out`."""
         subprocess.run([self.program, *words], cwd=self.folder, check=True, capture_output=True, timeout=60)
         return bytes_of(self.folder, "out")
 

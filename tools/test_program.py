@@ -1,5 +1,5 @@
 #!/usr/bin/env python3
-"""Runs the built program on rows of words, and compares its status, what it prints and which files it leaves.
+"""Runs the built program on rows of arguments, and compares its status, what it prints and which files it leaves.
 
 usage: tools/test_program.py [PROGRAM...]    without a name the two builds that `rt ci` leaves
 """
@@ -180,7 +180,7 @@ def main():
                 sys.exit(f"{program} {row.words}: {fault}")
         full(program)
         outputs(program)
-    print(f"t1subset: {len(rows) + 6} rows of words, by {len(programs)} builds", file=sys.stderr)
+    print(f"t1subset: {len(rows) + 6} rows of arguments, by {len(programs)} builds", file=sys.stderr)
 
 
 if __name__ == "__main__":

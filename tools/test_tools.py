@@ -307,19 +307,23 @@ def many(program):
 
 
 def hostile(program):
-    """bench/hostile prints what each word costs on each shape; only fonts that declare other counts of Subrs are refused."""
+    """bench/hostile prints what each command costs on each shape; only fonts that declare other counts of Subrs are refused. Small fonts
+    that declare many Subrs take little room."""
     if lacks("bench/hostile", ["time"]):
         return
     told = bench(program, "bench/hostile", "1").splitlines()
-    words = [line.split()[0] for line in told if line.startswith("   ")]
+    words = [line[3:16].strip() for line in told if line.startswith("   ")]
     shapes = [line for line in told if re.fullmatch(r"\S.*, \d+ bytes", line)]
-    cost = r"   \w+ +\d+\.\d\d s, \d+ kB, -?\d+\.\d times the inputs"
+    cost = r"   \w+(?: of all)? +\d+\.\d\d s, \d+ kB, -?\d+\.\d times the inputs"
     refused = [line for line in told if line.endswith(" (refused: shells differ in Subrs table)")]
     costs = [line.split(" (")[0] if line in refused else line for line in told if line not in shapes]
     check(all(re.fullmatch(cost, line) for line in costs) and len(refused) == 1 and "   merge " in refused[0], "\n".join(told))
     counts = collections.Counter(words)
-    alone = {counts[word] for word in ("check", "list", "show", "subset", "pfa", "pfb")}
+    alone = {counts[word] for word in ("check", "list", "show", "subset", "subset of all", "pfa", "pfb")}
     check(len(alone) == 1 and alone.pop() + counts["rejoin"] + 1 == len(shapes) and counts["join"] == 1, "\n".join(told))
+    at = next(at for at, line in enumerate(told) if line.startswith("200 fonts that declare 65,535 Subrs"))
+    room = [int(re.search(r" (\d+) kB", line)[1]) for line in told[at + 1 : at + 3]]
+    check(max(room) < 8000, "\n".join(told[at : at + 3]))
 
 
 def calls(program, library):

@@ -1,7 +1,7 @@
 #!/usr/bin/env python3
 """Holds the page of web/ to the program: its module in node, and the page itself in a headless Chromium.
 
-What is written in C, and the script that narrows pointers, have tests of their own. In node the words of the program run
+What is written in C, and the script that narrows pointers, have tests of their own. In node the commands of the program run
 over the module (web/tests/words.js), and the status, what is printed and the files are compared with the rows of
 tools/program_rows.py, and with the program on files that are refused and on fonts that are installed here; and memory is
 refused to the module, from none to enough. In Chromium files are dropped on the page, from a folder and from a server, and
@@ -90,7 +90,7 @@ def web_rows(given):
 
 
 def run_rows(words):
-    """How many rows the words over the module answer rightly; a fault is returned as text."""
+    """How many rows the commands over the module answer rightly; a fault is returned as text."""
     given = program_rows.files()
     rows = list(web_rows(given))
     with concurrent.futures.ThreadPoolExecutor(os.cpu_count()) as pool:
@@ -167,7 +167,7 @@ def found_out(module, work):
 
 
 def in_node(folder, program, fonts, work):
-    """The words of the program over the module."""
+    """The commands of the program over the module."""
     module = module_in(folder)
     os.environ["MODULE"] = os.path.join(folder, "module.js")
     run = run_rows(WORDS)

@@ -202,7 +202,7 @@ function remove(file) {
   (neighbour?.querySelector("input") || place("choose")).focus();
 }
 
-/* Which of the words over several files can be asked for. */
+/* Which of the commands over several files can be asked for. */
 function marked() {
   const counts = (kind) => files.filter((file) => file.kind === kind && isMarked(file)).length;
   const fonts = counts("font") + files.filter((file) => file.kind === "refused" && isMarked(file)).length;
@@ -211,7 +211,7 @@ function marked() {
   place("pool").disabled = place("level").disabled = counts("document") < 1;
 }
 
-/* The words */
+/* The commands */
 
 /* Makes a file of what a call answers; a refusal is told with what to do. */
 async function make(about, name, words, named, note, names) {

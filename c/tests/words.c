@@ -1,4 +1,4 @@
-/* The words of the program t1subset over libt1subset: the same files, lines and exit status, but for the command line.
+/* The commands of the program t1subset over libt1subset: the same files, lines and exit status, but for the command line.
  * A line "NUMBER DETAIL INPUT" about the answer is written to the file that the variable TOLD names. */
 #include "t1subset.h"
 
@@ -27,7 +27,7 @@ static t1subset_bytes whole(const char *path) {
     return (t1subset_bytes) {data, size};
 }
 
-/* What the options of the words say. */
+/* What the options of the commands say. */
 struct options {
     uint32_t form;
     uint8_t codes[1 << 12];
@@ -58,14 +58,14 @@ static void set_tokens(struct options *options, const char *tokens) {
     options->limited = 1;
 }
 
-/* What stands behind an option: in its own word behind `=`, or as the next word. NULL if this word is not the option. */
+/* What stands behind an option: in its own argument behind `=`, or as the next argument. NULL if this argument is not the option. */
 static const char *value_of(const char *option, char **words, int *at) {
     const size_t size = strlen(option);
     if (strncmp(words[*at], option, size)) return NULL;
     return words[*at][size] == '=' ? words[*at] + size + 1 : words[*at][size] ? NULL : words[++*at];
 }
 
-/* Takes the options out of the words, and answers how many are left. */
+/* Takes the options out of the arguments, and answers how many are left. */
 static int take_options(struct options *options, int count, char **words) {
     int left = 0, plain = 0;
     const char *text = "", *value;
@@ -114,7 +114,7 @@ static uint32_t diff(const struct options *options, t1subset_bytes first, t1subs
     return t1subset_diff(first.data, first.size, second.data, second.size, answer);
 }
 
-/* The call of a word; arguments are the files and names behind it, without OUT. */
+/* The call of a command; arguments are the files and names behind it, without OUT. */
 static uint32_t call(const char *word, const struct options *options, const t1subset_bytes *arguments, size_t count, t1subset_answer *answer) {
     const uint32_t form = options->form;
     const t1subset_bytes first = count > 0 ? arguments[0] : named(""), second = count > 1 ? arguments[1] : named("");
@@ -132,11 +132,11 @@ static uint32_t call(const char *word, const struct options *options, const t1su
     if (!strcmp(word, "fonts")) return t1subset_fonts(arguments, count, answer);
     if (!strcmp(word, "extract")) return t1subset_extract((const uint8_t *) options->extract, strlen(options->extract), arguments, count, answer);
     if (!strcmp(word, "join")) return t1subset_join(first.data, first.size, second.data, second.size, answer);
-    fail("no such word\n");
+    fail("no such command\n");
     return 0;
 }
 
-/* How many of the arguments behind a word are files, from the first on; and which of them is OUT, or 0. */
+/* How many of the arguments behind a command are files, from the first on; and which of them is OUT, or 0. */
 static int files_of(const char *word, int count) {
     static const char *const several[] = {"merge", "rejoin", "diff", "join", "pool", "fonts", "extract"};
     for (size_t at = 0; at < sizeof several / sizeof *several; at++) {
@@ -168,7 +168,7 @@ static int write_to(const char *path, t1subset_bytes bytes) {
     return 0;
 }
 
-/* What the word fonts prints: the lines of t1subset_fonts, with the paths of the documents for their places. */
+/* What the command fonts prints: the lines of t1subset_fonts, with the paths of the documents for their places. */
 static int print_places(t1subset_bytes lines, char **paths) {
     const char *line = (const char *) lines.data, *const end = line + lines.size;
     while (line < end) {
@@ -182,7 +182,7 @@ static int print_places(t1subset_bytes lines, char **paths) {
     return fflush(stdout) ? 3 : 0;
 }
 
-/* What the word mend says on standard error once the result is written. */
+/* What the command mend says on standard error once the result is written. */
 static void say_mends(t1subset_bytes font) {
     t1subset_answer answer = T1SUBSET_ANSWER;
     if (t1subset_mends(font.data, font.size, &answer)) fail("the mends of a mended font are refused\n");
@@ -199,7 +199,7 @@ static int told_before(const char *lines, const char *at, const char *name, size
     return 0;
 }
 
-/* What the word pool says on standard error once the result is written: why the fonts of a name stay, by the lines of t1subset_fonts. */
+/* What the command pool says on standard error once the result is written: why the fonts of a name stay, by the lines of t1subset_fonts. */
 static void say_kept(const t1subset_bytes *documents, size_t count) {
     t1subset_answer answer = T1SUBSET_ANSWER;
     if (t1subset_fonts(documents, count, &answer)) fail("the fonts of pooled documents are refused\n");

@@ -153,7 +153,7 @@ def merge(fonts: Iterable[BytesLike], form: AnyForm = "pfa", *, tokens: Optional
 
 def rejoin(fonts: Iterable[BytesLike], form: AnyForm = "pfa", *, tokens: Optional[int] = None) -> bytes:
     """The same for subsets that another program cut, such as dvips or pdfTeX: they are first mended, as by
-    `mend`, and made even (white space is squeezed, lines of UniqueID and XUID and the
+    `mend`, and normalized (white space is squeezed, lines of UniqueID and XUID and the
     tag before the FontName are removed, and every table of Subrs declares as many).
 
     `tokens` is as for `subset`, of all glyphs of all fonts."""

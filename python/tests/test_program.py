@@ -99,7 +99,7 @@ class Program(unittest.TestCase):
         self.program = os.path.abspath(found)
 
     def run_words(self, words: List[str], inputs: List[bytes], output: bool) -> Tuple[str, bytes]:
-        """What is said on standard error, and what is printed or written, of words in which IN0, IN1 and so on name the
+        """What is said on standard error, and what is printed or written, of arguments in which IN0, IN1 and so on name the
         inputs."""
         with tempfile.TemporaryDirectory() as folder:
             for place, data in enumerate(inputs):

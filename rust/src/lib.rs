@@ -252,8 +252,8 @@ pub fn merge<F: AsRef<[u8]>>(fonts: &[F], form: Form) -> Result<Vec<u8>, Refused
     ffi::merge(&slices(fonts), form)
 }
 
-/// The same for subsets that another program cut, such as dvips or pdfTeX: they are first mended, as by [`mend`], and made
-/// even (white space is squeezed, lines of UniqueID and XUID and the tag before the FontName are removed, and every table of Subrs
+/// The same for subsets that another program cut, such as dvips or pdfTeX: they are first mended, as by [`mend`], and
+/// normalized (white space is squeezed, lines of UniqueID and XUID and the tag before the FontName are removed, and every table of Subrs
 /// declares as many).
 pub fn rejoin<F: AsRef<[u8]>>(fonts: &[F], form: Form) -> Result<Vec<u8>, Refused> {
     ffi::rejoin(&slices(fonts), form)

@@ -1,6 +1,6 @@
 #!/usr/bin/env node
 "use strict";
-/* The words of the program t1subset over the module: the same files, lines and exit status, but for the command line. MODULE names
+/* The commands of the program t1subset over the module: the same files, lines and exit status, but for the command line. MODULE names
  * the module.js that is meant. A line "NUMBER DETAIL INPUT" about the answer is written to the file that TOLD names. */
 const fs = require("fs"), path = require("path");
 const { library } = require("../calls.js");
@@ -21,7 +21,7 @@ function codesOf(list) {
   });
 }
 
-/* Takes the options out of the words. */
+/* Takes the options out of the arguments. */
 function take(given) {
   const takes = {
     "--pfb": () => { options.form = 1; },
@@ -59,7 +59,7 @@ function conflicts(first, second) {
   return options.tokens === null ? t1.diff(first, second) : t1.diff_within(first, second, options.tokens);
 }
 
-/* What a word prints, which files it writes, and what it says. */
+/* What a command prints, which files it writes, and what it says. */
 function run(word, rest) {
   const { form, codes: listed, text: letters, extract } = options, codes = Uint8Array.from([...listed, ...letters]);
   const written = (out, data, said = "") => ({ files: { [out]: data }, said });

@@ -1,7 +1,7 @@
 -- A glyph runs and draws in a subset and in a join as it did before.
 use Rattle.std.proofs.Common.{◌≡◌, ℕ, true, cond, List, [], ◌∷◌, map, refl, sym, ◌∙◌, ap, subst, Option, Some, None, option_map}
 use Rattle.t1_run.{specs.{State.{Ending}, Run.{direct, direct3, exec, direct_by}, Drawings.{parts_of, picture, picture_at, draw, draw3, outcome_at, draw_by, parts_by, parts}}, proofs.Locality.{local}}
-use Rattle.t1_font.{specs.{FontValue.{FontValue, Numbered}, IsFont.{IsFont}}, proofs.FontReaders.{all_seen}}
+use Rattle.t1_font.{specs.{FontValue.{FontValue, SparseArray}, IsFont.{IsFont}}, proofs.FontReaders.{all_seen}}
 use Rattle.t1_algebra.specs.{Keep.{keep, has, components, subset, IsOf}, Outcomes.{component_outcome}, States.{joined_font, Compatible}, Profile.{profile, Endings, in_set_of}, Laws.{AnswersAlike}}
 use Rattle.t1_algebra.specs.Alike.{DrawsAlike}
 use Rattle.t1_algebra.proofs.{Words.{list_any, nat_list_cmp_total, Names, same_bytes}, Kept.{keep_part}, Sets.{name_same, itself, here, later, any_append_left, any_append_right, cases}, Uses.{sought}}
@@ -12,13 +12,14 @@ use Rattle.std.specs.FinMap as maps
 -- ---- fonts in which a glyph runs alike and names components that run alike
 
 -- a charstring runs the same over two tables of Subrs that agree at what it executes
-pub runs_by_rules : (s t : Numbered) (c : List ℕ) → ((i : ℕ) → sets.contains (profile.exec s c) i ≡ true → maps.get t i ≡ maps.get s i)
+pub runs_by_rules : (s t : SparseArray) (c : List ℕ) → ((i : ℕ) → sets.contains (profile.exec s c) i ≡ true → maps.get t i ≡ maps.get s i)
     → (direct (maps.get t) c ≡ direct (maps.get s) c) × (direct3 (maps.get t) c ≡ direct3 (maps.get s) c) × (exec (maps.get t) c ≡ exec (maps.get s) c)
 unfolding profile
 runs_by_rules s t c h = local (maps.get s) (maps.get t) c (λ i k. sym (h i (in_set_of (exec (maps.get s) c) i k)))
 
 -- what this project's interpreter comes to and names: the endings by both answers to hint replacement, and the parts of both
-ending : (s : Numbered) (c : List ℕ) → (profile.direct s c ≡ (direct (maps.get s) c, direct3 (maps.get s) c)) × (components profile s c ≡ parts (maps.get s) c)
+ending : (s : SparseArray) (c : List ℕ) → (profile.direct s c ≡ (direct (maps.get s) c, direct3 (maps.get s) c)) ×
+    (components profile s c ≡ parts (maps.get s) c)
 unfolding profile
 ending s c = (refl, refl)
 
@@ -33,8 +34,8 @@ module _ (f j : FontValue) (n : List ℕ) (same : maps.get j.glyphs n ≡ maps.g
     (same_parts : (c p : List ℕ) → maps.get f.glyphs n ≡ Some c → list_any (same_bytes p) (components profile f.subrs c) ≡ true →
     component_outcome profile j p ≡ component_outcome profile f p) where
   -- `by` gives what a charstring comes to by one answer to hint replacement
-  module _ (hints : _) (by : Endings → Ending) (is_by : (s : Numbered) (c : List ℕ) → by (profile.direct s c) ≡ direct_by hints (maps.get s) c)
-      (named : (s : Numbered) (c p : List ℕ) → list_any (same_bytes p) (parts_by hints (maps.get s) c) ≡ true →
+  module _ (hints : _) (by : Endings → Ending) (is_by : (s : SparseArray) (c : List ℕ) → by (profile.direct s c) ≡ direct_by hints (maps.get s) c)
+      (named : (s : SparseArray) (c p : List ℕ) → list_any (same_bytes p) (parts_by hints (maps.get s) c) ≡ true →
       list_any (same_bytes p) (components profile s c) ≡ true) where
     -- the picture of what the glyph's charstring comes to is alike
     picture_alike : (x : Option (List ℕ)) → maps.get f.glyphs n ≡ x

@@ -2,7 +2,8 @@
 use Rattle.std.proofs.Common.{◌≡◌, ◌↔◌, not, ◌≤◌, ℕ, ◌+◌, ◌*◌, ◌-◌, true, cond, List, [], ◌∷◌, map, length, refl, sym, ◌∙◌, ap, subst, Option, Some, None, option_map, is_some, arith, inl, ⊎_elim}
 use Rattle.std.proofs.{Common.{nat_cmp}, lemmas.List.{length-map}}
 use Rattle.t1_join.specs.{Meaning.{of_number}, Join.{State}, StateLaws.{same_meaning-self}, TableMeaning.{TableMeaning, joined_table}, TableLaws.{get_joined, same_table}}
-use Rattle.t1_font.specs.{FontModel.{word_of, encoding_by, font_by}, Maps.{map_values}, FontValue.{FontValue, Numbered, Named, total, subr_weight, weight, weight_limit, count_limit, names_in}}
+use Rattle.t1_font.specs.{FontModel.{word_of, encoding_by, font_by}, Maps.{map_values}}
+use Rattle.t1_font.specs.FontValue.{FontValue, SparseArray, CharStrings, total, subr_weight, weight, weight_limit, count_limit, names_in}
 use Rattle.t1_font.proofs.{CutEntries.{entries-retain}, MapLemmas.{entries_all, get-retain, get-map_values}}
 use Rattle.t1_algebra.specs.States.{named_at, code_state, KeepsLimits, is_sought, subr_state, name_state, Compatible, Join, joined_font}
 use Rattle.t1_algebra.specs.StateTables.{StatesValue, numbered, name_meaning, behind_mark, AreSought, used_subrs, all_components, name_states, states_of, subr_adds, name_adds, code_states}
@@ -103,7 +104,7 @@ module _ {O : Type 0} (m : Interpreter O) (f : FontValue) where
       total_apart f.shell.len_iv (maps.entries f.subrs) ∙ (λ i. sym (length-map (maps.entries f.subrs) (λ e. e.0)) i * (129 + f.shell.len_iv) + sym added i)
 
   -- the charstrings among the states of a font's names are those of its glyphs
-  pub glyphs_among : (g : Named) → ((n : List ℕ) → maps.get g n ≡ behind_mark (maps.get (name_states m f) n)) → g ≡ f.glyphs
+  pub glyphs_among : (g : CharStrings) → ((n : List ℕ) → maps.get g n ≡ behind_mark (maps.get (name_states m f) n)) → g ≡ f.glyphs
   glyphs_among g h =
       maps.same_map nat_list_cmp_total name_same g f.glyphs (λ n. h n ∙ charstring_in f.glyphs (sought m f) (are_sought m f) (name_states m f) refl n)
 
@@ -181,14 +182,14 @@ module _ {O : Type 0} (m : Interpreter O) (f : FontValue) where
   subr_again i = grind (cases, subrs_shown m f (of_number i), stub_is)
 
   -- the Encoding is the word that the font shares, or else the table of the names of its codes
-  encoding_again : (codes : Numbered) → numbered codes ≡ code_states f.encoding → encoding_by (word_of f.encoding) codes ≡ f.encoding
+  encoding_again : (codes : SparseArray) → numbered codes ≡ code_states f.encoding → encoding_by (word_of f.encoding) codes ≡ f.encoding
   encoding_again codes same =
       let named : (c : ℕ) → maps.get codes c ≡ code_state f.encoding c =
       λ c. sym (get-numbered codes (of_number c)) ∙ ap (λ (t : TableMeaning). maps.get t (of_number c)) same ∙ codes_shown f.encoding (of_number c) in
       same_encoding (encoding_by (word_of f.encoding) codes) f.encoding (grind cases) (λ c. grind (cases, named c))
 
   -- the font of its states, with stubs for the Subrs that have none, is the font
-  pub font_again : (codes present : Numbered) (glyphs : Named) → numbered codes ≡ code_states f.encoding → maps.keys present ≡ maps.keys f.subrs →
+  pub font_again : (codes present : SparseArray) (glyphs : CharStrings) → numbered codes ≡ code_states f.encoding → maps.keys present ≡ maps.keys f.subrs →
       ((n : List ℕ) → maps.get glyphs n ≡ behind_mark (maps.get (name_states m f) n)) →
       font_by f.shell (word_of f.encoding) codes (map_values (λ i c. state_or_stub (numbered (used_subrs m f)) i) present) glyphs ≡ f
   font_again codes present glyphs same keys are = same_font _ f refl (encoding_again codes same)
@@ -196,10 +197,10 @@ module _ {O : Type 0} (m : Interpreter O) (f : FontValue) where
       let there = maps.contains_key-keys present i ∙ ap (list_any (eq_by_cmp nat_cmp i)) keys ∙ sym (maps.contains_key-keys f.subrs i) in
       let values = get-map_values nat_cmp_total nat_cmp-IsAntisymmetric (λ i c. state_or_stub (numbered (used_subrs m f)) i) present i in
       grind (cases, there, values, subr_again i))
-      (λ n. ap (λ (g : Named). maps.get g n) (glyphs_among m f glyphs are))
+      (λ n. ap (λ (g : CharStrings). maps.get g n) (glyphs_among m f glyphs are))
 
   -- so is a font that is made of its states
-  pub font_made : (s : StatesValue) → s ≡ states_of m f → (codes present subrs : Numbered) (glyphs : Named) →
+  pub font_made : (s : StatesValue) → s ≡ states_of m f → (codes present subrs : SparseArray) (glyphs : CharStrings) →
       numbered codes ≡ code_part s → maps.keys present ≡ s.0.1.1 → subrs ≡ map_values (λ i c. state_or_stub (subr_part s) i) present →
       ((n : List ℕ) → maps.get glyphs n ≡ behind_mark (maps.get (name_part s) n)) → font_by s.0.0 s.0.1.0 codes subrs glyphs ≡ f
   font_made s e codes present subrs glyphs same keys stubbed are =

@@ -3,7 +3,7 @@ use Rattle.std.proofs.Common.{◌≡◌, ℕ, Bool, true, false, ◌||◌, ◌&&
 use Rattle.std.proofs.{Common.{None}, lemmas.Bool.{and_from, or_left, or_right, or_cases, cases_Bool}, lemmas.List.Folds.{list_all-append, list_all-map, list_any-append}}
 use Rattle.std.proofs.lemmas.Map.Views.{any-filter_same}
 use Rattle.std.specs.{Cmp.{Equal-is, both_ways, tied_itself}, FinSet.{FinSet, slice_cmp-IsAntisymmetric}}
-use Rattle.t1_font.specs.FontValue.{name_cmp, Encoding, Word, Codes, Numbered}
+use Rattle.t1_font.specs.FontValue.{name_cmp, Encoding, Word, Codes, SparseArray}
 use Rattle.t1_algebra.{specs.Keep.{sets_of}, proofs.Words.{list_any, list_all, eq_by_cmp, IsTotalOrder, first_so, second_so, nat_list_cmp_total, IsAntisymmetric, nat_cmp-IsAntisymmetric, Names}}
 use Rattle.std.specs.FinSet as sets
 
@@ -13,7 +13,7 @@ pub cases_Option : {X : Type 0} (x : Option X) → (x ≡ None) ⊎ ((v : X) × 
 cases_Option None = inl refl
 cases_Option (Some v) = inr (v, refl)
 
-pub cases_Encoding : (e : Encoding) → ((v : List ℕ) × (e ≡ Word v)) ⊎ ((t : Numbered) × (e ≡ Codes t))
+pub cases_Encoding : (e : Encoding) → ((v : List ℕ) × (e ≡ Word v)) ⊎ ((t : SparseArray) × (e ≡ Codes t))
 cases_Encoding (Word v) = inl (v, refl)
 cases_Encoding (Codes t) = inr (t, refl)
 

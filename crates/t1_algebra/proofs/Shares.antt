@@ -2,7 +2,7 @@
 use Rattle.std.proofs.{Common.{◌≡◌, ◌↔◌, option_map, ℕ, Bool, true, not, map, sym, ◌∙◌, ap, true≢false, Option, Some, None, is_some, nat_cmp, arith}, lemmas.Bool.{not-false, and_parts}}
 use Rattle.std.proofs.lemmas.Simd.{map-map}
 use Rattle.std.specs.List.{find}
-use Rattle.t1_font.specs.{FontValue.{FontValue, SubrsShell, Numbered, declared_count}, FontModel.{word_of}, Maps.{map_values}, Encodings.{SameKind}}
+use Rattle.t1_font.specs.{FontValue.{FontValue, SubrsShell, SparseArray, declared_count}, FontModel.{word_of}, Maps.{map_values}, Encodings.{SameKind}}
 use Rattle.t1_font.proofs.MapLemmas.{Some_None, get-map_values, entries-map_values}
 use Rattle.t1_algebra.specs.Shared.{Shared, shared_of, ShellPart, all_parts, same_number, same_bool, same_word, same_words, same_part, differing_part}
 use Rattle.t1_algebra.proofs.{Words.{list_any, eq_by_cmp, nat_cmp_total, nat_list_cmp_total, nat_cmp-IsAntisymmetric, same_bytes}, Searching.{none_passes}, Sets.{name_same, tied, itself, cases}}
@@ -67,12 +67,12 @@ pub record Shares (f g : FontValue) : Type 0 where
   pub present : (i : ℕ) → maps.contains_key f.subrs i ≡ maps.contains_key g.subrs i
   pub kinds : SameKind f.encoding g.encoding
 
-keys_of : (m : Numbered) → maps.keys m ≡ maps.keys {X = ℕ} (map_values (λ i c. 0) m)
+keys_of : (m : SparseArray) → maps.keys m ≡ maps.keys {X = ℕ} (map_values (λ i c. 0) m)
 keys_of m =
     sym (ap (map (λ e. e.0)) (entries-map_values nat_cmp_total nat_cmp-IsAntisymmetric (λ i c. 0) m) ∙ map-map (λ e. e.0) (λ e. (e.0, 0)) (maps.entries m))
 
 -- maps that are present at the same indices have the same keys
-pub same_indices : (m n : Numbered) → ((i : ℕ) → maps.contains_key m i ≡ maps.contains_key n i) → maps.keys m ≡ maps.keys n
+pub same_indices : (m n : SparseArray) → ((i : ℕ) → maps.contains_key m i ≡ maps.contains_key n i) → maps.keys m ≡ maps.keys n
 same_indices m n h = keys_of m
     ∙ ap (λ (s : maps.FinMap nat_cmp ℕ). maps.keys s) (maps.same_map nat_cmp_total nat_cmp-IsAntisymmetric _ _ (λ i.
     grind (

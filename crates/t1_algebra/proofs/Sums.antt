@@ -1,8 +1,8 @@
 -- Sums over the entries of tables: what they weigh, and how many glyphs they have.
 use Rattle.std.proofs.Common.{◌≡◌, ℕ, ◌+◌, Bool, true, not, List, [], ◌∷◌, map, filter, length, refl, sym, ◌∙◌, ap, arith, Some}
 use Rattle.t1_join.specs.{Meaning.{Meaning}, TableMeaning.{TableMeaning, TablesAgree, joined_table}, TableLaws.{get_joined}}
-use Rattle.t1_font.specs.{Maps.{merged}, FontValue.{total, Named}}
-use Rattle.t1_font.proofs.{even_fonts.FilledWeights.{total_split}, CutEntries.{entries-retain}, MapLemmas.{entries-map_values, entries_all, get-retain, length_total}}
+use Rattle.t1_font.specs.{Maps.{merged}, FontValue.{total, CharStrings}}
+use Rattle.t1_font.proofs.{normal_fonts.FilledWeights.{total_split}, CutEntries.{entries-retain}, MapLemmas.{entries-map_values, entries_all, get-retain, length_total}}
 use Rattle.t1_algebra.specs.StateTables.{name_meaning, name_counts, glyph_table, names_table, AreSought}
 use Rattle.t1_algebra.proofs.{Words.{AllByRecursion, nat_list_cmp_total}, Sets.{name_same, cases}, Tables.{names_join, are_joined}}
 use Rattle.std.specs.FinMap as maps
@@ -24,7 +24,7 @@ module _ {K X : Type 0} (w : K → X → ℕ) where
   total_kept p es h = omega (arith, total_split w p es, total_none (λ e. not (p e)) es h)
 
 -- sought names add nothing to a sum over names
-pub names_total : (g : Named) (s : TableMeaning) → AreSought s → (w : Meaning → Meaning → ℕ) → ((n : Meaning) → w n [] ≡ 0) →
+pub names_total : (g : CharStrings) (s : TableMeaning) → AreSought s → (w : Meaning → Meaning → ℕ) → ((n : Meaning) → w n [] ≡ 0) →
     total w (maps.entries (names_table g s)) ≡ total (λ n c. w n (name_meaning (Some c))) (maps.entries g)
 names_total g s are w none =
     let own = glyph_table g in
@@ -39,12 +39,12 @@ names_total g s are w none =
     ∙ total_mapped (λ n. n) (λ c. name_meaning (Some c)) w (maps.entries g)
 
 -- so names have as many glyphs as the table of glyphs
-pub names_count : (g : Named) (s : TableMeaning) → AreSought s → total name_counts (maps.entries (names_table g s)) ≡ maps.len g
+pub names_count : (g : CharStrings) (s : TableMeaning) → AreSought s → total name_counts (maps.entries (names_table g s)) ≡ maps.len g
 names_count g s are = names_total g s are name_counts (λ n. refl) ∙ length_total (maps.entries g) ∙ sym (maps.len-entries g)
 
 -- and the sum over joined names is that over the glyphs of both
-pub joined_total : (g : Named) (s : TableMeaning) → AreSought s → (t : TableMeaning) → names_table g s ≡ t →
-    (h : Named) (r : TableMeaning) → AreSought r → (u : TableMeaning) → names_table h r ≡ u → TablesAgree t u
+pub joined_total : (g : CharStrings) (s : TableMeaning) → AreSought s → (t : TableMeaning) → names_table g s ≡ t →
+    (h : CharStrings) (r : TableMeaning) → AreSought r → (u : TableMeaning) → names_table h r ≡ u → TablesAgree t u
     → (w : Meaning → Meaning → ℕ) → ((n : Meaning) → w n [] ≡ 0) →
     total w (maps.entries (joined_table t u)) ≡ total (λ n c. w n (name_meaning (Some c))) (maps.entries (merged g h))
 joined_total g s are t is h r seek u so a w none =
@@ -53,7 +53,7 @@ joined_total g s are t is h r seek u so a w none =
     ∙ names_total (merged g h) (joined_table s r) sought w none
 
 -- and joined names have as many glyphs as both tables of glyphs together
-pub joined_count : (g : Named) (s : TableMeaning) → AreSought s → (t : TableMeaning) → names_table g s ≡ t →
-    (h : Named) (r : TableMeaning) → AreSought r → (u : TableMeaning) → names_table h r ≡ u → TablesAgree t u
+pub joined_count : (g : CharStrings) (s : TableMeaning) → AreSought s → (t : TableMeaning) → names_table g s ≡ t →
+    (h : CharStrings) (r : TableMeaning) → AreSought r → (u : TableMeaning) → names_table h r ≡ u → TablesAgree t u
     → total name_counts (maps.entries (joined_table t u)) ≡ length (maps.entries (merged g h))
 joined_count g s are t is h r seek u so a = joined_total g s are t is h r seek u so a name_counts (λ n. refl) ∙ length_total (maps.entries (merged g h))

@@ -5,7 +5,7 @@ use Rattle.std.specs.{Ordering.{is_eq, ordering_then}, FinMap.{find, is_sorted},
 use Rattle.t1_join.proofs.{Conflicts.{Says, both_agree, says_first}, Sorted.{map_of}}
 use Rattle.t1_join.specs.{TableMeaning.{TableMeaning, Rises, entry_meanings, joined_table, TablesAgree}, Meaning.{Meaning, meaning_cmp, of_number, by_number_law, same_meaning}}
 use Rattle.t1_join.specs.{Join.{joined_state, State, states_agree, StatesAgree}, TableLaws.{get_joined, same_table}, StateLaws.{same_meaning-true, same_meaning-self}}
-use Rattle.t1_font.{specs.{Maps.{merged}, Joins.{differing_name}, Lent.{lent_number}, FontValue.{Numbered, Named, name_cmp, Encoding, Word, Codes}}, proofs.MapLemmas.{get-map_values}}
+use Rattle.t1_font.{specs.{Maps.{merged}, Joins.{differing_name}, Lent.{lent_number}, FontValue.{SparseArray, CharStrings, name_cmp, Encoding, Word, Codes}}, proofs.MapLemmas.{get-map_values}}
 use Rattle.t1_algebra.specs.{Conflicts.{agrees}, StateTables.{numbered, name_meaning, AreNameStates, behind_mark, glyph_table, names_table, AreSought, code_states}, Searches.{IsLowest}}
 use Rattle.t1_algebra.specs.{NameStates.{is_sought_in, charstrings_differ, one_lacks}, States.{Agree, code_state, joined_option}}
 use Rattle.t1_algebra.proofs.{Words.{list_any, eq_by_cmp, nat_cmp_total, nat_list_cmp_total, same_bytes}, Maps.{get-merged}, Sets.{cases_Option, name_same, cases}, Shares.{bytes_decide}}
@@ -66,7 +66,7 @@ numbers_rise es t is = subst T (sorted_keyed es) (subst (λ (es : List (Meaning 
 pub numbers_again : (es : List (ℕ × List ℕ)) (t : TableMeaning) → keyed es ≡ maps.entries t → numbered (maps.from_sorted {R = nat_cmp} es) ≡ t
 numbers_again es t is = map_of _ t (ap keyed (maps.entries-from_sorted nat_cmp es (numbers_rise es t is)) ∙ is)
 
-module _ (m : Numbered) where
+module _ (m : SparseArray) where
   -- the entries of a table by number are those of its map
   pub entries-numbered : maps.entries (numbered m) ≡ keyed (maps.entries m)
   entries-numbered = maps.entries-from_sorted meaning_cmp (keyed (maps.entries m)) (subst T (sym (sorted_keyed (maps.entries m))) (maps.entries_sorted m))
@@ -76,14 +76,14 @@ module _ (m : Numbered) where
   get-numbered q = grind (arith, maps.get-entries (numbered m) q, entries-numbered, find_keyed (maps.entries m) q, cases_key q, maps.get-entries m)
 
 -- a table with the values of a map is the map as a table
-pub numbered_is : (t : TableMeaning) (m : Numbered) → ((q : Meaning) → maps.get t q ≡ at_number (maps.get m) q) → t ≡ numbered m
+pub numbered_is : (t : TableMeaning) (m : SparseArray) → ((q : Meaning) → maps.get t q ≡ at_number (maps.get m) q) → t ≡ numbered m
 numbered_is t m h = same_table t (numbered m) (λ q. h q ∙ sym (get-numbered m q))
 
 pub numbered-empty : maps.empty ≡ numbered maps.empty
 numbered-empty =
     numbered_is maps.empty maps.empty (λ q. grind (arith, maps.get-empty {X = Meaning} meaning_cmp q, maps.get-empty {X = List ℕ} nat_cmp, cases_key q))
 
-pub numbered-insert : (m : Numbered) (n : ℕ) (v : List ℕ) → maps.insert (numbered m) (of_number n) v ≡ numbered (maps.insert m n v)
+pub numbered-insert : (m : SparseArray) (n : ℕ) (v : List ℕ) → maps.insert (numbered m) (of_number n) v ≡ numbered (maps.insert m n v)
 numbered-insert m n v = numbered_is _ (maps.insert m n v) (λ q. grind
     (cases, maps.get-insert nat_list_cmp_total (numbered m) (of_number n) v q, get-numbered m q, cases_key q, by_number, maps.get-insert nat_cmp_total m n v))
 
@@ -116,7 +116,7 @@ marked x = option_map (λ c. name_meaning (Some c)) x
 -- ---- what stands at a name
 
 -- at a name stands its glyph, or else that it is sought
-pub get-name : (g : Named) (s : TableMeaning) (n : Meaning) → maps.get (names_table g s) n ≡ joined_state (marked (maps.get g n)) (maps.get s n)
+pub get-name : (g : CharStrings) (s : TableMeaning) (n : Meaning) → maps.get (names_table g s) n ≡ joined_state (marked (maps.get g n)) (maps.get s n)
 get-name g s n =
     get_joined (glyph_table g) s n ∙ ap (λ x. joined_state x (maps.get s n)) (get-map_values nat_list_cmp_total name_same (λ n c. name_meaning (Some c)) g n)
 
@@ -126,7 +126,7 @@ state_of (Some c) y h = (Some (Some c), refl)
 state_of None None h = (None, refl)
 state_of None (Some v) h = (Some None, ap Some (h v refl))
 
-module _ (g : Named) (s : TableMeaning) (are : AreSought s) (t : TableMeaning) (is : names_table g s ≡ t) (n : Meaning) where
+module _ (g : CharStrings) (s : TableMeaning) (are : AreSought s) (t : TableMeaning) (is : names_table g s ≡ t) (n : Meaning) where
   at : maps.get t n ≡ joined_state (marked (maps.get g n)) (maps.get s n)
   at = sym (ap (λ (t : TableMeaning). maps.get t n) is) ∙ get-name g s n
 
@@ -172,7 +172,7 @@ agrees_so : (x y : Option (List ℕ)) → agrees x y ≡ both_agree bytes_eq x y
 agrees_so x y = grind (cases, is_eq-slice_cmp)
 
 -- what a pass over two tables of glyphs meets is the lowest name at which their charstrings differ
-pub lowest_met : (g h : Named) (p : List ℕ → Bool) → ((n : List ℕ) → p n ≡ not (agrees (maps.get g n) (maps.get h n))) →
+pub lowest_met : (g h : CharStrings) (p : List ℕ → Bool) → ((n : List ℕ) → p n ≡ not (agrees (maps.get g n) (maps.get h n))) →
     (r : Option (List ℕ)) → r ≡ differing_name g h → IsLowest name_cmp p r
 lowest_met g h p is r e = lowest r (subst (Says name_cmp agree) (sym e)
     (says_first nat_list_cmp_total bytes_eq (maps.entries g) (maps.entries h) (maps.entries_sorted g) (maps.entries_sorted h)))
@@ -203,8 +203,8 @@ module _ (p : List ℕ → Bool) where
       IsLowest name_cmp p (option_map (λ n. n.now) r) → ((n : List ℕ) → p n ≡ false) → b ≡ true
   none_is r b e h k = grind (cases, e, h, k)
 
-module _ (g : Named) (s : TableMeaning) (are : AreSought s) (t : TableMeaning) (is : names_table g s ≡ t)
-    (h : Named) (r : TableMeaning) (seek : AreSought r) (u : TableMeaning) (so : names_table h r ≡ u) where
+module _ (g : CharStrings) (s : TableMeaning) (are : AreSought s) (t : TableMeaning) (is : names_table g s ≡ t)
+    (h : CharStrings) (r : TableMeaning) (seek : AreSought r) (u : TableMeaning) (so : names_table h r ≡ u) where
   -- what a pass over both tables of glyphs meets is the lowest name at which the states are charstrings that differ
   pub lowest_differing : (q : Option (List ℕ)) → q ≡ differing_name g h → IsLowest name_cmp (λ n. charstrings_differ (maps.get t n) (maps.get u n)) q
   lowest_differing = lowest_met g h (λ n. charstrings_differ (maps.get t n) (maps.get u n))
@@ -215,22 +215,22 @@ module _ (g : Named) (s : TableMeaning) (are : AreSought s) (t : TableMeaning) (
   sought_agree n = grind (cases, are n, seek n, same_meaning-self)
 
   -- the table of joined glyphs and joined sought names is the joined table
-  pub names_join : (j : Named) (k : TableMeaning) → j ≡ merged g h → k ≡ joined_table s r → TablesAgree t u → names_table j k ≡ joined_table t u
+  pub names_join : (j : CharStrings) (k : TableMeaning) → j ≡ merged g h → k ≡ joined_table s r → TablesAgree t u → names_table j k ≡ joined_table t u
   names_join j k ej ek a = same_table (names_table j k) (joined_table t u) (λ n.
       let merges = get-merged nat_list_cmp_total name_same g h n in
       grind (cases, get-name j k n, ej, ek, merges, get_joined s r n, get_joined t u n, at g s are t is n, at h r seek u so n, a n, are n, same_meaning-true))
 
   -- what one pass that joins both tables of glyphs answers
-  abbrev pub Passed : Option Named → Type 0
+  abbrev pub Passed : Option CharStrings → Type 0
   Passed o = MatchOption o (is_some (differing_name g h) ≡ true) (λ m. (m ≡ merged g h) × (differing_name g h ≡ None))
 
   -- if it answers nothing, the tables don't agree
-  pub not_passed : (o : Option Named) → o ≡ None → Passed o → ¬ TablesAgree t u
+  pub not_passed : (o : Option CharStrings) → o ≡ None → Passed o → ¬ TablesAgree t u
   not_passed o e m k =
       not_none _ _ (MatchOption-at_none _ _ e m) (lowest_differing _ refl) ((names_agree t u (state_in g s are t is) (state_in h r seek u so)).0 k).0
 
   -- if it answers a table and no name is lacking, the tables agree, and with the joined sought names it is the joined table
-  pub passed : (o : Option Named) (j : Named) → o ≡ Some j → Passed o → ((n : Meaning) → one_lacks (maps.get t n) (maps.get u n) ≡ false) →
+  pub passed : (o : Option CharStrings) (j : CharStrings) → o ≡ Some j → Passed o → ((n : Meaning) → one_lacks (maps.get t n) (maps.get u n) ≡ false) →
       (k : TableMeaning) → k ≡ joined_table s r → TablesAgree t u × (names_table j k ≡ joined_table t u)
   passed o j e m free k so_far =
       let p = MatchOption-at_some _ _ j e m in

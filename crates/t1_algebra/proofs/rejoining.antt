@@ -1,7 +1,7 @@
-pub mod EvenCuts
+pub mod NormalCuts
 pub mod Truncated
 pub mod Lacking
 pub mod FilledStates
 pub mod Rejoined
-pub mod Evened
+pub mod Normalized
 pub mod Boxed

@@ -14,10 +14,10 @@ pub data Making : Type 0 where
   Again : Form → Making → Making
 
 -- the sets of names, in the order and grouping of the merges
-abbrev pub sets_of : Making → Grouping Names
-sets_of (Subset a form) = one a
-sets_of (Merge s t) = two (sets_of s) (sets_of t)
-sets_of (Again form s) = sets_of s
+abbrev pub grouped_sets : Making → Grouping Names
+grouped_sets (Subset a form) = one a
+grouped_sets (Merge s t) = two (grouped_sets s) (grouped_sets t)
+grouped_sets (Again form s) = grouped_sets s
 
 -- each file on the way can be told from a PFB: it is one, or the font's head doesn't begin with byte 128
 abbrev pub FormsFit : FontValue → Making → Type 0
@@ -42,5 +42,5 @@ pub record ComesToSubset (f : FontValue) (m : Making) (a : Names) : Type 0 where
 -- them, in every order and grouping, comes to the subset over all the names.
 abbrev pub Headline : Type 0
 Headline = (file : List ℕ) (f : FontValue) → AreBytes file → Spells file f →
-    (all : List Names) (m : Making) → IsPermutation all (leaves (sets_of m)) → EachLeaf (IsOf f) (sets_of m) → FormsFit f m →
+    (all : List Names) (m : Making) → IsPermutation all (leaves (grouped_sets m)) → EachLeaf (IsOf f) (grouped_sets m) → FormsFit f m →
     ComesToSubset f m (union_all all)

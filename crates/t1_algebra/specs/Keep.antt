@@ -1,6 +1,6 @@
 -- The names and Subrs that a set of names needs, and the subset.
 use Rattle.std.specs.{Prelude.{◌≡◌, ℕ, Bool, true, not, ◌&&◌, ◌||◌, List, [], ◌∷◌, ◌++◌, map, filter, flat_map}, List.{list_all}, Option.{unwrap_or}}
-use Rattle.t1_font.specs.{FontValue.{FontValue, Numbered, notdef}, Cut.{restrict}}
+use Rattle.t1_font.specs.{FontValue.{FontValue, SparseArray, notdef}, Cut.{restrict}}
 use Rattle.t1_algebra.specs.Interpreter.{Interpreter, Names, Numbers}
 use Rattle.std.specs.FinMap as maps
 use Rattle.std.specs.FinSet as sets
@@ -24,7 +24,7 @@ abbrev pub IsOf : FontValue → Names → Type 0
 IsOf f a = (n : List ℕ) → sets.contains a n ≡ true → has f n ≡ true
 
 -- the components that a charstring names: of an accented glyph, its base and its accent
-abbrev pub components : {O : Type 0} → Interpreter O → Numbered → List ℕ → List (List ℕ)
+abbrev pub components : {O : Type 0} → Interpreter O → SparseArray → List ℕ → List (List ℕ)
 components m s c = m.names (m.direct s c)
 
 module _ {O : Type 0} (m : Interpreter O) (f : FontValue) where

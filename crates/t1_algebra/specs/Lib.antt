@@ -15,7 +15,7 @@ pub mod StateLaws
 pub mod NameStates
 pub mod Laws
 pub mod Headline
-pub mod Evened
+pub mod Normalized
 pub mod Merges
 pub mod Rejoins
 pub mod Untested

@@ -2,7 +2,7 @@
 use Rattle.std.specs.{Prelude.{◌≡◌, ℕ, true, List, ◌++◌}, List.{Contains}, Ordering.{nat_cmp}, Cmp.{nat_cmp_total}}
 use Rattle.std.proofs.{Common.{sym, ◌∙◌, ap}, lemmas.Map.Views.{list_any-from_Contains}, lemmas.Cmp.{eq_by_cmp_equiv}}
 use Rattle.t1_run.{specs.{State.{Ending}, Run.{direct, direct3, exec}, Drawings.{parts_of}}, proofs.Locality.{local}}
-use Rattle.t1_font.specs.FontValue.{Numbered}
+use Rattle.t1_font.specs.FontValue.{SparseArray}
 use Rattle.t1_algebra.specs.Interpreter.{Interpreter, Numbers}
 use Rattle.std.specs.FinMap as maps
 use Rattle.std.specs.FinSet as sets
@@ -20,7 +20,7 @@ abbrev pub Endings : Type 0
 Endings = Ending × Ending
 
 -- what a charstring comes to over these Subrs, by both answers to hint replacement
-abbrev pub endings : Numbered → List ℕ → Endings
+abbrev pub endings : SparseArray → List ℕ → Endings
 endings s c = (direct (maps.get s) c, direct3 (maps.get s) c)
 
 -- the components that either ending names
@@ -28,7 +28,7 @@ abbrev pub names_of_both : Endings → List (List ℕ)
 names_of_both ends = parts_of ends.0 ++ parts_of ends.1
 
 -- a charstring comes to the same over two tables of Subrs that agree at what it executes
-pub profile_local : (s t : Numbered) (c : List ℕ) → ((i : ℕ) → sets.contains (set_of (exec (maps.get s) c)) i ≡ true → maps.get t i ≡ maps.get s i)
+pub profile_local : (s t : SparseArray) (c : List ℕ) → ((i : ℕ) → sets.contains (set_of (exec (maps.get s) c)) i ≡ true → maps.get t i ≡ maps.get s i)
     → (endings t c ≡ endings s c) × (set_of (exec (maps.get t) c) ≡ set_of (exec (maps.get s) c))
 profile_local s t c h =
     let l = local (maps.get s) (maps.get t) c (λ i k. sym (h i (in_set_of (exec (maps.get s) c) i k))) in (λ i. (l.0 i, l.1 i), ap set_of l.2)

@@ -1,7 +1,7 @@
 -- The states of a font as tables, and what they weigh.
 use Rattle.std.specs.{Prelude.{◌≡◌, ◌≤◌, ℕ, ◌+◌, ◌*◌, ◌-◌, List, [], ◌∷◌, map, flat_map, length, Option, Some, None, is_some, unwrap_or}, Coded.{Coded, coded×}, Option.{option_map}}
 use Rattle.t1_join.specs.{Meaning.{Meaning, of_number}, Products.{SameJoin, BothJoin, FittingAgree, FittingJoin}, TableMeaning.{TableMeaning, TablesJoin, table_code, joined_table}}
-use Rattle.t1_font.specs.{FontValue.{FontValue, Encoding, Word, Codes, Numbered, Named, total, texts_weight, weight_limit, count_limit, names_in}, Maps.{map_values}, Cut.{stub}}
+use Rattle.t1_font.specs.{FontValue.{FontValue, Encoding, Word, Codes, SparseArray, CharStrings, total, texts_weight, weight_limit, count_limit, names_in}, Maps.{map_values}, Cut.{stub}}
 use Rattle.t1_algebra.specs.{Interpreter.{Interpreter}, States.{named_at, subr_state}, Shared.{Shared, shared_code, shared_of}}
 use Rattle.std.specs.FinMap as maps
 
@@ -28,7 +28,7 @@ states_code = coded× shared_code (coded× table_code (coded× table_code table_
 -- ---- the states of a font
 
 -- a map by number, as a table
-abbrev pub numbered : Numbered → TableMeaning
+abbrev pub numbered : SparseArray → TableMeaning
 numbered m = maps.from_sorted (map (λ e. (of_number e.0, e.1)) (maps.entries m))
 
 -- the meaning of a name's state: nothing if the name is sought, else a mark and the charstring
@@ -47,11 +47,11 @@ behind_mark (Some []) = None
 behind_mark (Some (mark ∷ c)) = Some c
 
 -- the names that have glyphs, as a table
-abbrev pub glyph_table : Named → TableMeaning
+abbrev pub glyph_table : CharStrings → TableMeaning
 glyph_table g = map_values (λ n c. name_meaning (Some c)) g
 
 -- the table of glyphs and of sought names: a name that has a glyph counts as one of these
-abbrev pub names_table : Named → TableMeaning → TableMeaning
+abbrev pub names_table : CharStrings → TableMeaning → TableMeaning
 names_table g s = joined_table (glyph_table g) s
 
 -- each name of the table is sought
@@ -65,7 +65,7 @@ code_states (Codes t) = numbered t
 
 module _ {O : Type 0} (m : Interpreter O) (f : FontValue) where
   -- the Subrs whose state is not the bottom
-  abbrev pub used_subrs : Numbered
+  abbrev pub used_subrs : SparseArray
   used_subrs = maps.retain_keys f.subrs (λ i. is_some (subr_state m f i))
 
   -- all components that the glyphs name

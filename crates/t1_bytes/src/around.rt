@@ -1,8 +1,7 @@
 //! A file around its cipher, made in the cipher's own vector.
 
 ghost use Rattle.std.specs.Prelude.{◌≡◌, ◌++◌, ◌≤◌, ◌-◌, ◌^◌, ℕ, List, min, length, OnOk, IfOk};
-ghost use Rattle.t1_bytes.specs.Limits.{file_limit};
-ghost use Rattle.t1_bytes.specs.Texts.{file_text, hex_lines, trailer};
+ghost use Rattle.t1_bytes.specs.{Limits.{file_limit}, Texts.{file_text, hex_lines, trailer}};
 
 use crate::form::Form;
 use crate::hexadecimal::{lines_len, spread_hex_lines, trailer};

@@ -2,8 +2,7 @@
 //! before it, times weights, so that none waits for the one before it.
 
 ghost use Rattle.std.specs.Prelude.{◌≡◌, ◌≤◌, ◌++◌, length, take, drop};
-ghost use Rattle.t1_bytes.specs.Cipher.{decrypted};
-ghost use Rattle.t1_bytes.specs.Keys.{keys_of, key_behind, sums_from};
+ghost use Rattle.t1_bytes.specs.{Cipher.{decrypted}, Keys.{keys_of, key_behind, sums_from}};
 
 use std::simd::prelude::*;
 

@@ -1,8 +1,7 @@
 //! The cipher of eexec and of charstrings (Adobe Type 1 Font Format 1.1, chapter 7).
 
-ghost use Rattle.std.specs.Prelude.{◌≡◌, ◌≤◌, ◌+◌, ◌*◌, ◌%◌, ◌++◌, take, drop, length, IfOk, IfErr};
-ghost use Rattle.t1_bytes.specs.declared.fault.BytesFault.TheVariants.{Memory};
-ghost use Rattle.t1_bytes.specs.Cipher.{next_key, Enciphers, encrypted, decrypted, sealed, opened};
+ghost use Rattle.std.specs.Prelude.{◌≡◌, ◌+◌, ◌*◌, ◌%◌, ◌++◌, take, drop, IfOk, IfErr};
+ghost use Rattle.t1_bytes.specs.{declared.fault.BytesFault.TheVariants.{Memory}, Cipher.{next_key, Enciphers, encrypted, decrypted, sealed, opened}};
 ghost use Rattle.t1_bytes.specs.Keys.{key_behind};
 
 use crate::blocks::decrypt_blocks;
@@ -60,7 +59,6 @@ pub(crate) fn key_from(ahead: u32, cipher: u8) -> u32
 
 /// Encrypts the bytes from a place on, under a cipher whose key is `key` there, and answers the key behind them.
 pub(crate) fn encrypt_from(bytes: &mut [u8], from: usize, key: u16) -> u16
-    requires { from ≤ length bytes.old }
     ensures value { bytes.new ≡ take from bytes.old ++ encrypted key (drop from bytes.old) }
     ensures key { result ≡ key_behind key (drop from bytes.new) }
 {

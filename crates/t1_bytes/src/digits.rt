@@ -7,8 +7,7 @@
 
 ghost use Rattle.std.specs.Prelude.{◌≡◌, ◌++◌, ◌<◌, ◌≤◌, [], ◌∷◌, Ok, length, IfOk, IfErr, IfSome, MatchOption};
 ghost use Rattle.hex.specs.Hex.{is_hex_digit};
-ghost use Rattle.t1_bytes.specs.Eexec.{digit_value, paired, all_hex, digits_ahead, spelled_ahead};
-ghost use Rattle.t1_bytes.specs.Faults.{Answers};
+ghost use Rattle.t1_bytes.specs.{Eexec.{digit_value, paired, all_hex, digits_ahead, spelled_ahead}, Faults.{Answers}};
 ghost use Rattle.t1_bytes.specs.declared.fault.BytesFault.TheVariants.{Memory};
 
 use crate::fault::BytesFault;

@@ -1,14 +1,10 @@
 //! The end of the clear text, and the cipher after it (Adobe Type 1 Font Format 1.1, chapter 7).
 
-ghost use Rattle.std.specs.Prelude.{◌≡◌, ◌≤◌, ℕ, List, Some, Ok, Err, IfOk, MatchResult, length, take_while};
-ghost use Rattle.std.specs.Option.{option_map};
-ghost use Rattle.t1_grammar.specs.Grammar.{run, first, exact};
-ghost use Rattle.t1_grammar.specs.Formats.{if_ok, or_fault};
+ghost use Rattle.std.specs.{Prelude.{◌≡◌, ◌≤◌, ℕ, List, Some, Ok, Err, IfOk, MatchResult, length, take_while}, Option.{option_map}};
+ghost use Rattle.t1_grammar.specs.{Grammar.{run, first, exact}, Formats.{if_ok, or_fault}};
 ghost use Rattle.t1_bytes.specs.Eexec.{is_blank, blank_comes, eexec_marker, is_hex_text, hex_or_white, hex_text, cipher_text};
-ghost use Rattle.t1_bytes.specs.Split.{split_view, cipher_in, last_bytes, IsSplit, SplitFails, split_of};
-ghost use Rattle.t1_bytes.specs.Faults.{Answers, OrMemory};
-ghost use Rattle.t1_bytes.specs.declared.fault.BytesFault.{BytesFault};
-ghost use Rattle.t1_bytes.specs.declared.fault.BytesFault.TheVariants.{ShortCipher};
+ghost use Rattle.t1_bytes.specs.{Split.{split_view, cipher_in, last_bytes, IsSplit, SplitFails, split_of}, Faults.{Answers, OrMemory}};
+ghost use Rattle.t1_bytes.specs.{declared.fault.BytesFault.{BytesFault}, declared.fault.BytesFault.TheVariants.{ShortCipher}};
 
 use crate::digits::{hex_bytes, is_hex_digit};
 use crate::fault::BytesFault;

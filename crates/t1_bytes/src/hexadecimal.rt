@@ -1,9 +1,8 @@
 //! Lines of hexadecimal digits, and the trailer that follows them.
 
-ghost use Rattle.std.specs.Prelude.{◌≡◌, ◌+◌, ◌-◌, ◌*◌, ◌^◌, ◌++◌, ◌≤◌, ◌<◌, ℕ, List, [], ◌∷◌, min, length, take, drop, OnOk, OnErr, IfOk, IfErr};
+ghost use Rattle.std.specs.Prelude.{◌≡◌, ◌+◌, ◌-◌, ◌*◌, ◌^◌, ◌++◌, ◌≤◌, ◌<◌, ℕ, List, ◌∷◌, min, length, take, drop, OnOk, OnErr, IfOk, IfErr};
 ghost use Rattle.hex.specs.Hex.{encode_lower};
-ghost use Rattle.t1_bytes.specs.declared.fault.BytesFault.TheVariants.{Memory};
-ghost use Rattle.t1_bytes.specs.Texts.{hex_lines, trailer};
+ghost use Rattle.t1_bytes.specs.{declared.fault.BytesFault.TheVariants.{Memory}, Texts.{hex_lines, trailer}};
 
 use crate::fault::BytesFault;
 use std::alloc::{AllocError, Global};

@@ -1,7 +1,8 @@
 //! Laws of containers and ciphers, over their definitions alone. A law is a function that does
 //! nothing: its clause is what is proved.
 
-ghost use Rattle.t1_bytes.specs.Laws.{ReadsAsSpelled, UndoEachOther, OneCipher, OpensSealed, OneFlatText, FlattensWritten, OneSplit, LacksEverywhere, ReadsHexLines, ReadsBinary};
+ghost use Rattle.t1_bytes.specs.Laws.{ReadsAsSpelled, UndoEachOther, OneCipher, OpensSealed, OneFlatText, FlattensWritten, OneSplit, LacksEverywhere};
+ghost use Rattle.t1_bytes.specs.Laws.{ReadsHexLines, ReadsBinary};
 
 /// What is read of segments and of a flat text is what is spelled, and vice versa.
 pub fn reads_as_spelled()

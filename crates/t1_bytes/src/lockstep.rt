@@ -1,8 +1,7 @@
 //! Two ciphers at once.
 
 ghost use Rattle.std.specs.Prelude.{◌≡◌, ◌+◌, ◌*◌, ◌%◌};
-ghost use Rattle.t1_bytes.specs.Cipher.{encrypted};
-ghost use Rattle.t1_bytes.specs.Keys.{key_behind};
+ghost use Rattle.t1_bytes.specs.{Cipher.{encrypted}, Keys.{key_behind}};
 
 use crate::cipher::{FACTOR, SUMMAND, ahead_of, encrypt_from, key_from};
 

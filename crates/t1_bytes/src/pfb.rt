@@ -1,14 +1,9 @@
 //! PFB segments (Technical Note 5040).
 
-ghost use Rattle.std.specs.Prelude.{◌≡◌, ◌++◌, ◌∷◌, ◌≤◌, ◌<◌, ◌^◌, ℕ, List, length, Ok, Err, MatchResult, OnOk, IfOk, IfErr};
-ghost use Rattle.std.specs.Option.{option_map};
-ghost use Rattle.t1_bytes.specs.declared.fault.BytesFault.TheVariants.{Memory};
-ghost use Rattle.t1_bytes.specs.Segments.{segment, end};
-ghost use Rattle.t1_bytes.specs.FlatText.{starts_segment, IsFlat, IsBad, flat_of};
-ghost use Rattle.t1_bytes.specs.Limits.{file_limit};
+ghost use Rattle.std.specs.{Prelude.{◌≡◌, ◌++◌, ◌∷◌, ◌≤◌, ◌<◌, ◌^◌, ℕ, List, length, Ok, Err, MatchResult, OnOk, IfOk, IfErr}, Option.{option_map}};
+ghost use Rattle.t1_bytes.specs.{declared.fault.BytesFault.TheVariants.{Memory}, Segments.{segment, end}, FlatText.{starts_segment, IsFlat, IsBad, flat_of}};
+ghost use Rattle.t1_bytes.specs.{Limits.{file_limit}, Texts.{segment_text, pfb_text}, Faults.{Gives, Refuses}};
 ghost use Rattle.byteorder.specs.Endian.{little_bytes};
-ghost use Rattle.t1_bytes.specs.Texts.{segment_text, pfb_text};
-ghost use Rattle.t1_bytes.specs.Faults.{Gives, Refuses};
 
 use crate::fault::BytesFault;
 use crate::texts::{count_at, fixed_at};

@@ -1,8 +1,7 @@
 //! Reading from the front of bytes. A reader answers what it read and what stands after it; both
 //! are parts of the bytes that it was given.
 
-ghost use Rattle.std.specs.Prelude.{◌≡◌, ◌≤◌, ◌+◌, length, take_while, Some, IfSome, MatchOption};
-ghost use Rattle.std.specs.Option.{option_map};
+ghost use Rattle.std.specs.{Prelude.{◌≡◌, ◌≤◌, ◌+◌, length, take_while, Some, IfSome, MatchOption}, Option.{option_map}};
 ghost use Rattle.bstr.specs.Find.{OccursAt, Nowhere};
 ghost use Rattle.t1_grammar.specs.Grammar.{count, fixed};
 ghost use Rattle.t1_bytes.specs.White.{is_white, white, gap};

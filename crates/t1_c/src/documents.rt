@@ -1,9 +1,7 @@
 //! The calls over documents, before what they make is given.
 ghost use Rattle.std.specs.Prelude.{◌≡◌, length, None, Ok, IfOk, IfErr};
 ghost use Rattle.t1_subset.specs.NameSets.{lent};
-ghost use Rattle.t1_cmd.specs.Files.{OfFiles, RefusesFiles};
-ghost use Rattle.t1_cmd.specs.Documents.{text_input, PoolsTo};
-ghost use Rattle.t1_cmd.specs.FontPlaces.{ListsTo};
+ghost use Rattle.t1_cmd.specs.{Files.{OfFiles, RefusesFiles}, Documents.{text_input, PoolsTo}, FontPlaces.{ListsTo}};
 ghost use Rattle.t1_cmd.specs.declared.faults.Reason.TheVariants.{Memory};
 ghost use Rattle.t1_c.specs.Gives.{place_labels};
 

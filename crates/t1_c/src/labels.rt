@@ -1,10 +1,10 @@
 //! The labels of documents, which have no names here: their places.
-ghost use Rattle.std.specs.Prelude.{◌≡◌, ◌++◌, ◌∷◌, [], map, IfOk, OnOk};
-ghost use Rattle.std.specs.Fmt.{decimal};
+ghost use Rattle.std.specs.{Prelude.{◌≡◌, map, IfOk}, Fmt.{decimal}};
 ghost use Rattle.t1_subset.specs.NameSets.{lent};
 ghost use Rattle.t1_c.specs.Gives.{place_labels};
 
 use std::alloc::{AllocError, Global};
+use t1_join::push_item;
 
 // The label of a place.
 fn label(alloc: Global, place: usize) -> Result<Vec<u8>, AllocError>
@@ -14,16 +14,6 @@ fn label(alloc: Global, place: usize) -> Result<Vec<u8>, AllocError>
     Ok(text.into_bytes())
 }
 
-// One more label.
-fn keep(labels: &mut Vec<Vec<u8>>, label: Vec<u8>) -> Result<(), AllocError>
-    ensures { OnOk result (map (λ v. v.items) labels.new.items ≡ map (λ v. v.items) labels.old.items ++ label.items ∷ []) }
-{
-    match labels.push(label) {
-        Ok(_) => Ok(()),
-        Err(_) => Err(AllocError),
-    }
-}
-
 /// The labels of so many documents.
 pub(crate) fn place_labels(alloc: Global, count: usize) -> Result<Vec<Vec<u8>>, AllocError>
     ensures { IfOk result (λ v. map (λ t. t.items) v.items ≡ place_labels count) }
@@ -31,7 +21,7 @@ pub(crate) fn place_labels(alloc: Global, count: usize) -> Result<Vec<Vec<u8>>, 
     let mut labels = Vec::with_capacity(alloc, count)?;
     'labels: for place in 0..count {
         let label = label(alloc, place)?;
-        keep(&mut labels, label)?;
+        push_item(&mut labels, label)?;
     }
     Ok(labels)
 }

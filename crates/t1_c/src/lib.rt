@@ -15,23 +15,11 @@ mod tests;
 
 ghost use Rattle.std.specs.Prelude.{◌≡◌, ◌∷◌, [], Some, false, length, true};
 ghost use Rattle.t1_subset.specs.NameSets.{lent};
-ghost use Rattle.t1_cmd.specs.CheckText.{check_answer};
-ghost use Rattle.t1_cmd.specs.ListText.{list_answer};
-ghost use Rattle.t1_cmd.specs.FullText.{full_answer};
-ghost use Rattle.t1_cmd.specs.DrawingText.{show_answer};
-ghost use Rattle.t1_cmd.specs.Fonts.{font_input, mended_input, file_answer};
-ghost use Rattle.t1_cmd.specs.Mends.{mends_answer};
-ghost use Rattle.t1_cmd.specs.Subsets.{subset_answer, subset_with_codes};
-ghost use Rattle.t1_cmd.specs.Budgets.{SubsetsWithin, MergesWithin, RejoinsWithin, DiffersWithin};
-ghost use Rattle.t1_cmd.specs.Mergers.{MergesToFile};
-ghost use Rattle.t1_cmd.specs.Rejoins.{RejoinsTo};
-ghost use Rattle.t1_cmd.specs.Diffs.{DiffersBy};
-ghost use Rattle.t1_cmd.specs.Listings.{listing_input, JoinsTo};
-ghost use Rattle.t1_cmd.specs.WrittenSubsets.{OfUnion};
-ghost use Rattle.t1_cmd.specs.Cuts.{OfRejoined};
-ghost use Rattle.t1_cmd.specs.Documents.{text_input, PoolsTo};
-ghost use Rattle.t1_cmd.specs.FontPlaces.{ListsTo};
-ghost use Rattle.t1_cmd.specs.Extracts.{ExtractsTo};
+ghost use Rattle.t1_cmd.specs.{CheckText.{check_answer}, ListText.{list_answer}, FullText.{full_answer}, DrawingText.{show_answer}};
+ghost use Rattle.t1_cmd.specs.{Fonts.{font_input, mended_input, file_answer}, Mends.{mends_answer}, Subsets.{subset_answer, subset_with_codes}};
+ghost use Rattle.t1_cmd.specs.{Budgets.{SubsetsWithin, MergesWithin, RejoinsWithin, DiffersWithin}, Mergers.{MergesToFile}, Rejoins.{RejoinsTo}};
+ghost use Rattle.t1_cmd.specs.{Diffs.{DiffersBy}, Listings.{listing_input, JoinsTo}, WrittenSubsets.{OfUnion}, Cuts.{OfRejoined}};
+ghost use Rattle.t1_cmd.specs.{Documents.{text_input, PoolsTo}, FontPlaces.{ListsTo}, Extracts.{ExtractsTo}};
 ghost use Rattle.t1_c.specs.Numbers.{form_at, bad_call};
 ghost use Rattle.t1_c.specs.Gives.{GivesOne, GivesOf, GivesMended, GivesAnswer, GivesFiles, GivesLevels, HaveNothing, In, IfForm, GivesText, place_labels};
 
@@ -233,7 +221,7 @@ pub extern "C" fn t1subset_merge_within(
     }
 }
 
-/// Makes the canonical file of the font that fonts merge to once they are made even. Of truncated subsets of one font, such as
+/// Makes the canonical file of the font that fonts merge to once they are normalized. Of truncated subsets of one font, such as
 /// dvips and pdfTeX cut, this is the subset over all their names.
 #[unsafe(no_mangle)]
 pub extern "C" fn t1subset_rejoin(
@@ -253,7 +241,7 @@ pub extern "C" fn t1subset_rejoin(
     }
 }
 
-/// Makes the canonical file of the font that fonts merge to once they are made even, if their glyphs execute no more tokens than the
+/// Makes the canonical file of the font that fonts merge to once they are normalized, if their glyphs execute no more tokens than the
 /// limits allow.
 #[unsafe(no_mangle)]
 pub extern "C" fn t1subset_rejoin_within(

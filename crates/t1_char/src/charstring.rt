@@ -1,9 +1,7 @@
 //! The tokens of a charstring, one after the other.
 
-ghost use Rattle.std.specs.Prelude.{◌≡◌, ◌≤◌, ◌<◌, ◌+◌, ◌*◌, length, drop, min};
-ghost use Rattle.std.specs.Iterator.{item_count};
-ghost use Rattle.t1_char.specs.Commands.{coded, commands, escapes};
-ghost use Rattle.t1_char.specs.Tokens.{tokens, token_at, more_of};
+ghost use Rattle.std.specs.{Prelude.{◌≡◌, ◌≤◌, ◌<◌, ◌+◌, ◌*◌, length, drop, min}, Iterator.{item_count}};
+ghost use Rattle.t1_char.specs.{Commands.{coded, commands, escapes}, Tokens.{tokens, token_at, more_of}};
 
 use crate::token::{Command, Token};
 use byteorder::{BigEndian, ByteOrder};

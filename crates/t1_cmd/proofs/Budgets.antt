@@ -2,7 +2,7 @@
 use Rattle.std.proofs.Common.{◌≡◌, ℕ, refl, sym, subst, ◌∙◌, List, [], ◌∷◌, ◌⊎◌, inl, inr, ⊎_elim, Option, None, Some, Result, Ok, Err, IfSome, IfOk, IfErr}
 use Rattle.std.specs.Io.KnownBytes.{Appends}
 use Rattle.t1_bytes.specs.declared.form.Form.{Form}
-use Rattle.t1_font.specs.{FontValue.{FontValue}, Evening.{evened_shells}}
+use Rattle.t1_font.specs.{FontValue.{FontValue}, Normalizing.{normalized_shells}}
 use Rattle.t1_subset.specs.{declared.budgets.BudgetFault.{BudgetFault}, declared.fault.RejoinFault.{RejoinFault}, Rejoins.{NotRejoined}}
 use Rattle.t1_subset.specs.declared.budgets.BudgetFault.TheVariants as budget
 use Rattle.t1_run.specs.Budgets.{HasFewer}
@@ -107,7 +107,7 @@ pub merges_without : (form : Form) (fs : List FontValue) (a : Result (List ℕ) 
 merges_without form fs a h = without (fonts_least fs) (fonts_tokens fs) (MergesToFile form fs) a h
 
 pub rejoins_without : (form : Form) (fs : List FontValue) (a : Result (List ℕ) Reason) → RejoinsWithin None form fs a → RejoinsTo form fs a
-rejoins_without form fs a h = without (fonts_least (evened_shells fs)) (fonts_tokens (evened_shells fs)) (RejoinsTo form fs) a h
+rejoins_without form fs a h = without (fonts_least (normalized_shells fs)) (fonts_tokens (normalized_shells fs)) (RejoinsTo form fs) a h
 
 -- the conflicts of fonts
 pub differs_without : (fs : List FontValue) (a : Result (List ℕ) Reason) → DiffersWithin None fs a → DiffersBy fs a

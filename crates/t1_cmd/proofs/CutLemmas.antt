@@ -3,13 +3,14 @@ use Rattle.std.proofs.Common.{◌≡◌, ℕ, ◌+◌, refl, sym, ◌∙◌, ap,
 use Rattle.std.proofs.lemmas.List.Sorted.{IsPermutation-refl}
 use Rattle.std.specs.{Prelude.{IfOk, IfErr, MatchResult, is_some}, List.{AllByRecursion}, Result.{result_ok}}
 use Rattle.t1_bytes.specs.declared.form.Form.{Form}
-use Rattle.t1_font.specs.{FontValue.{FontValue, Named}, IsFont.{IsFont}, Canon.{canon}, Evening.{indices_of_all, evened_shells, evened}, Filling.{AreLight}, FontBoxes.{Box}}
+use Rattle.t1_font.specs.{FontValue.{FontValue, CharStrings}, IsFont.{IsFont}, Canon.{canon}, Normalizing.{indices_of_all, normalized_shells, normalized}, Filling.{AreLight}, FontBoxes.{Box}}
 use Rattle.t1_join.{specs.Groupings.{one, from_left}, proofs.OrderLemmas.{leaves_from_left}}
 use Rattle.t1_algebra.specs.{Interpreter.{Names}, Profile.{profile}, Keep.{subset, IsOf}, Merges.{ComesTo}}
-use Rattle.t1_algebra.specs.Rejoins.{cut_to, with_even_texts, Truncated, IsTruncated, truncated_fonts, sets_of, largest, GetBox, boxed_as, shared_font, rejoined, Rejoins}
-use Rattle.t1_algebra.proofs.{Fonts.{subset_is_font}, rejoining.Evened.{evened_draw}, rejoining.Boxed.{truncated_subsets_rejoin}}
+use Rattle.t1_algebra.specs.Rejoins.{cut_to, with_normal_texts, Truncated, IsTruncated, truncated_fonts, truncated_sets, largest, GetBox, boxed_as, shared_font, rejoined, Rejoins}
+use Rattle.t1_algebra.proofs.{Fonts.{subset_is_font}, rejoining.Normalized.{normalized_draw}, rejoining.Boxed.{truncated_subsets_rejoin}}
 use Rattle.t1_subset.proofs.Answered.{draws_all}
-use Rattle.t1_document.proofs.{OneOutcome.{light_or_heavy}, Drawn.{each_through, shells_are_fonts, each_filled, comes_to_font}}
+use Rattle.t1_document.proofs.Drawn.{each_through, shells_are_fonts, each_filled, comes_to_font}
+use Rattle.t1_subset.proofs.Rejoining.{light_or_heavy}
 use Rattle.t1_cmd.specs.{declared.counting.Counted.{Counted}, declared.faults.Reason.{Reason}, declared.faults.Reason.TheVariants.{Memory}, declared.faults.RunFault.{RunFault}}
 use Rattle.t1_cmd.specs.{declared.faults.FilesRefusal.{FilesRefusal}, Inputs.{Input, value_and, values_of}, Files.{Values, value_before, values_from, OfFiles, RefusesFiles}, Runs.{RunEnds}}
 use Rattle.t1_cmd.specs.{Fonts.{mended_input}, Rejoins.{RejoinsUnless, RejoinsTo}, Cuts.{AreCutFiles, OfRejoined, InputsAreCuts, WritesRejoined, AllStayDrawnIn, RejoinedDraw}}
@@ -38,10 +39,10 @@ module _ (f : FontValue) (h : IsFont f) (form : Form) (t : Truncated) (ts : List
   they_rejoin = truncated_subsets_rejoin f h t ts all o get
 
   -- the names are names of the font that they share
-  names_of_shared : (us : List Truncated) → AllByRecursion (IsTruncated f) us → AllByRecursion (IsOf shared) (sets_of us)
+  names_of_shared : (us : List Truncated) → AllByRecursion (IsTruncated f) us → AllByRecursion (IsOf shared) (truncated_sets us)
   names_of_shared [] k = tt
   names_of_shared (u ∷ us) k = (
-    λ n e. ap (λ (m : Named). is_some (maps.get m n)) (same_glyphs o (cut_to (largest (t ∷ ts)) (with_even_texts f))) ∙ k.0.names n e,
+    λ n e. ap (λ (m : CharStrings). is_some (maps.get m n)) (same_glyphs o (cut_to (largest (t ∷ ts)) (with_normal_texts f))) ∙ k.0.names n e,
     names_of_shared us k.1,
   )
 
@@ -50,21 +51,21 @@ module _ (f : FontValue) (h : IsFont f) (form : Form) (t : Truncated) (ts : List
   are_fonts [] k = tt
   are_fonts (a ∷ more) k = (subset_is_font profile shared they_rejoin.shared a k.0, are_fonts more k.1)
 
-  -- made even, they are within the weight limit
-  light : AreLight (evened cuts)
-  light = subst AreLight (sym they_rejoin.subsets) (all_light (map (subset profile shared) (sets_of (t ∷ ts)))
-      (are_fonts (sets_of (t ∷ ts)) (names_of_shared (t ∷ ts) all)))
+  -- normalized, they are within the weight limit
+  light : AreLight (normalized cuts)
+  light = subst AreLight (sym they_rejoin.subsets) (all_light (map (subset profile shared) (truncated_sets (t ∷ ts)))
+      (are_fonts (truncated_sets (t ∷ ts)) (names_of_shared (t ∷ ts) all)))
 
-  -- made even, they come to the subset over all the names, and to no other font
-  comes_so : (fs : List FontValue) → evened cuts ≡ fs → (j : FontValue) → (j ≡ whole → ComesTo fs j) × (ComesTo fs j → j ≡ whole)
+  -- normalized, they come to the subset over all the names, and to no other font
+  comes_so : (fs : List FontValue) → normalized cuts ≡ fs → (j : FontValue) → (j ≡ whole → ComesTo fs j) × (ComesTo fs j → j ≡ whole)
   comes_so [] e j = absurd (some_there e)
     where
-      some_there : evened cuts ≡ [] → ⊥
-      some_there e = let never : map (subset profile shared) (sets_of (t ∷ ts)) ≡ [] = sym they_rejoin.subsets ∙ e in cc
+      some_there : normalized cuts ≡ [] → ⊥
+      some_there e = let never : map (subset profile shared) (truncated_sets (t ∷ ts)) ≡ [] = sym they_rejoin.subsets ∙ e in cc
   comes_so (e ∷ es) is j =
       let g = from_left (one e) es in
-      let order : IsPermutation (evened cuts) (e ∷ es) = subst (IsPermutation (evened cuts)) is (IsPermutation-refl (evened cuts)) in
-      let m = they_rejoin.merges g (subst (IsPermutation (evened cuts)) (sym (leaves_from_left (one e) es)) order) in
+      let order : IsPermutation (normalized cuts) (e ∷ es) = subst (IsPermutation (normalized cuts)) is (IsPermutation-refl (normalized cuts)) in
+      let m = they_rejoin.merges g (subst (IsPermutation (normalized cuts)) (sym (leaves_from_left (one e) es)) order) in
       (λ same. subst (ComesTo (e ∷ es)) (sym same) m.0, λ comes. m.1 j comes)
 
   -- they have one answer, the canonical file of that subset
@@ -72,8 +73,8 @@ module _ (f : FontValue) (h : IsFont f) (form : Form) (t : Truncated) (ts : List
   one_answer = record { text = the_text; reason = the_reason }
     where
       the_text_of : (text : List ℕ) → RejoinsUnless None form cuts (Ok text) → text ≡ canon whole form
-      the_text_of text (inl a) = a.1.2 ∙ ap (λ (j : FontValue). canon j form) ((comes_so (evened cuts) refl a.1.0).1 a.1.1)
-      the_text_of text (inr a) = absurd (light_or_heavy (evened cuts) light a.0)
+      the_text_of text (inl a) = a.1.2 ∙ ap (λ (j : FontValue). canon j form) ((comes_so (normalized cuts) refl a.1.0).1 a.1.1)
+      the_text_of text (inr a) = absurd (light_or_heavy (normalized cuts) light a.0)
 
       the_text : (text : List ℕ) → RejoinsTo form cuts (Ok text) → text ≡ canon whole form
       the_text text h = the_text_of text (has_no_lack form cuts (Ok text) they_rejoin.lacks h)
@@ -81,7 +82,7 @@ module _ (f : FontValue) (h : IsFont f) (form : Form) (t : Truncated) (ts : List
       the_reason : (r : Reason) → RejoinsTo form cuts (Err r) → r ≡ Memory
       the_reason r a =
           let there : RejoinsTo form cuts (Ok (canon whole form)) =
-          with_no_lack form cuts (Ok (canon whole form)) they_rejoin.lacks (inl (light, (whole, (comes_so (evened cuts) refl whole).0 refl, refl))) in
+          with_no_lack form cuts (Ok (canon whole form)) they_rejoin.lacks (inl (light, (whole, (comes_so (normalized cuts) refl whole).0 refl, refl))) in
           rejoins_apart form cuts (canon whole form) r there a
 
 -- ---- files
@@ -138,18 +139,18 @@ writes_rejoined contents form is w v result ends f h t ts s o get =
 
 -- ---- what stays drawn
 
--- fonts made even are fonts where they are within the weight limit
-evened_are_fonts : (fs : List FontValue) → AllByRecursion IsFont fs → AreLight (evened fs) → AllByRecursion IsFont (evened fs)
-evened_are_fonts fs h fit = each_filled (indices_of_all (evened_shells fs)) (evened_shells fs) (shells_are_fonts fs h) fit
+-- normalized fonts are fonts where they are within the weight limit
+normalized_are_fonts : (fs : List FontValue) → AllByRecursion IsFont fs → AreLight (normalized fs) → AllByRecursion IsFont (normalized fs)
+normalized_are_fonts fs h fit = each_filled (indices_of_all (normalized_shells fs)) (normalized_shells fs) (shells_are_fonts fs h) fit
 
 -- so is it where no glyph lacks a Subr
 rejoined_draw_so : (form : Form) (fs : List FontValue) (text : List ℕ) → AllByRecursion IsFont fs → RejoinsUnless None form fs (Ok text) →
     (j : FontValue) × IsFont j × (text ≡ canon j form) × AllStayDrawnIn fs j
 rejoined_draw_so form fs text h (inl a) =
     let j = a.1.0 in
-    let fonts = evened_are_fonts fs h a.0 in
-    let joined = comes_to_font (evened fs) j fonts a.1.1 in
-    (j, joined, a.1.2, each_through fs (evened fs) j (evened_draw.all fs) fonts joined (draws_all (evened fs) (Ok j) a.1.1))
+    let fonts = normalized_are_fonts fs h a.0 in
+    let joined = comes_to_font (normalized fs) j fonts a.1.1 in
+    (j, joined, a.1.2, each_through fs (normalized fs) j (normalized_draw.all fs) fonts joined (draws_all (normalized fs) (Ok j) a.1.1))
 rejoined_draw_so form fs text h (inr a) = absurd a.1
 
 -- what fonts rejoin to is the file of a font in which each of their glyphs that is drawn stays drawn

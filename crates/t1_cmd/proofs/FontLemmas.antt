@@ -9,10 +9,10 @@ use Rattle.t1_cmd.proofs.{Refusals.{by_answer, says_so, input_stops}, RunLemmas.
 
 -- ---- files
 
--- a file that a word refuses stops its engine
-pub word_stops : (input : List ℕ → Result FontValue Reason) (answer : FontValue → Result (List ℕ) Reason) (i : Input) (file : List ℕ) (r : Reason) →
+-- a file that a command refuses stops its engine
+pub command_stops : (input : List ℕ → Result FontValue Reason) (answer : FontValue → Result (List ℕ) Reason) (i : Input) (file : List ℕ) (r : Reason) →
     Holds i file → MayRefuse (λ a. a ≡ of_input input answer file) r → Stops input (Prints answer) (i ∷ []) (Refused r)
-word_stops input answer i file r has =
+command_stops input answer i file r has =
     by_answer (λ a. a ≡ of_input input answer file) (λ s. Stops input (Prints answer) (i ∷ []) (Refused s)) r tt (λ s h. by s (input file) refl h)
   where
     by : (s : Reason) (o : Result FontValue Reason) → o ≡ input file → Err s ≡ if_there answer o → Stops input (Prints answer) (i ∷ []) (Refused s)
@@ -22,11 +22,11 @@ word_stops input answer i file r has =
         stops_after input (Prints answer) [] i [] (Refused s) tt
         (input_stops input i s (says_so input i file (Err s) has (ap {B = Result FontValue Reason} (λ (r : Reason). Err r) same ∙ is)))
 
--- the font of a file for which a word has a text
-pub word_says : (input : List ℕ → Result FontValue Reason) (answer : FontValue → Result (List ℕ) Reason) (i : Input) (file text : List ℕ)
+-- the font of a file for which a command has a text
+pub command_says : (input : List ℕ → Result FontValue Reason) (answer : FontValue → Result (List ℕ) Reason) (i : Input) (file text : List ℕ)
     → Holds i file → of_input input answer file ≡ Ok text
     → (f : FontValue) × Says input i f × (Ok text ≡ answer f)
-word_says input answer i file text has h = by (input file) refl h
+command_says input answer i file text has h = by (input file) refl h
   where
     by : (o : Result FontValue Reason) → o ≡ input file → if_there answer o ≡ Ok text → (f : FontValue) × Says input i f × (Ok text ≡ answer f)
     by (Ok f) is k = (f, says_so input i file (Ok f) has is, sym k)

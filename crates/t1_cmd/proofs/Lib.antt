@@ -19,6 +19,6 @@ pub mod CutLemmas
 pub mod CodeLemmas
 pub mod DocumentLemmas
 pub mod LevelLemmas
-pub mod DocumentWords
+pub mod DocumentCommands
 pub mod FontPlaceLemmas
 pub mod ExtractLemmas

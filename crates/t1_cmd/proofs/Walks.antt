@@ -5,7 +5,8 @@ use Rattle.std.proofs.lemmas.Grind.{flat_map-append}
 use Rattle.std.specs.{List.{filter, flat_map, AllByRecursion}, Ordering.{nat_cmp}, Cmp.{IsTotalOrder, nat_cmp_total, ranked}, Cmp.Lexicographic.{nat_list_cmp_total}}
 use Rattle.std.specs.FinMap.{FinMap, get, len, len-entries, contains_key, entries, entries_sorted, find, is_sorted, get-entries, IsAntisymmetric, nat_cmp-IsAntisymmetric, slice_cmp-IsAntisymmetric}
 use Rattle.std.specs.FinMap.Entries.{below_all}
-use Rattle.t1_font.specs.{FontValue.{FontValue, Encoding, Word, Codes, Numbered, Named, declared_count, names_in}, FontModel.{subr_at, subrs_below, name_at, word_of}, IsFont.{IsFont, IsEncoding}}
+use Rattle.t1_font.specs.FontValue.{FontValue, Encoding, Word, Codes, SparseArray, CharStrings, declared_count, names_in}
+use Rattle.t1_font.specs.{FontModel.{subr_at, subrs_below, name_at, word_of}, IsFont.{IsFont, IsEncoding}}
 use Rattle.t1_font.proofs.{FontReaders.{subrs_seen}, MapLemmas.{T_true, entries_all}}
 use Rattle.t1_cmd.specs.ListText.{line_at, code_line, subr_length_line, glyph_length_line, encoding_lines}
 

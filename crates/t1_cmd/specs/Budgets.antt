@@ -1,8 +1,8 @@
--- What words answer within a budget of tokens.
+-- What commands answer within a budget of tokens.
 use Rattle.std.specs.Prelude.{◌≡◌, ℕ, List, Option, Result, Ok, Err}
 use Rattle.t1_bytes.specs.declared.form.Form.{Form}
 use Rattle.t1_run.specs.Budgets.{HasFewer}
-use Rattle.t1_font.specs.{FontValue.{FontValue}, Evening.{evened_shells}}
+use Rattle.t1_font.specs.{FontValue.{FontValue}, Normalizing.{normalized_shells}}
 use Rattle.t1_subset.specs.Budgets.{kept_longer, kept_tokens, fonts_least, fonts_tokens, IsEnough}
 use Rattle.t1_cmd.specs.{declared.faults.Reason.{Reason}, declared.faults.Reason.TheVariants.{TooManyTokens}, Answers.{OfThere}, Mergers.{MergesToFile}, Rejoins.{RejoinsTo}}
 use Rattle.t1_cmd.specs.{Diffs.{DiffersBy}, Subsets.{names_with, subset_answer}}
@@ -23,9 +23,9 @@ MergesWithin left form fonts = Within left (fonts_least fonts) (fonts_tokens fon
 
 -- what fonts rejoin to, whose glyphs are run before the fonts are filled
 abbrev pub RejoinsWithin : Option ℕ → Form → List FontValue → Result (List ℕ) Reason → Type 0
-RejoinsWithin left form fonts = Within left (fonts_least (evened_shells fonts)) (fonts_tokens (evened_shells fonts)) (RejoinsTo form fonts)
+RejoinsWithin left form fonts = Within left (fonts_least (normalized_shells fonts)) (fonts_tokens (normalized_shells fonts)) (RejoinsTo form fonts)
 
--- why fonts with even texts don't rejoin
+-- why fonts with normalized texts don't rejoin
 abbrev pub NotRejoinedWithin : Option ℕ → List FontValue → BudgetFault RejoinFault → Type 0
 NotRejoinedWithin left fonts budget.TooManyTokens = HasFewer left (fonts_tokens fonts)
 NotRejoinedWithin left fonts (budget.Plain fault) = NotRejoined fonts fault

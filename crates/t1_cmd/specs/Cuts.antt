@@ -2,7 +2,7 @@
 use Rattle.std.specs.{Prelude.{◌≡◌, ℕ, true, List, [], ◌∷◌, Option, Some, Result, Ok}, List.{AllByRecursion}}
 use Rattle.t1_bytes.specs.declared.form.Form.{Form}
 use Rattle.t1_font.specs.{FontValue.{FontValue}, FontModel.{subr_at}, IsFont.{IsFont}, Canon.{canon}, FontBoxes.{Box}}
-use Rattle.t1_algebra.specs.{Keep.{has}, Evened.{StaysDrawn, map_subrs}, Rejoins.{Truncated, IsTruncated, GetBox, rejoined}}
+use Rattle.t1_algebra.specs.{Keep.{has}, Normalized.{StaysDrawn, map_subrs}, Rejoins.{Truncated, IsTruncated, GetBox, rejoined}}
 use Rattle.t1_cmd.specs.{declared.counting.Counted.{Counted}, declared.faults.RunFault.{RunFault}, Inputs.{Input}, Fonts.{mended_input}, Rejoins.{RejoinsTo}, WrittenSubsets.{Writes}}
 
 -- ---- files
@@ -19,7 +19,7 @@ AreCutFiles f (t ∷ ts) [] = ⊥
 AreCutFiles f (t ∷ ts) (file ∷ files) = IsCutFile f t file × AreCutFiles f ts files
 
 -- Of the files of truncated subsets of one font, one or more, which have the font's box or can get one, this holds of the canonical file of what they
--- rejoin to: the subset over all the names, with even texts and that box, and cut to the largest of their counts.
+-- rejoin to: the subset over all the names, with normalized texts and that box, and cut to the largest of their counts.
 abbrev pub OfRejoined : Form → List (List ℕ) → (List ℕ → Type 0) → Type 0
 OfRejoined form files P = (f : FontValue) → IsFont f → (t : Truncated) (ts : List Truncated) → AreCutFiles f (t ∷ ts) files →
     (o : Option Box) → GetBox f (t ∷ ts) o → P (canon (rejoined f (t ∷ ts) o) form)

@@ -51,14 +51,14 @@ drawn_lines width bearing parts =
     line (codes "width") (width.x ∷ width.y ∷ []) ++ line (codes "bearing") (bearing.x ∷ bearing.y ∷ []) ++ flat_map part_lines parts
 
 -- the line of a drawing's fault
-abbrev pub fault_line : DrawFault → List ℕ
-fault_line fault = codes "fault " ++ fault_name fault ++ 10 ∷ []
+abbrev pub draw_fault_line : DrawFault → List ℕ
+draw_fault_line fault = codes "fault " ++ fault_name fault ++ 10 ∷ []
 
 -- a drawing's lines, or the line of its fault; a glyph that the font lacks is refused by its name
 abbrev pub picture_answer : List ℕ → Picture → Result (List ℕ) Reason
 picture_answer name (Drawn m parts) = Ok (drawn_lines m.width m.bearing parts)
 picture_answer name (Undrawn NoGlyph) = Err (reason.NoGlyph name)
-picture_answer name (Undrawn fault) = Ok (fault_line fault)
+picture_answer name (Undrawn fault) = Ok (draw_fault_line fault)
 
 -- what the glyph of a name draws in a font
 abbrev pub show_answer : List ℕ → FontValue → Result (List ℕ) Reason

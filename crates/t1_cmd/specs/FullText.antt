@@ -5,7 +5,7 @@ use Rattle.t1_bytes.specs.White.{is_white}
 use Rattle.t1_run.specs.Drawings.{Picture, Drawn, Undrawn, draw}
 use Rattle.t1_font.specs.{FontValue.{FontValue, names_in}, FontModel.{subr_at}}
 use Rattle.t1_join.specs.{Shown.{shown}, ListingMeaning.{ends_name}}
-use Rattle.t1_cmd.specs.{declared.faults.Reason.{Reason}, DrawingText.{line, fault_line}, ListText.{list_lines}}
+use Rattle.t1_cmd.specs.{declared.faults.Reason.{Reason}, DrawingText.{line, draw_fault_line}, ListText.{list_lines}}
 
 -- ---- what the dictionary says
 
@@ -83,7 +83,7 @@ dictionary_lines f =
 -- how wide a drawing is, or why there is none
 abbrev pub width_told : Picture → List ℕ
 width_told (Drawn m parts) = line [] (m.width.x ∷ m.width.y ∷ [])
-width_told (Undrawn fault) = 32 ∷ fault_line fault
+width_told (Undrawn fault) = 32 ∷ draw_fault_line fault
 
 -- the width of a glyph, by drawing it
 abbrev pub width_line : FontValue → List ℕ → List ℕ

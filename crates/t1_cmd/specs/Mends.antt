@@ -38,7 +38,7 @@ MendsAgain = (written form : Form) (file text : List ℕ) → IsMendedFile writt
 abbrev pub MendsNothing : Type 0
 MendsNothing = (f : FontValue) (form : Form) → IsFont f → Fits form f → untested_font f ≡ f → of_mended (file_answer form) (canon f form) ≡ Ok (canon f form)
 
--- a mended file spells the font that the file was mended to, so each other word takes it
+-- a mended file spells the font that the file was mended to, so each other command takes it
 abbrev pub MendedIsSpelled : Type 0
 MendedIsSpelled = (form : Form) (file text : List ℕ) → IsMendedFile form file text → font_input text ≡ mended_input file
 

@@ -1,28 +1,9 @@
 //! Lists of codes as the program is given them, such as `65-90,97`.
-ghost use Rattle.std.specs.Prelude.{◌≡◌, ◌==◌, ◌++◌, position, IfOk, OnOk};
-ghost use Rattle.std.specs.Option.{option_map};
-ghost use Rattle.t1_join.specs.ListingText.{split_at};
-ghost use Rattle.t1_join.specs.LineMeaning.{slice_pair};
+ghost use Rattle.std.specs.{Prelude.{◌≡◌, ◌++◌, IfOk, OnOk}, Option.{option_map}};
 ghost use Rattle.t1_cmd.specs.CodeLists.{code_of, codes_between, ends_of, codes_listed};
 
 use std::alloc::{AllocError, Global};
-
-// The place of the first of these bytes.
-fn find(text: &[u8], byte: u8) -> Option<usize>
-    ensures { result ≡ position (λ b. b == byte) text.now }
-{
-    text.iter().position(|b| *b == byte)
-}
-
-// What stands before and after the first of these bytes.
-fn split_at_byte(text: &[u8], byte: u8) -> Option<(&[u8], &[u8])>
-    ensures { option_map slice_pair result ≡ split_at byte text.now }
-{
-    match find(text, byte) {
-        Some(at) => Some((&text[..at], &text[at + 1..])),
-        None => None,
-    }
-}
+use t1_join::split_at_byte;
 
 // The code of one to three decimal digits.
 fn code(word: &[u8]) -> Option<u8>

@@ -1,23 +1,16 @@
 //! The engine that tells all conflicts of two fonts.
-ghost use Rattle.std.specs.Prelude.{◌≡◌, ◌↔◌, ◌+◌, ◌≤◌, ◌++◌, ◌∷◌, [], Ok, OnOk, IfOk, IfErr, IfSome, IsTrue};
+ghost use Rattle.std.specs.{Prelude.{◌≡◌, ◌↔◌, ◌+◌, ◌≤◌, ◌++◌, ◌∷◌, [], Ok, OnOk, IfOk, IfErr, IfSome, IsTrue}, List.{flat_map}};
 ghost use Rattle.t1_subset.specs.Budgets.{fonts_least, IsEnough};
-ghost use Rattle.std.specs.List.{flat_map};
 ghost use Rattle.t1_bytes.specs.Limits.{file_limit};
-ghost use Rattle.t1_algebra.specs.Profile.{profile};
-ghost use Rattle.t1_algebra.specs.States.{Join};
-ghost use Rattle.t1_cmd.specs.Count.{calls_counted};
-ghost use Rattle.t1_cmd.specs.Inputs.{input_of, values_of};
-ghost use Rattle.t1_cmd.specs.Answers.{MayRefuse};
-ghost use Rattle.t1_cmd.specs.Files.{IsRefusalAt, OfFiles, RefusesFiles};
-ghost use Rattle.t1_cmd.specs.Fonts.{font_input};
-ghost use Rattle.t1_cmd.specs.Runs.{ended, RunEnds, Succeeds};
-ghost use Rattle.t1_cmd.specs.Budgets.{DiffersWithin};
+ghost use Rattle.t1_algebra.specs.{Profile.{profile}, States.{Join}};
+ghost use Rattle.t1_cmd.specs.{Count.{calls_counted}, Inputs.{input_of, values_of}, Answers.{MayRefuse}, Files.{IsRefusalAt, OfFiles, RefusesFiles}};
+ghost use Rattle.t1_cmd.specs.{Fonts.{font_input}, Runs.{ended, RunEnds, Succeeds}, Budgets.{DiffersWithin}};
 ghost use Rattle.t1_cmd.specs.Diffs.{conflict_line, ListsConflicts, DiffersBy, SaysJoin};
 
 use crate::counting::Counted;
 use crate::faults::{FilesRefusal, Reason, RunFault};
+use crate::font_commands::{Taking, read_font};
 use crate::several::{refused_at, source_in};
-use crate::words::{Taking, read_font};
 use crate::writing::write_text;
 use std::alloc::{AllocError, Global};
 use std::io::{Read, Write};

@@ -1,24 +1,12 @@
 //! The engines over documents: each font once, or one font at each place of a name.
-ghost use Rattle.std.specs.Prelude.{Bool, ◌≡◌, ◌+◌, ◌≤◌, ◌++◌, ◌∷◌, [], map, length, Ok, OnOk, IfOk, IfErr, IfSome};
-ghost use Rattle.std.specs.List.{flat_map};
-ghost use Rattle.std.specs.Option.{option_copied};
+ghost use Rattle.std.specs.{Prelude.{Bool, ◌≡◌, ◌+◌, ◌≤◌, ◌++◌, map, length, Ok, OnOk, IfOk, IfErr, IfSome}, Option.{option_copied}};
 ghost use Rattle.t1_bytes.specs.Limits.{file_limit};
 ghost use Rattle.t1_subset.specs.NameSets.{lent};
-ghost use Rattle.t1_document.specs.Lines.{one_text};
-ghost use Rattle.t1_document.specs.Documents.{document_of};
-ghost use Rattle.t1_document.specs.Groups.{outcome_in};
-ghost use Rattle.t1_document.specs.Joins.{kept_text};
-ghost use Rattle.t1_document.specs.Views.{place_view};
-ghost use Rattle.t1_cmd.specs.Count.{calls_counted};
-ghost use Rattle.t1_cmd.specs.Inputs.{Say, input_of, values_of};
-ghost use Rattle.t1_cmd.specs.Files.{values_from, IsUnread, OfFiles, RefusesFiles};
-ghost use Rattle.t1_cmd.specs.Runs.{ended, InputEnds, RunEnds, Succeeds};
-ghost use Rattle.t1_cmd.specs.Answers.{MayRefuse};
-ghost use Rattle.t1_cmd.specs.Mergers.{inputs_of, InTurns, InputsStop};
+ghost use Rattle.t1_document.specs.{Lines.{one_text}, Documents.{document_of}, Groups.{outcome_in}, Joins.{kept_text, PooledBy}, Views.{place_view}};
+ghost use Rattle.t1_document.specs.{Families.{family_members}, FamilyLaws.{AliasedBy}};
+ghost use Rattle.t1_cmd.specs.{Count.{calls_counted}, Inputs.{Say, input_of, values_of}, Files.{values_from, IsUnread, OfFiles, RefusesFiles}};
+ghost use Rattle.t1_cmd.specs.{Runs.{ended, InputEnds, RunEnds, Succeeds}, Answers.{MayRefuse}, Mergers.{inputs_of, InTurns, InputsStop}};
 ghost use Rattle.t1_cmd.specs.Documents.{text_input, PooledAs, PoolsTo, kept_line, kept_lines, TellsKept, TellsPooled};
-ghost use Rattle.t1_document.specs.Joins.{PooledBy};
-ghost use Rattle.t1_document.specs.Families.{family_members};
-ghost use Rattle.t1_document.specs.FamilyLaws.{AliasedBy};
 
 use crate::counting::Counted;
 use crate::faults::{FilesRefusal, Reason, RunFault};
@@ -31,6 +19,7 @@ use t1_bytes::FILE_LIMIT;
 use t1_document::{
     Joins, Kept, Outcome, Place, join_fonts, members_of, names_of, push_document, read_document,
 };
+use t1_join::push_item;
 
 // ---- reading
 
@@ -41,16 +30,6 @@ fn read_text<R: Read>(alloc: Global, reader: &mut Counted<R>) -> Result<Vec<u8>,
     ensures turns { calls_counted reader.new ≤ calls_counted reader.old + (file_limit + 1) }
 {
     read_all(alloc, reader, FILE_LIMIT)
-}
-
-// One more document.
-pub(crate) fn keep(texts: &mut Vec<Vec<u8>>, text: Vec<u8>) -> Result<(), AllocError>
-    ensures { OnOk result (map (λ v. v.items) texts.new.items ≡ map (λ v. v.items) texts.old.items ++ text.items ∷ []) }
-{
-    match texts.push(text) {
-        Ok(_) => Ok(()),
-        Err(_) => Err(AllocError),
-    }
 }
 
 // The documents that the readers have, one after the other.
@@ -70,7 +49,7 @@ pub(crate) fn read_texts<R: Read>(
             Ok(text) => text,
             Err(fault) => return Err(fault),
         };
-        keep(&mut texts, text)?;
+        push_item(&mut texts, text)?;
     }
     Ok(texts)
 }

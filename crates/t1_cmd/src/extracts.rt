@@ -1,25 +1,16 @@
-//! The word `extract`: the font of a name, taken out of documents.
-ghost use Rattle.std.specs.Prelude.{◌≡◌, map, Ok, IfOk, IfErr};
-ghost use Rattle.std.specs.Option.{option_map};
+//! The command `extract`: the font of a name, taken out of documents.
+ghost use Rattle.std.specs.{Prelude.{◌≡◌, map, Ok, IfOk, IfErr}, Option.{option_map}};
 ghost use Rattle.t1_bytes.specs.declared.form.Form.TheVariants.{Pfa};
-ghost use Rattle.t1_font.specs.Canon.{canon};
-ghost use Rattle.t1_font.specs.FontTest.{untested_font};
-ghost use Rattle.t1_font.specs.ReadFont.{read_font_widely};
+ghost use Rattle.t1_font.specs.{Canon.{canon}, FontTest.{untested_font}, ReadFont.{read_font_widely}};
 ghost use Rattle.t1_subset.specs.NameSets.{lent};
-ghost use Rattle.t1_document.specs.Views.{place_view};
-ghost use Rattle.t1_cmd.specs.Answers.{MayRefuse, with_reason};
-ghost use Rattle.t1_cmd.specs.Files.{OfFiles, RefusesFiles};
-ghost use Rattle.t1_cmd.specs.Fonts.{font_reason};
-ghost use Rattle.t1_cmd.specs.Mergers.{inputs_of, InTurns};
-ghost use Rattle.t1_cmd.specs.Runs.{RunEnds, Succeeds};
-ghost use Rattle.t1_cmd.specs.Documents.{text_input};
-ghost use Rattle.t1_document.specs.Joins.{places_of_all};
-ghost use Rattle.t1_cmd.specs.Extracts.{first_named, IsTakenOut, ExtractsTo};
+ghost use Rattle.t1_document.specs.{Views.{place_view}, Joins.{places_of_all}};
+ghost use Rattle.t1_cmd.specs.{Answers.{MayRefuse, with_reason}, Files.{OfFiles, RefusesFiles}, Fonts.{font_reason}, Mergers.{inputs_of, InTurns}};
+ghost use Rattle.t1_cmd.specs.{Runs.{RunEnds, Succeeds}, Documents.{text_input}, Extracts.{first_named, IsTakenOut, ExtractsTo}};
 
 use crate::counting::Counted;
-use crate::document_words::{DocumentsWord, run_documents, text_of_documents};
+use crate::document_commands::{DocumentsCommand, run_documents, text_of_documents};
 use crate::faults::{FilesRefusal, Name, Reason, RunFault};
-use crate::words::reason_of;
+use crate::font_commands::reason_of;
 use std::alloc::{AllocError, Global};
 use std::io::{Read, Write};
 use t1_document::{Place, read_document};
@@ -101,14 +92,14 @@ fn extracted(alloc: Global, name: &[u8], documents: &[&[u8]]) -> Result<Vec<u8>,
     }
 }
 
-/// The word `extract`, and the name of a font.
+/// The command `extract`, and the name of a font.
 #[derive(Drop)]
 pub(crate) struct Extract<'a> {
     name: &'a [u8],
 }
 
-impl DocumentsWord for Extract<'_> {
-    ghost Answers = { λ word. ExtractsTo word.name.now };
+impl DocumentsCommand for Extract<'_> {
+    ghost Answers = { λ command. ExtractsTo command.name.now };
 
     fn text(&self, alloc: Global, documents: &[&[u8]]) -> Result<Vec<u8>, Reason> {
         extracted(alloc, self.name, documents)

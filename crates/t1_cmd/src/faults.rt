@@ -140,8 +140,7 @@ impl std::error::Error for RunFault {}
 
 impl From<AllocError> for RunFault {
     ghost use Rattle.std.specs.Prelude.{◌≡◌};
-    ghost use Rattle.t1_cmd.specs.declared.faults.Reason.TheVariants.{Memory};
-    ghost use Rattle.t1_cmd.specs.declared.faults.RunFault.TheVariants.{Refused};
+    ghost use Rattle.t1_cmd.specs.{declared.faults.Reason.TheVariants.{Memory}, declared.faults.RunFault.TheVariants.{Refused}};
 
     ghost from_gives = { λ _ e. e ≡ Refused Memory };
 

@@ -1,20 +1,14 @@
-//! The word `fonts`: the places of fonts in documents, and what becomes of the fonts of each name.
-ghost use Rattle.std.specs.Prelude.{◌≡◌, ◌++◌, [], map, filter, get_or, length, Ok, IfOk, IfErr, OnOk};
-ghost use Rattle.std.specs.FinMap as fin;
-ghost use Rattle.std.specs.Option.{option_copied};
+//! The command `fonts`: the places of fonts in documents, and what becomes of the fonts of each name.
+ghost use Rattle.std.specs.{Prelude.{◌≡◌, ◌++◌, [], map, filter, get_or, length, Ok, IfOk, IfErr, OnOk}, Option.{option_copied}};
 ghost use Rattle.t1_font.specs.ReadFont.{read_font_widely};
 ghost use Rattle.t1_subset.specs.NameSets.{lent};
-ghost use Rattle.t1_document.specs.Documents.{document_of};
-ghost use Rattle.t1_document.specs.Groups.{outcome_in};
-ghost use Rattle.t1_document.specs.Views.{place_view, document_view};
-ghost use Rattle.t1_cmd.specs.Files.{OfFiles, RefusesFiles};
-ghost use Rattle.t1_cmd.specs.Mergers.{inputs_of, InTurns};
-ghost use Rattle.t1_cmd.specs.Runs.{RunEnds, Succeeds};
-ghost use Rattle.t1_cmd.specs.Documents.{text_input};
+ghost use Rattle.t1_document.specs.{Documents.{document_of}, Groups.{outcome_in}, Views.{place_view, document_view}};
+ghost use Rattle.t1_cmd.specs.{Files.{OfFiles, RefusesFiles}, Mergers.{inputs_of, InTurns}, Runs.{RunEnds, Succeeds}, Documents.{text_input}};
 ghost use Rattle.t1_cmd.specs.FontPlaces.{glyph_count, outcome_text, place_line, place_lines, document_lines, is_kept, count_line, ListsTo};
+ghost use Rattle.std.specs.FinMap as fin;
 
 use crate::counting::Counted;
-use crate::document_words::{DocumentsWord, run_documents, text_of_documents};
+use crate::document_commands::{DocumentsCommand, run_documents, text_of_documents};
 use crate::documents::push_why;
 use crate::faults::{FilesRefusal, Reason, RunFault};
 use crate::levels::{all_places, documents_of};
@@ -191,7 +185,7 @@ fn push_counts(
     Ok(())
 }
 
-// ---- the word
+// ---- the command
 
 // The lines of the places of documents, and one that counts them.
 fn fonts_text(alloc: Global, labels: &[&[u8]], texts: &[&[u8]]) -> Result<Vec<u8>, AllocError>
@@ -213,14 +207,14 @@ fn fonts_text(alloc: Global, labels: &[&[u8]], texts: &[&[u8]]) -> Result<Vec<u8
     Ok(text)
 }
 
-/// The word `fonts`, and the labels of the documents.
+/// The command `fonts`, and the labels of the documents.
 #[derive(Drop)]
 pub(crate) struct Fonts<'a> {
     labels: &'a [&'a [u8]],
 }
 
-impl DocumentsWord for Fonts<'_> {
-    ghost Answers = { λ word. ListsTo (lent word.labels.now) };
+impl DocumentsCommand for Fonts<'_> {
+    ghost Answers = { λ command. ListsTo (lent command.labels.now) };
 
     fn text(&self, alloc: Global, documents: &[&[u8]]) -> Result<Vec<u8>, Reason> {
         let text = fonts_text(alloc, self.labels, documents)?;

@@ -1,19 +1,13 @@
 //! The engines that take a whole font: one writes its canonical file, the other says that it can be read.
 ghost use Rattle.std.specs.Prelude.{◌≡◌, ◌+◌, ◌≤◌, ◌∷◌, [], Ok, IfOk, IfErr};
-ghost use Rattle.std.specs.FinMap as fin;
-ghost use Rattle.t1_font.specs.FontValue.{FontValue};
-ghost use Rattle.t1_cmd.specs.Count.{calls_counted};
-ghost use Rattle.t1_cmd.specs.Inputs.{input_of};
+ghost use Rattle.t1_cmd.specs.{Count.{calls_counted}, Inputs.{input_of}, Runs.{RunEnds, Succeeds}, Answers.{Prints, MayRefuse}};
+ghost use Rattle.t1_cmd.specs.{Fonts.{font_input, of_file, file_answer}, CheckText.{check_answer, check_answer_of}};
 ghost use Rattle.t1_bytes.specs.Limits.{file_limit};
-ghost use Rattle.t1_cmd.specs.Runs.{RunEnds, Succeeds};
-ghost use Rattle.t1_cmd.specs.Answers.{Prints, MayRefuse};
-ghost use Rattle.t1_cmd.specs.Fonts.{font_input, of_file, file_answer};
-ghost use Rattle.t1_cmd.specs.CheckText.{check_answer, check_answer_of};
 
 use crate::counting::Counted;
 use crate::faults::{Reason, RunFault};
+use crate::font_commands::{FontCommand, Taking, run_command, text_of_bytes};
 use crate::texts::push_about;
-use crate::words::{FontWord, Taking, run_word, text_of_bytes};
 use std::alloc::{AllocError, Global};
 use std::io::{Read, Write};
 use t1_font::{Font, Form, write};
@@ -27,14 +21,14 @@ pub(crate) fn font_file(alloc: Global, font: &Font<'_>, form: Form) -> Result<Ve
     Ok(text)
 }
 
-/// The words `pfa` and `pfb`.
+/// The commands `pfa` and `pfb`.
 #[derive(Drop)]
 pub(crate) struct Convert {
     form: Form,
 }
 
 impl Convert {
-    /// The word that writes this form.
+    /// The command that writes this form.
     pub(crate) fn to(form: Form) -> Self
         ensures { result.form ≡ form }
     {
@@ -42,8 +36,8 @@ impl Convert {
     }
 }
 
-impl FontWord for Convert {
-    ghost answer = { λ word. file_answer word.form };
+impl FontCommand for Convert {
+    ghost answer = { λ command. file_answer command.form };
 
     fn text(&self, alloc: Global, font: Font<'_>) -> Result<Vec<u8>, Reason> {
         let text = font_file(alloc, &font, self.form);
@@ -79,7 +73,7 @@ pub fn run_convert<R: Read, W: Write>(
         (input_of R.remaining reader.old reader.new ∷ []) writer.old writer.new result }
     ensures turns { calls_counted reader.new ≤ calls_counted reader.old + (file_limit + 1) }
 {
-    run_word(alloc, Taking::Spelled, &Convert { form }, reader, writer)
+    run_command(alloc, Taking::Spelled, &Convert { form }, reader, writer)
 }
 
 // The line for a font that can be read.
@@ -94,12 +88,12 @@ fn check_line(alloc: Global, font: &Font<'_>) -> Result<Vec<u8>, AllocError>
     Ok(text)
 }
 
-/// The word `check`.
+/// The command `check`.
 #[derive(Drop)]
 pub(crate) struct Check;
 
-impl FontWord for Check {
-    ghost answer = { λ word. check_answer };
+impl FontCommand for Check {
+    ghost answer = { λ command. check_answer };
 
     fn text(&self, alloc: Global, font: Font<'_>) -> Result<Vec<u8>, Reason> {
         let text = check_line(alloc, &font);
@@ -121,14 +115,14 @@ fn check_line_of(alloc: Global, path: &[u8], font: &Font<'_>) -> Result<Vec<u8>,
     Ok(text)
 }
 
-/// The word `check` about one of several files, of this path.
+/// The command `check` about one of several files, of this path.
 #[derive(Drop)]
 pub(crate) struct CheckOf<'a> {
     path: &'a [u8],
 }
 
-impl FontWord for CheckOf<'_> {
-    ghost answer = { λ word. check_answer_of word.path.now };
+impl FontCommand for CheckOf<'_> {
+    ghost answer = { λ command. check_answer_of command.path.now };
 
     fn text(&self, alloc: Global, font: Font<'_>) -> Result<Vec<u8>, Reason> {
         let text = check_line_of(alloc, self.path, &font);
@@ -163,7 +157,7 @@ pub fn run_check<R: Read, W: Write>(
         (input_of R.remaining reader.old reader.new ∷ []) writer.old writer.new result }
     ensures turns { calls_counted reader.new ≤ calls_counted reader.old + (file_limit + 1) }
 {
-    run_word(alloc, Taking::Spelled, &Check, reader, writer)
+    run_command(alloc, Taking::Spelled, &Check, reader, writer)
 }
 
 /// Writes the path of a file as it stands, a colon and a blank, and then what [`run_check`] writes of its font.
@@ -179,5 +173,5 @@ pub fn run_check_of<R: Read, W: Write>(
         (input_of R.remaining reader.old reader.new ∷ []) writer.old writer.new result }
     ensures turns { calls_counted reader.new ≤ calls_counted reader.old + (file_limit + 1) }
 {
-    run_word(alloc, Taking::Spelled, &CheckOf { path }, reader, writer)
+    run_command(alloc, Taking::Spelled, &CheckOf { path }, reader, writer)
 }

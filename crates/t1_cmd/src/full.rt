@@ -1,34 +1,27 @@
 //! The engine that lists what a font has in full: also what its dictionary says, and how wide its glyphs are.
-ghost use Rattle.std.specs.Prelude.{◌≡◌, ◌+◌, ◌≤◌, ◌++◌, ◌∷◌, [], ◌==◌, None, codes, Ok, OnOk, IfOk, IfErr};
-ghost use Rattle.std.specs.FinMap as fin;
-ghost use Rattle.std.specs.List.{flat_map};
-ghost use Rattle.std.specs.Option.{option_map};
+ghost use Rattle.std.specs.{Prelude.{◌≡◌, ◌+◌, ◌≤◌, ◌++◌, ◌∷◌, [], ◌==◌, None, codes, Ok, OnOk, IfOk, IfErr}, List.{flat_map}, Option.{option_map}};
 ghost use Rattle.t1_grammar.specs.Grammar.{fixed};
-ghost use Rattle.t1_bytes.specs.White.{is_white};
-ghost use Rattle.t1_bytes.specs.Limits.{file_limit};
+ghost use Rattle.t1_bytes.specs.{White.{is_white}, Limits.{file_limit}};
 ghost use Rattle.t1_run.specs.Drawings.{draw};
-ghost use Rattle.t1_font.specs.FontModel.{subr_at};
-ghost use Rattle.t1_font.specs.FontValue.{names_in};
+ghost use Rattle.t1_font.specs.{FontModel.{subr_at}, FontValue.{names_in}};
 ghost use Rattle.t1_join.specs.ListingMeaning.{ends_name};
-ghost use Rattle.t1_cmd.specs.Count.{calls_counted};
-ghost use Rattle.t1_cmd.specs.Inputs.{input_of};
-ghost use Rattle.t1_cmd.specs.Runs.{RunEnds, Succeeds};
-ghost use Rattle.t1_cmd.specs.Answers.{Prints, MayRefuse};
-ghost use Rattle.t1_cmd.specs.Fonts.{font_input, of_file};
-ghost use Rattle.t1_cmd.specs.DrawingText.{fault_line};
-ghost use Rattle.t1_cmd.specs.FullText.{name_goes_on, behind_or, text_behind, behind_clear, value_byte, value_text, opens, closes_name, value_at, past_white, value_line};
-ghost use Rattle.t1_cmd.specs.FullText.{first_some, clear_line, unique_line, dictionary_lines, width_told, width_line, full_answer};
+ghost use Rattle.t1_cmd.specs.{Count.{calls_counted}, Inputs.{input_of}, Runs.{RunEnds, Succeeds}, Answers.{Prints, MayRefuse}, Fonts.{font_input, of_file}};
+ghost use Rattle.t1_cmd.specs.DrawingText.{draw_fault_line};
+ghost use Rattle.t1_cmd.specs.FullText.{name_goes_on, behind_or, text_behind, behind_clear, value_byte, value_text, opens, closes_name, value_at, past_white};
+ghost use Rattle.t1_cmd.specs.FullText.{value_line, first_some, clear_line, unique_line, dictionary_lines, width_told, width_line, full_answer};
+ghost use Rattle.std.specs.FinMap as fin;
 
 use crate::counting::Counted;
 use crate::faults::{Reason, RunFault};
+use crate::font_commands::{FontCommand, Taking, run_command, text_of_bytes};
 use crate::list::list_text;
 use crate::show::{fault_text, push_line};
 use crate::texts::push_shown;
-use crate::words::{FontWord, Taking, run_word, text_of_bytes};
 use std::alloc::{AllocError, Global};
 use std::io::{Read, Write};
 use t1_bytes::texts::fixed_at;
-use t1_font::{DrawFault, Font, Layout, Part, lay_out};
+use t1_font::{DrawFault, Drawing, Font, Part, lay_out};
+use t1_join::ends_name;
 
 // ---- what the dictionary says
 
@@ -37,7 +30,7 @@ fn goes_on(text: &[u8]) -> bool
     ensures { result ≡ name_goes_on text.now }
 {
     match text.first() {
-        Some(byte) => !ends_word(*byte),
+        Some(byte) => !ends_name(*byte),
         None => false,
     }
 }
@@ -92,29 +85,6 @@ fn closes(byte: u8) -> bool
     byte == b']' || byte == b'}'
 }
 
-fn ends_word(byte: u8) -> bool
-    ensures { result ≡ ends_name byte }
-{
-    matches!(
-        byte,
-        0 | 9
-            | 10
-            | 12
-            | 13
-            | 32
-            | b'('
-            | b')'
-            | b'<'
-            | b'>'
-            | b'['
-            | b']'
-            | b'{'
-            | b'}'
-            | b'/'
-            | b'%'
-    )
-}
-
 // A text without the white space at its front.
 fn past_white(text: &[u8]) -> &[u8]
     ensures { result.now ≡ past_white text.now }
@@ -157,7 +127,7 @@ fn push_word(alloc: Global, out: &mut Vec<u8>, text: &[u8]) -> Result<(), AllocE
     ensures { OnOk result (out.new.items ≡ out.old.items ++ value_text ends_name text.now) }
 {
     'bytes: for byte in text {
-        if ends_word(*byte) {
+        if ends_name(*byte) {
             return Ok(());
         }
         push_byte(alloc, out, *byte)?;
@@ -244,7 +214,7 @@ fn push_dictionary(alloc: Global, out: &mut Vec<u8>, font: &Font<'_>) -> Result<
 
 // Why a glyph can't be drawn, behind its name.
 fn push_fault(alloc: Global, out: &mut Vec<u8>, fault: DrawFault) -> Result<(), AllocError>
-    ensures { OnOk result (out.new.items ≡ out.old.items ++ (32 ∷ fault_line fault)) }
+    ensures { OnOk result (out.new.items ≡ out.old.items ++ (32 ∷ draw_fault_line fault)) }
 {
     let text = fault_text(alloc, fault)?;
     out.push(b' ')?;
@@ -262,8 +232,8 @@ fn push_told(
         ≡ out.old.items ++ width_told (draw (subr_at font.now) (fin.get font.now.glyphs) name.now)) }
 {
     let width = match lay_out(alloc, font, name)? {
-        Layout::Drawn { width, .. } => width,
-        Layout::Failed(fault) => return push_fault(alloc, out, fault),
+        Drawing::Drawn { width, .. } => width,
+        Drawing::Failed(fault) => return push_fault(alloc, out, fault),
     };
     push_line(out, b"", &[width.x, width.y])
 }
@@ -301,12 +271,12 @@ fn full_text(alloc: Global, font: &Font<'_>) -> Result<Vec<u8>, AllocError>
     Ok(text)
 }
 
-/// The word `list` in full.
+/// The command `list` in full.
 #[derive(Drop)]
 pub(crate) struct ListFull;
 
-impl FontWord for ListFull {
-    ghost answer = { λ word. full_answer };
+impl FontCommand for ListFull {
+    ghost answer = { λ command. full_answer };
 
     fn text(&self, alloc: Global, font: Font<'_>) -> Result<Vec<u8>, Reason> {
         let text = full_text(alloc, &font);
@@ -343,5 +313,5 @@ pub fn run_list_full<R: Read, W: Write>(
         (input_of R.remaining reader.old reader.new ∷ []) writer.old writer.new result }
     ensures turns { calls_counted reader.new ≤ calls_counted reader.old + (file_limit + 1) }
 {
-    run_word(alloc, Taking::Spelled, &ListFull, reader, writer)
+    run_command(alloc, Taking::Spelled, &ListFull, reader, writer)
 }

@@ -1,12 +1,9 @@
 //! Laws of the engines, over the definitions alone.
 
-ghost use Rattle.t1_cmd.specs.Mends.{MendsAgain, MendsNothing, MendedIsSpelled, TellsNothing, RejoinsMended};
-ghost use Rattle.t1_cmd.specs.Rejoins.{RejoinsWhatMerges};
-ghost use Rattle.t1_cmd.specs.Cuts.{RejoinedDraw};
-ghost use Rattle.t1_cmd.specs.Subsets.{SubsetWithoutCodes};
-ghost use Rattle.t1_cmd.specs.Extracts.{TakesOutMended};
+ghost use Rattle.t1_cmd.specs.{Mends.{MendsAgain, MendsNothing, MendedIsSpelled, TellsNothing, RejoinsMended}, Rejoins.{RejoinsWhatMerges}};
+ghost use Rattle.t1_cmd.specs.{Cuts.{RejoinedDraw}, Subsets.{SubsetWithoutCodes}, Extracts.{TakesOutMended}};
 
-/// Fonts that merge rejoin to the file of what they merge to, with even texts, and to nothing else: where the texts are even and
+/// Fonts that merge rejoin to the file of what they merge to, with normalized texts, and to nothing else: where the texts are normalized and
 /// have no test to lose, [`run_rejoin`](crate::run_rejoin) writes what [`run_merge`](crate::run_merge) writes, unless a growth was
 /// refused.
 pub fn rejoins_what_merges()
@@ -37,7 +34,7 @@ pub fn mends_nothing()
     ensures { MendsNothing }
 {}
 
-/// A file that [`mend_file`](crate::mend_file) wrote spells the font that it was mended to, so each other word takes it; but for a
+/// A file that [`mend_file`](crate::mend_file) wrote spells the font that it was mended to, so each other command takes it; but for a
 /// PFA whose head begins with byte 128.
 pub fn mended_is_spelled()
     ensures { MendedIsSpelled }

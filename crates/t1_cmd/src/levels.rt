@@ -1,25 +1,18 @@
 //! The engine that levels documents: each place of a name gets one font.
-ghost use Rattle.std.specs.Prelude.{◌≡◌, ◌++◌, ◌∷◌, [], map, Ok, IfOk, IfErr, IfSome, OnOk, IsSome, IsOkUnless};
-ghost use Rattle.std.specs.List.{flat_map};
+ghost use Rattle.std.specs.{Prelude.{◌≡◌, [], map, Ok, IfOk, IfErr, IfSome, OnOk, IsSome, IsOkUnless}, List.{flat_map}};
 ghost use Rattle.t1_subset.specs.NameSets.{lent};
-ghost use Rattle.t1_document.specs.Documents.{document_of};
-ghost use Rattle.t1_document.specs.Rewriting.{document_levelled};
-ghost use Rattle.t1_document.specs.Texts.{text_in};
-ghost use Rattle.t1_document.specs.Views.{document_view};
-ghost use Rattle.t1_cmd.specs.declared.faults.Reason.TheVariants.{Memory};
-ghost use Rattle.t1_cmd.specs.declared.faults.RunFault.TheVariants.{Refused};
-ghost use Rattle.t1_cmd.specs.Inputs.{AllQuiet, values_of};
-ghost use Rattle.t1_cmd.specs.Files.{values_from, IsUnread};
-ghost use Rattle.t1_cmd.specs.Mergers.{inputs_of, InTurns, InputsStop};
-ghost use Rattle.t1_cmd.specs.Documents.{text_input, TellsKept};
+ghost use Rattle.t1_document.specs.{Documents.{document_of}, Rewriting.{document_levelled}, Texts.{text_in}, Views.{document_view}};
 ghost use Rattle.t1_document.specs.Joins.{places_of_all, LevelsTo};
+ghost use Rattle.t1_cmd.specs.{declared.faults.Reason.TheVariants.{Memory}, declared.faults.RunFault.TheVariants.{Refused}, Inputs.{AllQuiet, values_of}};
+ghost use Rattle.t1_cmd.specs.{Files.{values_from, IsUnread}, Mergers.{inputs_of, InTurns, InputsStop}, Documents.{text_input, TellsKept}};
 
 use crate::counting::Counted;
-use crate::documents::{each_fits, keep, kept_lines, lent, read_texts};
+use crate::documents::{each_fits, kept_lines, lent, read_texts};
 use crate::faults::{FilesRefusal, Reason, RunFault};
 use std::alloc::{AllocError, Global};
 use std::io::Read;
 use t1_document::{Document, Texts, join_fonts, read_document};
+use t1_join::push_item;
 
 /// Documents whose fonts of a name are one font at each place.
 #[derive(Drop)]
@@ -28,19 +21,6 @@ pub struct Levelled {
     pub texts: Vec<Vec<u8>>,
     /// Lines of the names that keep their fonts.
     pub kept: Vec<u8>,
-}
-
-// One more document.
-fn keep_document<'a>(
-    documents: &mut Vec<Document<'a>>,
-    document: Document<'a>,
-) -> Result<(), AllocError>
-    ensures { OnOk result (documents.new.items ≡ documents.old.items ++ document.entry ∷ []) }
-{
-    match documents.push(document) {
-        Ok(_) => Ok(()),
-        Err(_) => Err(AllocError),
-    }
 }
 
 // The documents that texts are, each by itself.
@@ -56,7 +36,7 @@ pub(crate) fn documents_of<'a>(
             Ok(document) => document,
             Err(fault) => return Err(fault),
         };
-        keep_document(&mut documents, document)?;
+        push_item(&mut documents, document)?;
     }
     Ok(documents)
 }
@@ -90,7 +70,7 @@ fn each_level(
             Ok(text) => text,
             Err(fault) => return Err(fault),
         };
-        keep(&mut texts, text)?;
+        push_item(&mut texts, text)?;
     }
     Ok(texts)
 }

@@ -22,10 +22,11 @@
 mod code_lists;
 mod counting;
 mod diffs;
-mod document_words;
+mod document_commands;
 mod documents;
 mod extracts;
 mod faults;
+mod font_commands;
 mod font_places;
 mod fonts;
 mod full;
@@ -43,7 +44,6 @@ mod subsets;
 #[cfg(test)]
 mod tests;
 mod texts;
-mod words;
 mod writing;
 
 pub use code_lists::read_codes;

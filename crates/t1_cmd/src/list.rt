@@ -1,20 +1,15 @@
 //! The engine that lists what a font has.
-ghost use Rattle.std.specs.Prelude.{◌≡◌, ◌+◌, ◌≤◌, ◌++◌, ◌∷◌, [], None, Ok, OnOk, IfOk, IfErr};
-ghost use Rattle.std.specs.FinMap as fin;
-ghost use Rattle.std.specs.List.{flat_map};
+ghost use Rattle.std.specs.{Prelude.{◌≡◌, ◌+◌, ◌≤◌, ◌++◌, ◌∷◌, [], None, Ok, OnOk, IfOk, IfErr}, List.{flat_map}};
 ghost use Rattle.t1_font.specs.FontModel.{name_at, word_of};
-ghost use Rattle.t1_cmd.specs.Count.{calls_counted};
-ghost use Rattle.t1_cmd.specs.Inputs.{input_of};
-ghost use Rattle.t1_bytes.specs.Limits.{file_limit};
-ghost use Rattle.t1_cmd.specs.Runs.{RunEnds, Succeeds};
-ghost use Rattle.t1_cmd.specs.Answers.{Prints, MayRefuse};
-ghost use Rattle.t1_cmd.specs.Fonts.{font_input, of_file};
+ghost use Rattle.t1_cmd.specs.{Count.{calls_counted}, Inputs.{input_of}, Runs.{RunEnds, Succeeds}, Answers.{Prints, MayRefuse}, Fonts.{font_input, of_file}};
 ghost use Rattle.t1_cmd.specs.ListText.{line_at, code_line, subr_length_line, glyph_length_line, encoding_lines, list_answer};
+ghost use Rattle.t1_bytes.specs.Limits.{file_limit};
+ghost use Rattle.std.specs.FinMap as fin;
 
 use crate::counting::Counted;
 use crate::faults::{Reason, RunFault};
+use crate::font_commands::{FontCommand, Taking, run_command, text_of_bytes};
 use crate::texts::{push_about, push_number, push_shown};
-use crate::words::{FontWord, Taking, run_word, text_of_bytes};
 use std::alloc::{AllocError, Global};
 use std::io::{Read, Write};
 use t1_font::Font;
@@ -109,12 +104,12 @@ pub(crate) fn list_text(alloc: Global, font: &Font<'_>) -> Result<Vec<u8>, Alloc
     Ok(text)
 }
 
-/// The word `list`.
+/// The command `list`.
 #[derive(Drop)]
 pub(crate) struct List;
 
-impl FontWord for List {
-    ghost answer = { λ word. list_answer };
+impl FontCommand for List {
+    ghost answer = { λ command. list_answer };
 
     fn text(&self, alloc: Global, font: Font<'_>) -> Result<Vec<u8>, Reason> {
         let text = list_text(alloc, &font);
@@ -150,5 +145,5 @@ pub fn run_list<R: Read, W: Write>(
         (input_of R.remaining reader.old reader.new ∷ []) writer.old writer.new result }
     ensures turns { calls_counted reader.new ≤ calls_counted reader.old + (file_limit + 1) }
 {
-    run_word(alloc, Taking::Spelled, &List, reader, writer)
+    run_command(alloc, Taking::Spelled, &List, reader, writer)
 }

@@ -1,12 +1,8 @@
 //! The join of two listings.
 ghost use Rattle.std.specs.Prelude.{◌≡◌, ◌+◌, ◌≤◌, [], ◌∷◌, Ok, IfOk, IfErr, IfSome};
-ghost use Rattle.t1_cmd.specs.Count.{calls_counted, inner_of};
-ghost use Rattle.t1_cmd.specs.Inputs.{input_of};
+ghost use Rattle.t1_cmd.specs.{Count.{calls_counted, inner_of}, Inputs.{input_of}, Answers.{MayRefuse}, Files.{IsRefusalAt, OfFiles, RefusesFiles}};
+ghost use Rattle.t1_cmd.specs.{Runs.{InputStops, RunEnds, Succeeds}, Listings.{list_reason, join_reason, listing_input, JoinsTo, JoinsRead, StopsRead}};
 ghost use Rattle.t1_bytes.specs.Limits.{file_limit};
-ghost use Rattle.t1_cmd.specs.Answers.{MayRefuse};
-ghost use Rattle.t1_cmd.specs.Files.{IsRefusalAt, OfFiles, RefusesFiles};
-ghost use Rattle.t1_cmd.specs.Runs.{InputStops, RunEnds, Succeeds};
-ghost use Rattle.t1_cmd.specs.Listings.{list_reason, join_reason, listing_input, JoinsTo, JoinsRead, StopsRead};
 
 use crate::counting::Counted;
 use crate::faults::{FilesRefusal, Reason, RunFault};

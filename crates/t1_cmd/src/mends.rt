@@ -1,18 +1,13 @@
 //! The engine that mends a font: it writes as a canonical file what other programs spell, and tells what that changes.
-ghost use Rattle.std.specs.Prelude.{◌≡◌, ◌+◌, ◌≤◌, ◌++◌, ◌∷◌, [], Ok, OnOk, IfOk, IfErr, IfSome};
-ghost use Rattle.std.specs.List.{flat_map};
-ghost use Rattle.t1_cmd.specs.Count.{calls_counted, inner_of};
-ghost use Rattle.t1_cmd.specs.Inputs.{input_of};
+ghost use Rattle.std.specs.{Prelude.{◌≡◌, ◌+◌, ◌≤◌, ◌++◌, ◌∷◌, [], Ok, OnOk, IfOk, IfErr, IfSome}, List.{flat_map}};
+ghost use Rattle.t1_cmd.specs.{Count.{calls_counted, inner_of}, Inputs.{input_of}, Runs.{ended, RunEnds, Succeeds}, Answers.{Prints, MayRefuse}};
+ghost use Rattle.t1_cmd.specs.{Fonts.{mended_input, of_mended, file_answer}, Mends.{mend_line, mends_answer}};
 ghost use Rattle.t1_bytes.specs.Limits.{file_limit};
-ghost use Rattle.t1_cmd.specs.Runs.{ended, RunEnds, Succeeds};
-ghost use Rattle.t1_cmd.specs.Answers.{Prints, MayRefuse};
-ghost use Rattle.t1_cmd.specs.Fonts.{mended_input, of_mended, file_answer};
-ghost use Rattle.t1_cmd.specs.Mends.{mend_line, mends_answer};
 
 use crate::counting::Counted;
 use crate::faults::{Reason, RunFault};
+use crate::font_commands::{Taking, read_file, reason_of, text_of_bytes, write_command};
 use crate::fonts::Convert;
-use crate::words::{Taking, read_file, reason_of, text_of_bytes, write_word};
 use std::alloc::{AllocError, Global};
 use std::io::{Read, Write};
 use t1_bytes::FILE_LIMIT;
@@ -94,7 +89,7 @@ pub fn run_mend<R: Read, W: Write>(
         Ok(lines) => lines,
         Err(reason) => return Err(RunFault::Refused(reason)),
     };
-    match write_word(alloc, Taking::Mended, &Convert::to(form), file, writer) {
+    match write_command(alloc, Taking::Mended, &Convert::to(form), file, writer) {
         Ok(()) => Ok(lines),
         Err(fault) => Err(fault),
     }

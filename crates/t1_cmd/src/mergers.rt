@@ -1,21 +1,15 @@
 //! The engine that merges fonts.
 ghost use Rattle.std.specs.Prelude.{◌≡◌, None, Ok, OnOk, IfOk, IfErr, MatchResult};
-ghost use Rattle.t1_subset.specs.Budgets.{fonts_least, IsEnough};
+ghost use Rattle.t1_subset.specs.{Budgets.{fonts_least, IsEnough}, NameSets.{lent}};
 ghost use Rattle.t1_algebra.specs.Merges.{ComesTo};
-ghost use Rattle.t1_cmd.specs.Fonts.{font_input};
-ghost use Rattle.t1_subset.specs.NameSets.{lent};
-ghost use Rattle.t1_cmd.specs.Answers.{MayRefuse};
-ghost use Rattle.t1_cmd.specs.Files.{OfFiles, RefusesFiles};
-ghost use Rattle.t1_cmd.specs.Runs.{RunEnds, Succeeds};
-ghost use Rattle.t1_cmd.specs.Mergers.{inputs_of, InTurns, MergesToFile};
-ghost use Rattle.t1_cmd.specs.Budgets.{MergesWithin};
-ghost use Rattle.t1_cmd.specs.WrittenSubsets.{OfUnion, WritesUnion};
+ghost use Rattle.t1_cmd.specs.{Fonts.{font_input}, Answers.{MayRefuse}, Files.{OfFiles, RefusesFiles}, Runs.{RunEnds, Succeeds}};
+ghost use Rattle.t1_cmd.specs.{Mergers.{inputs_of, InTurns, MergesToFile}, Budgets.{MergesWithin}, WrittenSubsets.{OfUnion, WritesUnion}};
 
 use crate::counting::Counted;
 use crate::faults::{FilesRefusal, Reason, RunFault};
+use crate::font_commands::Taking;
 use crate::fonts::font_file;
-use crate::several::{FontsWord, run_words, text_of_files};
-use crate::words::Taking;
+use crate::several::{FontsCommand, run_fonts_command, text_of_files};
 use std::alloc::Global;
 use std::io::{Read, Write};
 use t1_font::{Font, Form, Source};
@@ -57,15 +51,15 @@ fn merged_file(
     Ok(text)
 }
 
-/// The word `merge`, the form that it writes, and the tokens that it may execute.
+/// The command `merge`, the form that it writes, and the tokens that it may execute.
 #[derive(Drop)]
 pub(crate) struct Merge {
     form: Form,
     budget: Budget,
 }
 
-impl FontsWord for Merge {
-    ghost Answers = { λ word. MergesWithin word.budget.left word.form };
+impl FontsCommand for Merge {
+    ghost Answers = { λ command. MergesWithin command.budget.left command.form };
 
     fn text(&self, alloc: Global, sources: Vec<Source>) -> Result<Vec<u8>, Reason> {
         let fonts = fonts_of(alloc, sources.as_slice())?;
@@ -145,6 +139,6 @@ pub fn run_merge_within<R: Read, W: Write>(
         (inputs_of R.remaining readers.old readers.new) writer.old writer.new result }
     ensures turns { InTurns readers.old readers.new }
 {
-    let word = Merge { form, budget };
-    run_words(alloc, Taking::Spelled, &word, readers, writer)
+    let command = Merge { form, budget };
+    run_fonts_command(alloc, Taking::Spelled, &command, readers, writer)
 }

@@ -1,14 +1,14 @@
 //! Reading a whole input.
 ghost use Rattle.std.specs.Prelude.{◌≡◌, ◌+◌, ◌≤◌, IfOk, IfErr, IfSome, length};
-ghost use Rattle.t1_cmd.specs.Count.{calls_counted, failed_of, inner_of};
-ghost use Rattle.t1_cmd.specs.Runs.{ReadRefusal};
+ghost use Rattle.t1_cmd.specs.{Count.{calls_counted, failed_of, inner_of}, Runs.{ReadRefusal}};
 
 use crate::counting::Counted;
 use crate::faults::{Reason, RunFault};
 use std::alloc::Global;
 use std::io::{ErrorKind, Read};
 
-const CHUNK: usize = 4096;
+/// How many bytes are asked for at a time.
+const CHUNK: usize = 8192;
 
 /// All the bytes of a reader, which is called at most `limit + 1` times, interrupted calls included.
 ///

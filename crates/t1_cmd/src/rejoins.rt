@@ -1,31 +1,25 @@
 //! The engine that rejoins fonts that other programs cut.
 ghost use Rattle.std.specs.Prelude.{◌≡◌, ℕ, List, Option, None, IfOk, IfErr, MatchResult, Ok};
-ghost use Rattle.t1_font.specs.FontValue.{FontValue};
-ghost use Rattle.t1_font.specs.Evening.{evened_shells};
+ghost use Rattle.t1_font.specs.{FontValue.{FontValue}, Normalizing.{normalized_shells}};
 ghost use Rattle.t1_subset.specs.NameSets.{lent};
-ghost use Rattle.t1_cmd.specs.Answers.{MayRefuse};
-ghost use Rattle.t1_cmd.specs.Files.{OfFiles, RefusesFiles};
-ghost use Rattle.t1_cmd.specs.Fonts.{mended_input};
-ghost use Rattle.t1_cmd.specs.Runs.{RunEnds, Succeeds};
-ghost use Rattle.t1_cmd.specs.Mergers.{inputs_of, InTurns};
-ghost use Rattle.t1_cmd.specs.Rejoins.{RejoinsTo};
-ghost use Rattle.t1_cmd.specs.Budgets.{RejoinsWithin, NotRejoinedWithin};
+ghost use Rattle.t1_cmd.specs.{Answers.{MayRefuse}, Files.{OfFiles, RefusesFiles}, Fonts.{mended_input}, Runs.{RunEnds, Succeeds}};
+ghost use Rattle.t1_cmd.specs.{Mergers.{inputs_of, InTurns}, Rejoins.{RejoinsTo}, Budgets.{RejoinsWithin, NotRejoinedWithin}};
 ghost use Rattle.t1_cmd.specs.Cuts.{OfRejoined, WritesRejoined};
 
 use crate::counting::Counted;
 use crate::faults::{FilesRefusal, Name, Reason, RunFault};
+use crate::font_commands::Taking;
 use crate::fonts::font_file;
-use crate::several::{FontsWord, run_words, text_of_files};
-use crate::words::Taking;
+use crate::several::{FontsCommand, run_fonts_command, text_of_files};
 use std::alloc::Global;
 use std::io::{Read, Write};
-use t1_font::{Form, Source, even_shells};
+use t1_font::{Form, Source, normalize_shells};
 use t1_subset::{Budget, BudgetFault, Conflict, RejoinFault, rejoin_within};
 
 // Why fonts don't rejoin within a budget, as a reason.
 fn reason_of(alloc: Global, fault: BudgetFault<RejoinFault>) -> Reason
     ensures { (left : Option ℕ) (form : Form) (whole : List FontValue)
-        → NotRejoinedWithin left (evened_shells whole) fault
+        → NotRejoinedWithin left (normalized_shells whole) fault
         → MayRefuse (RejoinsWithin left form whole) result }
 {
     match fault {
@@ -50,10 +44,10 @@ fn filled_file(
     budget: Budget,
 ) -> Result<Vec<u8>, Reason>
     ensures text { (fonts : List FontValue)
-        → sources.now ≡ evened_shells fonts
+        → sources.now ≡ normalized_shells fonts
         → IfOk result (λ text. RejoinsWithin budget.left form fonts (Ok text.items)) }
     ensures refused { (fonts : List FontValue)
-        → sources.now ≡ evened_shells fonts
+        → sources.now ≡ normalized_shells fonts
         → IfErr result (MayRefuse (RejoinsWithin budget.left form fonts)) }
 {
     let mut indices = Vec::new(alloc);
@@ -67,7 +61,7 @@ fn filled_file(
     Ok(text)
 }
 
-// The canonical file of the font that these come to when they are made even, within a budget.
+// The canonical file of the font that these come to when they are normalized, within a budget.
 fn rejoined_file(
     alloc: Global,
     sources: Vec<Source>,
@@ -77,33 +71,33 @@ fn rejoined_file(
     ensures text { IfOk result (λ text. RejoinsWithin budget.left form sources.items (Ok text.items)) }
     ensures refused { IfErr result (MayRefuse (RejoinsWithin budget.left form sources.items)) }
 {
-    let evened = even_shells(alloc, sources)?;
-    filled_file(alloc, evened.as_slice(), form, budget)
+    let normalized = normalize_shells(alloc, sources)?;
+    filled_file(alloc, normalized.as_slice(), form, budget)
 }
 
-/// The word `rejoin`, the form that it writes, and the tokens that it may execute.
+/// The command `rejoin`, the form that it writes, and the tokens that it may execute.
 #[derive(Drop)]
 pub(crate) struct Rejoin {
     form: Form,
     budget: Budget,
 }
 
-impl FontsWord for Rejoin {
-    ghost Answers = { λ word. RejoinsWithin word.budget.left word.form };
+impl FontsCommand for Rejoin {
+    ghost Answers = { λ command. RejoinsWithin command.budget.left command.form };
 
     fn text(&self, alloc: Global, sources: Vec<Source>) -> Result<Vec<u8>, Reason> {
         rejoined_file(alloc, sources, self.form, self.budget)
     }
 }
 
-/// The canonical file, in one of the two forms, of the font that the fonts of files come to when they are made even and then
+/// The canonical file, in one of the two forms, of the font that the fonts of files come to when they are normalized and then
 /// merged from left to right, as [`run_rejoin`] writes it. Of truncated subsets of one font, such as dvips and pdfTeX cut, this is
 /// the subset of all their names.
 ///
 /// # Errors
 ///
 /// [`Reason::TooLong`] or [`Reason::Font`] with the place of the first file that spells no font; else [`Reason::Lacks`] if a glyph
-/// executes a Subr that its font lacks and another has; else [`Reason::Merge`] if the fonts, made even, don't merge, if one of
+/// executes a Subr that its font lacks and another has; else [`Reason::Merge`] if the fonts, normalized, don't merge, if one of
 /// them is then too heavy, or if there is none. [`Reason::Memory`] if a growth was refused.
 pub fn rejoin_files(alloc: Global, files: &[&[u8]], form: Form) -> Result<Vec<u8>, FilesRefusal>
     ensures text { IfOk result (λ text. OfFiles mended_input (RejoinsTo form) (lent files.now) (Ok text.items)) }
@@ -133,11 +127,11 @@ pub fn rejoin_files_within(
     text_of_files(alloc, Taking::Mended, &Rejoin { form, budget }, files)
 }
 
-/// Writes the canonical file, in one of the two forms, of the font that fonts come to when they are made even and then
+/// Writes the canonical file, in one of the two forms, of the font that fonts come to when they are normalized and then
 /// merged from left to right. Fonts of one parent that other programs cut differ in white space, in lines that number the font
 /// and in tags before its name, declare no Subrs after the last one used, and have boxes of their own where they were converted.
 ///
-/// The inputs are read and understood one after the other, and then made even and merged. If several things are wrong, the
+/// The inputs are read and understood one after the other, and then normalized and merged. If several things are wrong, the
 /// first in that order is answered. Before fonts are merged, a glyph that executes a Subr which its font lacks and another
 /// has is refused as [`Reason::Lacks`]. A font that is too heavy with the stubs that it gets is reported as
 /// [`Conflict::Limit`], if no shell differs from the first.
@@ -173,6 +167,6 @@ pub fn run_rejoin_within<R: Read, W: Write>(
         (inputs_of R.remaining readers.old readers.new) writer.old writer.new result }
     ensures turns { InTurns readers.old readers.new }
 {
-    let word = Rejoin { form, budget };
-    run_words(alloc, Taking::Mended, &word, readers, writer)
+    let command = Rejoin { form, budget };
+    run_fonts_command(alloc, Taking::Mended, &command, readers, writer)
 }

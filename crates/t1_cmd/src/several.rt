@@ -1,41 +1,27 @@
-//! The words about several fonts: what each makes of fonts, of files, and of what readers have.
-ghost use Rattle.std.specs.Prelude.{◌≡◌, ◌++◌, ◌∷◌, [], ℕ, List, Result, Ok, OnOk, IfOk, IfErr};
+//! The commands about several fonts: what each makes of fonts, of files, and of what readers have.
+ghost use Rattle.std.specs.Prelude.{◌≡◌, ℕ, List, Result, Ok, IfOk, IfErr};
 ghost use Rattle.t1_font.specs.FontValue.{FontValue};
 ghost use Rattle.t1_subset.specs.NameSets.{lent};
-ghost use Rattle.t1_cmd.specs.declared.faults.Reason.{Reason};
-ghost use Rattle.t1_cmd.specs.Answers.{MayRefuse};
-ghost use Rattle.t1_cmd.specs.Files.{values_from, IsUnread, IsRefusalAt, OfFiles, RefusesFiles};
-ghost use Rattle.t1_cmd.specs.Fonts.{input_by};
-ghost use Rattle.t1_cmd.specs.Inputs.{Say};
-ghost use Rattle.t1_cmd.specs.Mergers.{inputs_of, InTurns, InputsStop};
-ghost use Rattle.t1_cmd.specs.Runs.{RunEnds};
+ghost use Rattle.t1_cmd.specs.{declared.faults.Reason.{Reason}, Answers.{MayRefuse}, Files.{values_from, IsUnread, IsRefusalAt, OfFiles, RefusesFiles}};
+ghost use Rattle.t1_cmd.specs.{Fonts.{input_by}, Inputs.{Say}, Mergers.{inputs_of, InTurns, InputsStop}, Runs.{RunEnds}};
 
 use crate::counting::Counted;
 use crate::faults::{FilesRefusal, Reason, RunFault};
-use crate::words::{Taking, read_font, source_of};
+use crate::font_commands::{Taking, read_font, source_of};
 use crate::writing::write_text;
 use std::alloc::{AllocError, Global};
 use std::io::{Read, Write};
 use t1_font::Source;
+use t1_join::push_item;
 
-/// A word about several fonts. It has a text or a refusal among its answers for them.
-pub(crate) trait FontsWord {
+/// A command about several fonts. It has a text or a refusal among its answers for them.
+pub(crate) trait FontsCommand {
     ghost Answers: { Self → List FontValue → Result (List ℕ) Reason → Type 0 };
 
-    /// The text that the word makes of the fonts of sources.
+    /// The text that the command makes of the fonts of sources.
     fn text(&self, alloc: Global, sources: Vec<Source>) -> Result<Vec<u8>, Reason>
         ensures text { IfOk result (λ text. Answers self.now sources.items (Ok text.items)) }
         ensures refused { IfErr result (MayRefuse (Answers self.now sources.items)) };
-}
-
-// One more source.
-fn keep(sources: &mut Vec<Source>, source: Source) -> Result<(), AllocError>
-    ensures { OnOk result (sources.new.items ≡ sources.old.items ++ source ∷ []) }
-{
-    match sources.push(source) {
-        Ok(_) => Ok(()),
-        Err(_) => Err(AllocError),
-    }
 }
 
 /// The source of the font that the bytes of a file are taken for.
@@ -75,29 +61,29 @@ fn sources_of(alloc: Global, taking: Taking, files: &[&[u8]]) -> Result<Vec<Sour
             Ok(source) => source,
             Err(reason) => return Err(refused_at(place, reason)),
         };
-        if keep(&mut sources, source).is_err() {
+        if push_item(&mut sources, source).is_err() {
             return Err(refused_at(place, Reason::Memory));
         }
     }
     Ok(sources)
 }
 
-/// The text that a word makes of the fonts that files are taken for.
-pub(crate) fn text_of_files<T: FontsWord>(
+/// The text that a command makes of the fonts that files are taken for.
+pub(crate) fn text_of_files<T: FontsCommand>(
     alloc: Global,
     taking: Taking,
-    word: &T,
+    command: &T,
     files: &[&[u8]],
 ) -> Result<Vec<u8>, FilesRefusal>
     ensures text { IfOk result
-        (λ text. OfFiles (input_by taking) (T.Answers word.now) (lent files.now) (Ok text.items)) }
-    ensures refused { IfErr result (RefusesFiles (input_by taking) (T.Answers word.now) (lent files.now)) }
+        (λ text. OfFiles (input_by taking) (T.Answers command.now) (lent files.now) (Ok text.items)) }
+    ensures refused { IfErr result (RefusesFiles (input_by taking) (T.Answers command.now) (lent files.now)) }
 {
     let sources = match sources_of(alloc, taking, files) {
         Ok(sources) => sources,
         Err(refusal) => return Err(refusal),
     };
-    let text = match word.text(alloc, sources) {
+    let text = match command.text(alloc, sources) {
         Ok(text) => text,
         Err(reason) => {
             return Err(FilesRefusal {
@@ -129,20 +115,20 @@ fn read_fonts<R: Read>(
             Ok(source) => source,
             Err(fault) => return Err(fault),
         };
-        keep(&mut sources, source)?;
+        push_item(&mut sources, source)?;
     }
     Ok(sources)
 }
 
-/// Writes the text that a word makes of the fonts that the readers' bytes are taken for.
-pub(crate) fn run_words<T: FontsWord, R: Read, W: Write>(
+/// Writes the text that a command makes of the fonts that the readers' bytes are taken for.
+pub(crate) fn run_fonts_command<T: FontsCommand, R: Read, W: Write>(
     alloc: Global,
     taking: Taking,
-    word: &T,
+    command: &T,
     readers: &mut [Counted<R>],
     writer: &mut Counted<W>,
 ) -> Result<(), RunFault>
-    ensures ends { RunEnds (input_by taking) (T.Answers word.now) W.contents
+    ensures ends { RunEnds (input_by taking) (T.Answers command.now) W.contents
         (inputs_of R.remaining readers.old readers.new) writer.old writer.new result }
     ensures turns { InTurns readers.old readers.new }
 {
@@ -150,7 +136,7 @@ pub(crate) fn run_words<T: FontsWord, R: Read, W: Write>(
         Ok(sources) => sources,
         Err(fault) => return Err(fault),
     };
-    let text = match word.text(alloc, sources) {
+    let text = match command.text(alloc, sources) {
         Ok(text) => text,
         Err(reason) => return Err(RunFault::Refused(reason)),
     };

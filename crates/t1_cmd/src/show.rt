@@ -1,23 +1,18 @@
 //! The engine that shows what a glyph draws.
-ghost use Rattle.std.specs.Prelude.{◌≡◌, ℕ, ◌+◌, ◌≤◌, List, ◌++◌, ◌∷◌, [], Ok, map, OnOk, IfOk, IfErr};
-ghost use Rattle.std.specs.List.{All, flat_map};
+ghost use Rattle.std.specs.{Prelude.{◌≡◌, ℕ, ◌+◌, ◌≤◌, List, ◌++◌, ◌∷◌, [], Ok, map, OnOk, IfOk, IfErr}, List.{All, flat_map}};
 ghost use Rattle.t1_font.specs.FontModel.{subr_at};
-ghost use Rattle.t1_run.specs.Layouts.{traced, IsPlainPart};
-ghost use Rattle.t1_cmd.specs.Count.{calls_counted};
-ghost use Rattle.t1_cmd.specs.Inputs.{input_of};
+ghost use Rattle.t1_run.specs.Pictures.{placed, traced, IsPlainIn};
+ghost use Rattle.t1_cmd.specs.{Count.{calls_counted}, Inputs.{input_of}, Runs.{RunEnds, Succeeds}, Answers.{Prints, MayRefuse}, Fonts.{font_input, of_file}};
+ghost use Rattle.t1_cmd.specs.DrawingText.{amount, unit_number, numbers, line, mark_line, with_mark_line, part_lines, drawn_lines, draw_fault_line, show_answer};
 ghost use Rattle.t1_bytes.specs.Limits.{file_limit};
-ghost use Rattle.t1_cmd.specs.Runs.{RunEnds, Succeeds};
-ghost use Rattle.t1_cmd.specs.Answers.{Prints, MayRefuse};
-ghost use Rattle.t1_cmd.specs.Fonts.{font_input, of_file};
-ghost use Rattle.t1_cmd.specs.DrawingText.{amount, unit_number, numbers, line, mark_line, with_mark_line, part_lines, drawn_lines, fault_line, show_answer};
 
 use crate::counting::Counted;
 use crate::faults::{Name, Reason, RunFault};
+use crate::font_commands::{FontCommand, Taking, run_command, text_of_bytes};
 use crate::texts::push_number;
-use crate::words::{FontWord, Taking, run_word, text_of_bytes};
 use std::alloc::{AllocError, Global};
 use std::io::{Read, Write};
-use t1_font::{DrawFault, Font, Layout, Mark, Pen, PlacedPart, Point, lay_out, trace};
+use t1_font::{DrawFault, Drawing, DrawnPart, Font, Mark, Pen, Point, lay_out, trace};
 
 // How many counts of 1/65536 make a unit.
 const UNIT: u64 = 65536;
@@ -110,25 +105,25 @@ impl Pen for Lines {
     }
 }
 
-fn push_part(font: &Font<'_>, lines: &mut Lines, part: &PlacedPart<'_>) -> Result<(), AllocError>
-    requires { IsPlainPart (subr_at font.now) part.now }
+fn push_part(font: &Font<'_>, lines: &mut Lines, part: &DrawnPart<&[u8]>) -> Result<(), AllocError>
+    requires { IsPlainIn (subr_at font.now) part.now.marks }
     ensures { OnOk result (lines.new.text.items
-        ≡ lines.old.text.items ++ part_lines (traced (subr_at font.now) part.now)) }
+        ≡ lines.old.text.items ++ part_lines (placed (traced (subr_at font.now)) part.now)) }
 {
     push_pair(&mut lines.text, b"part", part.dx, part.dy)?;
-    trace(lines.alloc, font, part.charstring, lines)?;
+    trace(lines.alloc, font, part.marks, lines)?;
     Ok(())
 }
 
 fn push_parts(
     font: &Font<'_>,
     lines: &mut Lines,
-    parts: &[PlacedPart<'_>],
+    parts: &[DrawnPart<&[u8]>],
 ) -> Result<(), AllocError>
-    requires { All (IsPlainPart (subr_at font.now)) parts.now }
+    requires { All (λ p. IsPlainIn (subr_at font.now) p.marks) parts.now }
     ensures { OnOk result (lines.new.text.items
         ≡ lines.old.text.items
-        ++ flat_map (λ p. part_lines (traced (subr_at font.now) p)) parts.now) }
+        ++ flat_map (λ p. part_lines (placed (traced (subr_at font.now)) p)) parts.now) }
 {
     for part in parts {
         push_part(font, lines, part)?;
@@ -141,11 +136,11 @@ fn drawn(
     font: &Font<'_>,
     width: Point,
     bearing: Point,
-    parts: &[PlacedPart<'_>],
+    parts: &[DrawnPart<&[u8]>],
 ) -> Result<Vec<u8>, AllocError>
-    requires { All (IsPlainPart (subr_at font.now)) parts.now }
+    requires { All (λ p. IsPlainIn (subr_at font.now) p.marks) parts.now }
     ensures { IfOk result (λ text. text.items
-        ≡ drawn_lines width bearing (map (traced (subr_at font.now)) parts.now)) }
+        ≡ drawn_lines width bearing (map (placed (traced (subr_at font.now))) parts.now)) }
 {
     let mut text = Vec::new(alloc);
     push_pair(&mut text, b"width", width.x, width.y)?;
@@ -157,7 +152,7 @@ fn drawn(
 
 /// The line of a fault.
 pub(crate) fn fault_text(alloc: Global, fault: DrawFault) -> Result<Vec<u8>, AllocError>
-    ensures { IfOk result (λ text. text.items ≡ fault_line fault) }
+    ensures { IfOk result (λ text. text.items ≡ draw_fault_line fault) }
 {
     let mut text = Vec::new(alloc);
     text.extend_from_slice(b"fault ")?;
@@ -172,29 +167,29 @@ fn shown_glyph(alloc: Global, font: &Font<'_>, name: &[u8]) -> Result<Vec<u8>, R
     ensures refused { IfErr result (MayRefuse (λ a. a ≡ show_answer name.now font.now)) }
 {
     match lay_out(alloc, font, name)? {
-        Layout::Drawn { width, sb, parts } => {
+        Drawing::Drawn { width, sb, parts } => {
             let text = drawn(alloc, font, width, sb, parts.as_slice())?;
             Ok(text)
         }
-        Layout::Failed(DrawFault::NoGlyph) => {
+        Drawing::Failed(DrawFault::NoGlyph) => {
             let name = Name::new(alloc, name)?;
             Err(Reason::NoGlyph { name })
         }
-        Layout::Failed(fault) => {
+        Drawing::Failed(fault) => {
             let text = fault_text(alloc, fault)?;
             Ok(text)
         }
     }
 }
 
-/// The word `show` about the glyph of a name.
+/// The command `show` about the glyph of a name.
 #[derive(Drop)]
 pub(crate) struct Show<'a> {
     name: &'a [u8],
 }
 
-impl FontWord for Show<'_> {
-    ghost answer = { λ word. show_answer word.name.now };
+impl FontCommand for Show<'_> {
+    ghost answer = { λ command. show_answer command.name.now };
 
     fn text(&self, alloc: Global, font: Font<'_>) -> Result<Vec<u8>, Reason> {
         let text = shown_glyph(alloc, &font, self.name);
@@ -232,5 +227,5 @@ pub fn run_show<R: Read, W: Write>(
         (input_of R.remaining reader.old reader.new ∷ []) writer.old writer.new result }
     ensures turns { calls_counted reader.new ≤ calls_counted reader.old + (file_limit + 1) }
 {
-    run_word(alloc, Taking::Spelled, &Show { name }, reader, writer)
+    run_command(alloc, Taking::Spelled, &Show { name }, reader, writer)
 }

@@ -1,25 +1,17 @@
 //! The engine that subsets a font.
-ghost use Rattle.std.specs.Prelude.{◌≡◌, ◌+◌, ◌≤◌, ◌∷◌, [], List, ℕ, None, Ok, OnOk, IfOk, IfErr};
-ghost use Rattle.t1_subset.specs.Budgets.{kept_longer, kept_tokens, IsEnough};
-ghost use Rattle.std.specs.Option.{option_map};
-ghost use Rattle.std.specs.Str.{bytes_eq};
-ghost use Rattle.t1_algebra.specs.Profile.{profile};
-ghost use Rattle.t1_algebra.specs.Keep.{subset};
-ghost use Rattle.t1_subset.specs.NameSets.{lent, asked};
-ghost use Rattle.t1_cmd.specs.Count.{calls_counted};
-ghost use Rattle.t1_cmd.specs.Inputs.{input_of};
-ghost use Rattle.t1_bytes.specs.Limits.{file_limit};
-ghost use Rattle.t1_cmd.specs.Runs.{RunEnds, Succeeds};
-ghost use Rattle.t1_cmd.specs.Answers.{Prints, OfOne, OfThere, MayRefuse};
-ghost use Rattle.t1_cmd.specs.Budgets.{Within, CutsWithin, SubsetsWithin};
-ghost use Rattle.t1_cmd.specs.Fonts.{font_input, of_file};
+ghost use Rattle.std.specs.{Prelude.{◌≡◌, ◌+◌, ◌≤◌, ◌∷◌, [], List, ℕ, None, Ok, OnOk, IfOk, IfErr}, Option.{option_map}, Str.{bytes_eq}};
+ghost use Rattle.t1_subset.specs.{Budgets.{kept_longer, kept_tokens, IsEnough}, NameSets.{lent, asked}};
+ghost use Rattle.t1_algebra.specs.{Profile.{profile}, Keep.{subset}};
+ghost use Rattle.t1_cmd.specs.{Count.{calls_counted}, Inputs.{input_of}, Runs.{RunEnds, Succeeds}, Answers.{Prints, OfOne, OfThere, MayRefuse}};
+ghost use Rattle.t1_cmd.specs.{Budgets.{Within, CutsWithin, SubsetsWithin}, Fonts.{font_input, of_file}};
 ghost use Rattle.t1_cmd.specs.Subsets.{first_absent, unless_absent, subset_answer, standard_word, code_name, names_with, subset_with_codes};
+ghost use Rattle.t1_bytes.specs.Limits.{file_limit};
 
 use crate::counting::Counted;
 use crate::faults::{Name, Reason, RunFault};
+use crate::font_commands::{Taking, read_font};
 use crate::fonts::font_file;
 use crate::several::source_in;
-use crate::words::{Taking, read_font};
 use crate::writing::write_text;
 use std::alloc::Global;
 use std::io::{Read, Write};

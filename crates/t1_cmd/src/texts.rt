@@ -1,6 +1,5 @@
 //! The lines that report a fault.
-ghost use Rattle.std.specs.Prelude.{◌≡◌, ◌++◌, OnOk, IfOk};
-ghost use Rattle.std.specs.Fmt.{decimal};
+ghost use Rattle.std.specs.{Prelude.{◌≡◌, ◌++◌, OnOk, IfOk}, Fmt.{decimal}};
 ghost use Rattle.t1_join.specs.Shown.{shown};
 ghost use Rattle.t1_cmd.specs.Texts.{fault_line, fault_line_of};
 

@@ -1,10 +1,6 @@
 //! Writing a whole text.
-ghost use Rattle.std.specs.Prelude.{◌≡◌, ◌+◌, IfErr, OnOk, OnErr};
-ghost use Rattle.std.specs.Io.KnownBytes.{Appends};
-ghost use Rattle.t1_cmd.specs.Count.{failed_of, inner_of};
-ghost use Rattle.t1_cmd.specs.Inputs.{RoseByOne};
-ghost use Rattle.t1_cmd.specs.Runs.{AppendsPrefix, WriteRefusal};
-ghost use Rattle.t1_cmd.specs.Texts.{fault_line, fault_line_of};
+ghost use Rattle.std.specs.{Prelude.{◌≡◌, ◌+◌, IfErr, OnOk, OnErr}, Io.KnownBytes.{Appends}};
+ghost use Rattle.t1_cmd.specs.{Count.{failed_of, inner_of}, Inputs.{RoseByOne}, Runs.{AppendsPrefix, WriteRefusal}, Texts.{fault_line, fault_line_of}};
 
 use crate::counting::Counted;
 use crate::faults::{Reason, RunFault};

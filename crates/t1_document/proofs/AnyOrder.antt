@@ -8,8 +8,9 @@ use Rattle.t1_bytes.specs.Laws.{AreBytes}
 use Rattle.t1_join.{specs.Groupings.{one, from_left, leaves}, proofs.OrderLemmas.{leaves_from_left}}
 use Rattle.t1_font.specs.{declared.fault.ReadFault.{ReadFault}, FontValue.{FontValue, declared_count}, IsFont.{IsFont}, Cut.{stub}, Maps.{merged}, ReadFont.{read_font_widely}}
 use Rattle.t1_font.specs.FontBoxes.{Box, box_of, joined_box, can_have, font_with, boxes_of, boxed_by, boxed}
-use Rattle.t1_font.specs.{Evening.{even, stubs_at, below_count, with_stubs, filled, largest_count, indices_of_all, each_even, evened_shells, filled_all}, FontNames.{named, evened_named}}
-use Rattle.t1_font.proofs.{even_fonts.BoxOrder.{in_any_order}, even_fonts.Filled.{find_stub}}
+use Rattle.t1_font.specs.Normalizing.{normal, stubs_at, below_count, with_stubs, filled, largest_count, indices_of_all, each_normal, normalized_shells, filled_all}
+use Rattle.t1_font.specs.FontNames.{named, normalized_named}
+use Rattle.t1_font.proofs.{normal_fonts.BoxOrder.{in_any_order}, normal_fonts.Filled.{find_stub}}
 use Rattle.t1_algebra.specs.{Profile.{profile}, Lacks.{Lack, first_below, user_of, is_had, lack_in, lack_among, first_lack}, Searches.{found}, Merges.{ComesTo}}
 use Rattle.t1_algebra.proofs.{Fonts.{any_order_of_fonts}, ManyMerges.{each_font}}
 use Rattle.t1_subset.specs.Rejoins.{Rejoin}
@@ -195,20 +196,21 @@ comes_in_order (f ∷ fs) (g ∷ gs) j h moved c =
     (subst (IsPermutation (f ∷ fs)) (sym (leaves_from_left (one g) gs)) moved) in
     (any_order_of_fonts profile (from_left (one f) fs) there leaves_moved (each_font f fs h) j c).1
 
-evened_in_order : (name : List ℕ) (fs gs : List FontValue) → IsPermutation fs gs → IsPermutation (evened_named name fs) (evened_named name gs)
-evened_in_order name fs gs moved =
-    let even_moved : IsPermutation (each_even fs) (each_even gs) =
-    subst (λ (n : ℕ). IsPermutation (each_even fs) (map (even n) gs)) (count_in_order fs gs moved) (IsPermutation-map (even (largest_count fs)) fs gs moved) in
-    IsPermutation-map (named name) (evened_shells fs) (evened_shells gs) (boxed_in_order (each_even fs) (each_even gs) even_moved)
+normalized_in_order : (name : List ℕ) (fs gs : List FontValue) → IsPermutation fs gs → IsPermutation (normalized_named name fs) (normalized_named name gs)
+normalized_in_order name fs gs moved =
+    let normal_moved : IsPermutation (each_normal fs) (each_normal gs) =
+    subst (λ (n : ℕ). IsPermutation (each_normal fs) (map (normal n) gs)) (count_in_order fs gs moved)
+    (IsPermutation-map (normal (largest_count fs)) fs gs moved) in
+    IsPermutation-map (named name) (normalized_shells fs) (normalized_shells gs) (boxed_in_order (each_normal fs) (each_normal gs) normal_moved)
 
 rejoin_in_order : (name : List ℕ) (fs gs : List FontValue) (j : FontValue) → AreBytes name → AllByRecursion IsFont fs → IsPermutation fs gs →
-    Rejoin (evened_named name fs) j → Rejoin (evened_named name gs) j
+    Rejoin (normalized_named name fs) j → Rejoin (normalized_named name gs) j
 rejoin_in_order name fs gs j n h moved r =
-    let es = evened_named name fs in
-    let ds = evened_named name gs in
-    let shells = evened_in_order name fs gs moved in
+    let es = normalized_named name fs in
+    let ds = normalized_named name gs in
+    let shells = normalized_in_order name fs gs moved in
     let all = filled_in_order es ds shells in
-    let fonts = each_filled (indices_of_all es) es (each_named name (evened_shells fs) n (shells_are_fonts fs h)) r.light in
+    let fonts = each_filled (indices_of_all es) es (each_named name (normalized_shells fs) n (shells_are_fonts fs h)) r.light in
     record {
       lacks = no_lack_in_order es ds shells r.lacks;
       light = all_in_order _ (filled_all es) (filled_all ds) all r.light;

@@ -1,8 +1,8 @@
 -- What places come to doesn't hang on the bytes before them.
 use Rattle.std.{proofs.Common.{◌≡◌, ℕ, Bool, true, false, refl, sym, ◌∙◌, ap, subst, List, [], ◌∷◌, map, Option, Some, None, Result, Ok, Err}, specs.{Prelude.{◌&&◌}, List.{list_all}, Str.{bytes_eq}}}
-use Rattle.t1_font.specs.{declared.fault.ReadFault.{ReadFault}, FontValue.{FontValue}, ReadFont.{read_font_widely}, FontNames.{evened_named}}
+use Rattle.t1_font.specs.{declared.fault.ReadFault.{ReadFault}, FontValue.{FontValue}, ReadFont.{read_font_widely}, FontNames.{normalized_named}}
 use Rattle.t1_document.specs.{declared.joins.Kept.TheVariants.{Unread, Unlike, Barred}, declared.joins.Outcome.{Outcome}, declared.joins.Outcome.TheVariants.{Same, Joined, Stays}, Documents.{Place}}
-use Rattle.t1_document.specs.{Rewriting.{can_stand}, Joins.{fonts_of_places, with_font, ComeTo, OfPlaces, OfFonts, OfEvened}}
+use Rattle.t1_document.specs.{Rewriting.{can_stand}, Joins.{fonts_of_places, with_font, ComeTo, OfPlaces, OfFonts, OfNormalized}}
 use Rattle.t1_document.proofs.Pooled.{bare}
 
 fonts_bare : (ps : List Place) → fonts_of_places (map bare ps) ≡ fonts_of_places ps
@@ -17,15 +17,15 @@ same_bare : (text : List ℕ) (ps : List Place) → list_all (λ q. bytes_eq tex
 same_bare text [] = refl
 same_bare text (p ∷ ps) = ap (λ (b : Bool). bytes_eq text p.text && b) (same_bare text ps)
 
-evened_bare : (es : List FontValue) (ps : List Place) (o : Outcome) → OfEvened es ps o → OfEvened es (map bare ps) o
-evened_bare es ps (Same t) h = h
-evened_bare es ps (Joined t) h = (h.0, stand_bare t.items ps ∙ h.1)
-evened_bare es ps (Stays (Unread fault)) h = h
-evened_bare es ps (Stays (Unlike fault)) h = h
-evened_bare es ps (Stays Barred) h = (h.0, h.1, stand_bare h.0 ps ∙ h.2)
+normalized_bare : (es : List FontValue) (ps : List Place) (o : Outcome) → OfNormalized es ps o → OfNormalized es (map bare ps) o
+normalized_bare es ps (Same t) h = h
+normalized_bare es ps (Joined t) h = (h.0, stand_bare t.items ps ∙ h.1)
+normalized_bare es ps (Stays (Unread fault)) h = h
+normalized_bare es ps (Stays (Unlike fault)) h = h
+normalized_bare es ps (Stays Barred) h = (h.0, h.1, stand_bare h.0 ps ∙ h.2)
 
 fonts_to : (name : List ℕ) (ps : List Place) (r : Result (List FontValue) ReadFault) (o : Outcome) → OfFonts name ps r o → OfFonts name (map bare ps) r o
-fonts_to name ps (Ok fs) o h = evened_bare (evened_named name fs) ps o h
+fonts_to name ps (Ok fs) o h = normalized_bare (normalized_named name fs) ps o h
 fonts_to name ps (Err fault) o h = h
 
 places_to : (name : List ℕ) (ps : List Place) (text : List ℕ) (same : Bool) (o : Outcome) → OfPlaces name ps text same o →
@@ -44,15 +44,15 @@ to_bare name (p ∷ ps) (Some o) h =
 
 -- ---- and back
 
-evened_from : (es : List FontValue) (ps : List Place) (o : Outcome) → OfEvened es (map bare ps) o → OfEvened es ps o
-evened_from es ps (Same t) h = h
-evened_from es ps (Joined t) h = (h.0, sym (stand_bare t.items ps) ∙ h.1)
-evened_from es ps (Stays (Unread fault)) h = h
-evened_from es ps (Stays (Unlike fault)) h = h
-evened_from es ps (Stays Barred) h = (h.0, h.1, sym (stand_bare h.0 ps) ∙ h.2)
+normalized_from : (es : List FontValue) (ps : List Place) (o : Outcome) → OfNormalized es (map bare ps) o → OfNormalized es ps o
+normalized_from es ps (Same t) h = h
+normalized_from es ps (Joined t) h = (h.0, sym (stand_bare t.items ps) ∙ h.1)
+normalized_from es ps (Stays (Unread fault)) h = h
+normalized_from es ps (Stays (Unlike fault)) h = h
+normalized_from es ps (Stays Barred) h = (h.0, h.1, sym (stand_bare h.0 ps) ∙ h.2)
 
 fonts_from : (name : List ℕ) (ps : List Place) (r : Result (List FontValue) ReadFault) (o : Outcome) → OfFonts name (map bare ps) r o → OfFonts name ps r o
-fonts_from name ps (Ok fs) o h = evened_from (evened_named name fs) ps o h
+fonts_from name ps (Ok fs) o h = normalized_from (normalized_named name fs) ps o h
 fonts_from name ps (Err fault) o h = h
 
 places_from : (name : List ℕ) (ps : List Place) (text : List ℕ) (same : Bool) (o : Outcome) → OfPlaces name (map bare ps) text same o →

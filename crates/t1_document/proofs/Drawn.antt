@@ -1,20 +1,21 @@
--- What stays drawn where fonts are made even, get a name and rejoin.
+-- What stays drawn where fonts are normalized, get a name and rejoin.
 use Rattle.std.proofs.Common.{◌≡◌, ℕ, ◌≤◌, arith, Bool, true, false, cond, refl, sym, ◌∙◌, ap, subst, List, [], ◌∷◌, ◌++◌, ◌-◌, length, take, drop, map, Option, Some, None, Ok}
 use Rattle.std.proofs.{lemmas.Bool.{and_parts}, lemmas.Option.{none-some, same_Some}, lemmas.List.{take-append-drop}}
 use Rattle.std.specs.{Prelude.{is_some, nat_le}, List.{AllByRecursion}, Option.{option_map}}
 use Rattle.t1_grammar.specs.Grammar.{first}
 use Rattle.t1_bytes.specs.Laws.{AreBytes}
 use Rattle.t1_run.specs.{Run.{Subrs, direct, direct3, exec}, Drawings.{draw, draw3}}
-use Rattle.t1_font.specs.{FontValue.{FontValue, Shell, SubrsShell, Numbered, Encoding, Word, Codes, declared_count, count_limit, weight, weight_limit}, FontModel.{subr_at}, IsFont.{IsFont, SubrsFit}}
-use Rattle.t1_font.specs.{Encodings.{SameKind, join_encodings}, Words.{is_regular}, Rewriting.{parted}, Tags.{name_marker, name_in}, EvenTexts.{both_fit}, FontBoxes.{Box, joined_box, font_with}}
-use Rattle.t1_font.specs.{Filling.{AreLight}, Evening.{even, filled, largest_count, indices_of_all, each_even, evened_shells, filled_all}}
-use Rattle.t1_font.specs.FontNames.{name_between, text_named, clear_named, font_named, can_be_named, named, evened_named}
-use Rattle.t1_font.proofs.{ByteLemmas.{AreBytes-append, has_bytes}, read_fonts.ReadBytes.{bytes_left, bytes_right}, even_fonts.Evened.{even_is_font, filled_is_font}}
-use Rattle.t1_font.proofs.{even_fonts.Boxes.{by_cases, boxed_are_fonts}, even_fonts.BoxFonts.{fitting_is_font}}
+use Rattle.t1_font.specs.FontValue.{FontValue, Shell, SubrsShell, SparseArray, Encoding, Word, Codes, declared_count, count_limit, weight, weight_limit}
+use Rattle.t1_font.specs.{FontModel.{subr_at}, IsFont.{IsFont, SubrsFit}}
+use Rattle.t1_font.specs.{Encodings.{SameKind, join_encodings}, Words.{is_regular}, Rewriting.{parted}, Tags.{name_marker, name_in}, NormalTexts.{both_fit}, FontBoxes.{Box, joined_box, font_with}}
+use Rattle.t1_font.specs.{Filling.{AreLight}, Normalizing.{normal, filled, largest_count, indices_of_all, each_normal, normalized_shells, filled_all}}
+use Rattle.t1_font.specs.FontNames.{name_between, text_named, clear_named, font_named, can_be_named, named, normalized_named}
+use Rattle.t1_font.proofs.{ByteLemmas.{AreBytes-append, has_bytes}, read_fonts.ReadBytes.{bytes_left, bytes_right}, normal_fonts.Normalized.{normal_is_font, filled_is_font}}
+use Rattle.t1_font.proofs.{normal_fonts.Boxes.{by_cases, boxed_are_fonts}, normal_fonts.BoxFonts.{fitting_is_font}}
 use Rattle.t1_join.{specs.Groupings.{Grouping, one, two, from_left, leaves}, proofs.OrderLemmas.{leaves_from_left, each_leaf}}
 use Rattle.t1_algebra.specs.{Keep.{has}, Profile.{profile}, Alike.{DrawsAlike}, States.{code_state, Agree, joined_option, Compatible, joined_font}, Groupings.{Merges}, Merges.{ComesTo, DrawsAll}}
-use Rattle.t1_algebra.specs.Evened.{StaysDrawn, map_subrs, AllStayDrawn, EachBeside}
-use Rattle.t1_algebra.proofs.{Drawings.{answers_alike}, Fonts.{merges_are_fonts}, Subsets.{code_joined}, rejoining.Evened.{evened_draw}}
+use Rattle.t1_algebra.specs.Normalized.{StaysDrawn, map_subrs, AllStayDrawn, EachBeside}
+use Rattle.t1_algebra.proofs.{Drawings.{answers_alike}, Fonts.{merges_are_fonts}, Subsets.{code_joined}, rejoining.Normalized.{normalized_draw}}
 use Rattle.t1_subset.{specs.Rejoins.{Rejoin}, proofs.Answered.{draws_all}}
 use Rattle.t1_document.specs.JoinLaws.{StaysIn}
 use Rattle.std.specs.FinMap as maps
@@ -49,7 +50,7 @@ through_both f e j n font joined s d =
 abbrev pub AllDrawn : FontValue → FontValue → Type 0
 AllDrawn j f = (n : List ℕ) → has f n ≡ true → StaysDrawn map_subrs f j n × StaysDrawn subr_at f j n
 
--- so is it with each glyph of fonts that were made even
+-- so is it with each glyph of fonts that were normalized
 pub each_through : (fs es : List FontValue) (j : FontValue) → EachBeside AllStayDrawn fs es → AllByRecursion IsFont es → IsFont j → DrawsAll es j →
     AllByRecursion (AllDrawn j) fs
 each_through [] [] j s fonts joined d = tt
@@ -61,9 +62,9 @@ each_through (f ∷ fs) (e ∷ es) j s fonts joined d = (
   each_through fs es j s.1 fonts.1 joined d.1,
 )
 
--- ---- fonts that are made even
+-- ---- fonts that are normalized
 
-few_declared : (s : Shell) (o : Option SubrsShell) (m : Numbered) → SubrsFit s o m → declared_count o ≤ count_limit
+few_declared : (s : Shell) (o : Option SubrsShell) (m : SparseArray) → SubrsFit s o m → declared_count o ≤ count_limit
 few_declared s None m h = omega arith
 few_declared s (Some k) m h = h.declared
 
@@ -71,13 +72,13 @@ largest_few : (fs : List FontValue) → AllByRecursion IsFont fs → largest_cou
 largest_few [] h = omega arith
 largest_few (f ∷ fs) h = omega (arith, few_declared f.shell f.shell.subrs f.subrs h.0.subrs, largest_few fs h.1)
 
-each_font : (n : ℕ) (fs : List FontValue) → n ≤ count_limit → AllByRecursion IsFont fs → AllByRecursion IsFont (map (even n) fs)
+each_font : (n : ℕ) (fs : List FontValue) → n ≤ count_limit → AllByRecursion IsFont fs → AllByRecursion IsFont (map (normal n) fs)
 each_font n [] le h = tt
-each_font n (f ∷ fs) le h = (even_is_font n f le h.0, each_font n fs le h.1)
+each_font n (f ∷ fs) le h = (normal_is_font n f le h.0, each_font n fs le h.1)
 
--- fonts with even texts and one box are fonts
-pub shells_are_fonts : (fs : List FontValue) → AllByRecursion IsFont fs → AllByRecursion IsFont (evened_shells fs)
-shells_are_fonts fs h = boxed_are_fonts (each_even fs) (each_font (largest_count fs) fs (largest_few fs h) h)
+-- fonts with normalized texts and one box are fonts
+pub shells_are_fonts : (fs : List FontValue) → AllByRecursion IsFont fs → AllByRecursion IsFont (normalized_shells fs)
+shells_are_fonts fs h = boxed_are_fonts (each_normal fs) (each_font (largest_count fs) fs (largest_few fs h) h)
 
 -- so are they with stubs, where they are within the weight limit
 pub each_filled : (indices : List ℕ) (fs : List FontValue) → AllByRecursion IsFont fs → AreLight (map (filled indices) fs) →
@@ -191,29 +192,30 @@ both_beside [] (e ∷ es) s t = absurd s
 both_beside (f ∷ fs) [] s t = absurd s
 both_beside (f ∷ fs) (e ∷ es) s t = ((s.0, t.0), both_beside fs es s.1 t.1)
 
--- the Encodings stay where fonts are made even
+-- the Encodings stay where fonts are normalized
 same_encodings : (indices : List ℕ) (count : ℕ) (fs : List FontValue) →
-    EachBeside (λ f e. e.encoding ≡ f.encoding) fs (map (filled indices) (map (even count) fs))
+    EachBeside (λ f e. e.encoding ≡ f.encoding) fs (map (filled indices) (map (normal count) fs))
 same_encodings indices count [] = tt
 same_encodings indices count (f ∷ fs) = (refl, same_encodings indices count fs)
 
 same_in_box : (u : Box) (indices : List ℕ) (count : ℕ) (fs : List FontValue) →
-    EachBeside (λ f e. e.encoding ≡ f.encoding) fs (map (filled indices) (map (font_with u) (map (even count) fs)))
+    EachBeside (λ f e. e.encoding ≡ f.encoding) fs (map (filled indices) (map (font_with u) (map (normal count) fs)))
 same_in_box u indices count [] = tt
 same_in_box u indices count (f ∷ fs) = (refl, same_in_box u indices count fs)
 
-encodings_stay : (fs : List FontValue) → EachBeside (λ f e. e.encoding ≡ f.encoding) fs (filled_all (evened_shells fs))
+encodings_stay : (fs : List FontValue) → EachBeside (λ f e. e.encoding ≡ f.encoding) fs (filled_all (normalized_shells fs))
 encodings_stay fs =
-    let indices = indices_of_all (evened_shells fs) in
-    by_cases (λ es. EachBeside (λ f e. e.encoding ≡ f.encoding) fs (map (filled indices) es)) (each_even fs) (λ _. same_encodings indices (largest_count fs) fs)
+    let indices = indices_of_all (normalized_shells fs) in
+    by_cases (λ es. EachBeside (λ f e. e.encoding ≡ f.encoding) fs (map (filled indices) es)) (each_normal fs)
+    (λ _. same_encodings indices (largest_count fs) fs)
     (λ bs e t. same_in_box (joined_box bs) indices (largest_count fs) fs)
 
--- fonts that are made even, get a name and are filled
-pub remain_named : (name : List ℕ) (fs : List FontValue) → EachBeside Remains fs (filled_all (evened_named name fs))
+-- fonts that are normalized, get a name and are filled
+pub remain_named : (name : List ℕ) (fs : List FontValue) → EachBeside Remains fs (filled_all (normalized_named name fs))
 remain_named name fs =
-    let es = evened_shells fs in
+    let es = normalized_shells fs in
     subst (λ (is : List ℕ). EachBeside Remains fs (map (filled is) (map (named name) es))) (sym (indices_named name es))
-    (beside_named name (indices_of_all es) fs es (both_beside fs (filled_all es) (evened_draw.all fs) (encodings_stay fs)))
+    (beside_named name (indices_of_all es) fs es (both_beside fs (filled_all es) (normalized_draw.all fs) (encodings_stay fs)))
 
 -- ---- codes
 
@@ -311,12 +313,12 @@ all_stay j (f ∷ fs) (e ∷ es) r d c =
     (record { glyphs = d.0; kind = k.0; codes = k.1 }, all_stay j fs es r.1 d.1 c.1)
 
 -- fonts stay in what they rejoin to under a name
-pub rejoined_stay : (name : List ℕ) (fs : List FontValue) (j : FontValue) → AreBytes name → AllByRecursion IsFont fs → Rejoin (evened_named name fs) j →
+pub rejoined_stay : (name : List ℕ) (fs : List FontValue) (j : FontValue) → AreBytes name → AllByRecursion IsFont fs → Rejoin (normalized_named name fs) j →
     IsFont j × AllByRecursion (λ f. StaysIn f j) fs
 rejoined_stay name fs j n h r =
-    let shells = evened_named name fs in
+    let shells = normalized_named name fs in
     let es = filled_all shells in
-    let fonts = each_filled (indices_of_all shells) shells (each_named name (evened_shells fs) n (shells_are_fonts fs h)) r.light in
+    let fonts = each_filled (indices_of_all shells) shells (each_named name (normalized_shells fs) n (shells_are_fonts fs h)) r.light in
     let joined = comes_to_font es j fonts r.comes in
     let remain = remain_named name fs in (
       joined,

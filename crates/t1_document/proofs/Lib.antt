@@ -16,7 +16,6 @@ pub mod OwnTexts
 pub mod JoinedDocuments
 pub mod LevelledApart
 pub mod CanonTexts
-pub mod OffsetLoop
 pub mod JoinLoops
 pub mod NameLoop
 pub mod NewTexts

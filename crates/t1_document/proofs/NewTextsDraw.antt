@@ -3,11 +3,11 @@ use Rattle.std.proofs.{Common.{◌≡◌, ℕ, Bool, true, false, cond, refl, sy
 use Rattle.std.proofs.{lemmas.Option.{none-some, same_Some}, lemmas.Slice.Eq.{bytes_eq-Decides}, lemmas.List.{append-nil}}
 use Rattle.std.specs.{Prelude.{◌&&◌, not}, List.{AllByRecursion, flat_map, list_all}, Option.{option_and_then}, Str.{bytes_eq}}
 use Rattle.t1_bytes.specs.{Laws.{AreBytes}, FlatText.{starts_segment}}
-use Rattle.t1_font.specs.{declared.fault.ReadFault.{ReadFault}, FontValue.{FontValue}, IsFont.{IsFont}, Dialect.{wide}, ReadFont.{read_font_widely}, FontNames.{evened_named}}
+use Rattle.t1_font.specs.{declared.fault.ReadFault.{ReadFault}, FontValue.{FontValue}, IsFont.{IsFont}, Dialect.{wide}, ReadFont.{read_font_widely}, FontNames.{normalized_named}}
 use Rattle.t1_font.proofs.{ByteLemmas.{has_bytes}, read_fonts.ReadBytes.{bytes_left, bytes_right}, read_fonts.ReadFontLaws.{read_is_font}}
 use Rattle.t1_document.specs.{declared.joins.Outcome.{Outcome}, declared.joins.Outcome.TheVariants.{Same, Joined, Stays}, Fonts.{FontText, font_in, canon_text}, Marks.{has_mark}}
 use Rattle.t1_document.specs.{Documents.{Place, place_bytes, document_of}, Rewriting.{is_font, can_stand}}
-use Rattle.t1_document.specs.{Joins.{places_of_all, places_under, fonts_of_places, with_font, text_for_places, ComeTo, OfPlaces, OfFonts, OfEvened, IsSame}, Laws.{SpellsPlace}}
+use Rattle.t1_document.specs.{Joins.{places_of_all, places_under, fonts_of_places, with_font, text_for_places, ComeTo, OfPlaces, OfFonts, OfNormalized, IsSame}, Laws.{SpellsPlace}}
 use Rattle.t1_document.specs.JoinLaws.{StaysIn, FontStaysIn, NewTextsDraw}
 use Rattle.t1_document.proofs.{PlaceLemmas.{document_text}, FontLemmas.{font_stands}, Spelled.{places_spell}, CanonTexts.{canon_read}, Drawn.{name_bytes, rejoined_stay, stays_in_itself}}
 
@@ -129,11 +129,11 @@ stands_plain text p h = by_font (font_in (text ++ p.rest)) refl
 abbrev pub IsGood : List Place → List ℕ → Type 0
 IsGood ps text = (j : FontValue) × (read_font_widely text ≡ Ok j) × AllByRecursion (FontStaysIn j) ps
 
-of_evened : (name : List ℕ) (p : Place) (ps : List Place) (fs : List FontValue) → AllByRecursion (IsUnder name) (p ∷ ps) → AreFonts (p ∷ ps) fs →
-    (o : Outcome) (text : List ℕ) → OfEvened (evened_named name fs) (p ∷ ps) o → text_for_places o ≡ Some text → IsGood (p ∷ ps) text
-of_evened name p ps fs u r (Same t) text h e = absurd h
-of_evened name p ps fs u r (Stays why) text h e = absurd (none-some text e)
-of_evened name p ps fs u r (Joined t) text h e =
+of_normalized : (name : List ℕ) (p : Place) (ps : List Place) (fs : List FontValue) → AllByRecursion (IsUnder name) (p ∷ ps) → AreFonts (p ∷ ps) fs →
+    (o : Outcome) (text : List ℕ) → OfNormalized (normalized_named name fs) (p ∷ ps) o → text_for_places o ≡ Some text → IsGood (p ∷ ps) text
+of_normalized name p ps fs u r (Same t) text h e = absurd h
+of_normalized name p ps fs u r (Stays why) text h e = absurd (none-some text e)
+of_normalized name p ps fs u r (Joined t) text h e =
     let j = h.0.0 in
     let bytes : AreBytes name = subst AreBytes u.0.1 u.0.0.name in
     let stay = rejoined_stay name fs j bytes (fonts_sound name (p ∷ ps) fs u r) h.0.1 in
@@ -144,7 +144,7 @@ of_evened name p ps fs u r (Joined t) text h e =
 
 of_fonts : (name : List ℕ) (p : Place) (ps : List Place) → AllByRecursion (IsUnder name) (p ∷ ps) → (r : Result (List FontValue) ReadFault) →
     fonts_of_places (p ∷ ps) ≡ r → (o : Outcome) (text : List ℕ) → OfFonts name (p ∷ ps) r o → text_for_places o ≡ Some text → IsGood (p ∷ ps) text
-of_fonts name p ps u (Ok fs) k o text h e = of_evened name p ps fs u (fonts_read (p ∷ ps) fs k) o text h e
+of_fonts name p ps u (Ok fs) k o text h e = of_normalized name p ps fs u (fonts_read (p ∷ ps) fs k) o text h e
 of_fonts name p ps u (Err fault) k o text h e = absurd (none-some text (ap text_for_places (sym h) ∙ e))
 
 of_same : (p : Place) (ps : List Place) → IsSound p → list_all (λ q. bytes_eq p.text q.text) ps ≡ true → (o : Outcome) (text : List ℕ) → IsSame p.text o →

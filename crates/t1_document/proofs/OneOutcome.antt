@@ -3,23 +3,17 @@ use Rattle.std.proofs.{Common.{◌≡◌, ℕ, arith, Bool, true, false, refl, s
 use Rattle.std.proofs.lemmas.Option.{none-some}
 use Rattle.std.specs.{List.{list_all}, Option.{option_and_then}, Str.{bytes_eq}}
 use Rattle.t1_join.specs.Groupings.{one, from_left}
-use Rattle.t1_font.specs.{declared.fault.ReadFault.{ReadFault}, FontValue.{FontValue}, Filling.{AreLight, AnyHeavy}, Evening.{filled_all}, FontNames.{evened_named}}
+use Rattle.t1_font.specs.{declared.fault.ReadFault.{ReadFault}, FontValue.{FontValue}, Normalizing.{filled_all}, FontNames.{normalized_named}}
 use Rattle.t1_algebra.{specs.{Profile.{profile}, Merges.{ComesTo}}, proofs.Orders.{one_result}}
 use Rattle.t1_subset.specs.{declared.conflict.Conflict.{Conflict}, declared.conflict.Conflict.TheVariants.{Memory}, declared.fault.RejoinFault.{RejoinFault}}
 use Rattle.t1_subset.specs.{declared.fault.RejoinFault.TheVariants.{Lacks, Merge}, Merger.{NotMerged}, Rejoins.{Rejoin, NotRejoined, NotMergedFilled}}
-use Rattle.t1_subset.proofs.Answered.{never_stops}
+use Rattle.t1_subset.proofs.{Answered.{never_stops}, Rejoining.{light_or_heavy}}
 use Rattle.t1_document.specs.{declared.joins.Kept.{Kept}, declared.joins.Kept.TheVariants.{Unread, Unlike, Barred}, declared.joins.Outcome.{Outcome}}
 use Rattle.t1_document.specs.{declared.joins.Outcome.TheVariants.{Same, Joined, Stays}, Fonts.{canon_text}, Documents.{Place, document_of}, Rewriting.{NewTexts, can_stand, pooled, levelled}}
-use Rattle.t1_document.specs.Joins.{is_full, wants_memory, places_under, fonts_of_places, new_texts, text_for_places, ComeTo, OfPlaces, OfFonts, OfEvened, IsSame}
+use Rattle.t1_document.specs.Joins.{is_full, wants_memory, places_under, fonts_of_places, new_texts, text_for_places, ComeTo, OfPlaces, OfFonts, OfNormalized, IsSame}
 use Rattle.t1_document.specs.JoinLaws.{OneOutcome, OnePooled, OneLevelled}
 
 -- ---- fonts that rejoin
-
--- fonts of which each is light are not heavy
-pub light_or_heavy : (fs : List FontValue) → AreLight fs → AnyHeavy fs → ⊥
-light_or_heavy [] l h = h
-light_or_heavy (f ∷ fs) l (inl h) = omega (arith, l.0, h)
-light_or_heavy (f ∷ fs) l (inr h) = light_or_heavy fs l.1 h
 
 -- fonts come to one font
 one_font : (fs : List FontValue) (j k : FontValue) → ComesTo fs j → ComesTo fs k → j ≡ k
@@ -45,26 +39,27 @@ not_rejoined es j (Merge e) r (inr h) = by_weight h.1
 -- ---- one text
 
 -- fonts that were joined didn't stay
-joined_or_stay : (es : List FontValue) (ps : List Place) (t : _) (why : Kept) → OfEvened es ps (Joined t) → OfEvened es ps (Stays why) → ⊥
+joined_or_stay : (es : List FontValue) (ps : List Place) (t : _) (why : Kept) → OfNormalized es ps (Joined t) → OfNormalized es ps (Stays why) → ⊥
 joined_or_stay es ps t (Unread fault) a b = b
 joined_or_stay es ps t (Unlike fault) a b = true≢false (sym (not_rejoined es a.0.0 fault a.0.1 b.0) ∙ b.1)
 joined_or_stay es ps t Barred a b =
     let same : t.items ≡ b.0 = a.0.2 ∙ (ap canon_text (one_font (filled_all es) a.0.0 b.1.0 a.0.1.comes b.1.1.comes) ∙ sym b.1.2) in
     true≢false (sym a.1 ∙ (ap (λ (u : List ℕ). list_all (can_stand u) ps) same ∙ b.2))
 
-one_of_evened : (es : List FontValue) (ps : List Place) (a b : Outcome) → OfEvened es ps a → OfEvened es ps b → text_for_places a ≡ text_for_places b
-one_of_evened es ps (Same t) b h k = absurd h
-one_of_evened es ps (Joined t) (Same u) h k = absurd k
-one_of_evened es ps (Joined t) (Joined u) h k =
+one_of_normalized : (es : List FontValue) (ps : List Place) (a b : Outcome) → OfNormalized es ps a → OfNormalized es ps b →
+    text_for_places a ≡ text_for_places b
+one_of_normalized es ps (Same t) b h k = absurd h
+one_of_normalized es ps (Joined t) (Same u) h k = absurd k
+one_of_normalized es ps (Joined t) (Joined u) h k =
     ap (λ (v : List ℕ). Some v) (h.0.2 ∙ (ap canon_text (one_font (filled_all es) h.0.0 k.0.0 h.0.1.comes k.0.1.comes) ∙ sym k.0.2))
-one_of_evened es ps (Joined t) (Stays why) h k = absurd (joined_or_stay es ps t why h k)
-one_of_evened es ps (Stays why) (Same u) h k = absurd k
-one_of_evened es ps (Stays why) (Joined u) h k = absurd (joined_or_stay es ps u why k h)
-one_of_evened es ps (Stays why) (Stays other) h k = refl
+one_of_normalized es ps (Joined t) (Stays why) h k = absurd (joined_or_stay es ps t why h k)
+one_of_normalized es ps (Stays why) (Same u) h k = absurd k
+one_of_normalized es ps (Stays why) (Joined u) h k = absurd (joined_or_stay es ps u why k h)
+one_of_normalized es ps (Stays why) (Stays other) h k = refl
 
 one_of_fonts : (name : List ℕ) (ps : List Place) (r : Result (List FontValue) ReadFault) (a b : Outcome) → OfFonts name ps r a → OfFonts name ps r b →
     text_for_places a ≡ text_for_places b
-one_of_fonts name ps (Ok fs) a b h k = one_of_evened (evened_named name fs) ps a b h k
+one_of_fonts name ps (Ok fs) a b h k = one_of_normalized (normalized_named name fs) ps a b h k
 one_of_fonts name ps (Err fault) a b h k = ap text_for_places (h ∙ sym k)
 
 pub same_text : (text : List ℕ) (o : Outcome) → IsSame text o → text_for_places o ≡ Some text

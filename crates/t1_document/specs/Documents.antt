@@ -1,5 +1,5 @@
 -- A document as its places, which hold fonts, and the bytes before, between and behind them.
-use Rattle.std.specs.{Prelude.{◌≡◌, ℕ, ◌+◌, ◌==◌, ◌&&◌, Bool, true, false, List, [], ◌∷◌, ◌++◌, length, Option, Some, None, if◌then◌else◌}, List.{flat_map}, Option.{option_map}}
+use Rattle.std.specs.{Prelude.{◌≡◌, ℕ, ◌==◌, ◌&&◌, Bool, true, false, List, [], ◌∷◌, ◌++◌, Option, Some, None, if◌then◌else◌}, List.{flat_map}, Option.{option_map}}
 use Rattle.t1_document.specs.{declared.marks.Side.{Side}, declared.marks.Side.TheVariants.{Begin, End}, declared.marks.Kind.{Kind}, declared.marks.Mark.{Mark}, declared.marks.Open.{Open}}
 use Rattle.t1_document.specs.{Marks.{holds_fonts, holds_data, is_document, same_kind, open_count}, Stretches.{Stretch, Stretches, stretches}, Fonts.{FontText, font_in}}
 
@@ -25,11 +25,6 @@ place_bytes p = p.before ++ (p.text ++ p.rest)
 -- the bytes of a document
 abbrev pub document_bytes : Document → List ℕ
 document_bytes d = flat_map place_bytes d.places ++ d.last
-
--- the offsets of the font texts of places behind so many bytes
-abbrev pub offsets_from : ℕ → List Place → List ℕ
-offsets_from at [] = []
-offsets_from at (p ∷ ps) = (at + length p.before) ∷ offsets_from (at + length (place_bytes p)) ps
 
 -- ---- what is open
 

@@ -2,7 +2,7 @@
 use Rattle.std.specs.{Prelude.{◌≡◌, ℕ, true, List, [], ◌∷◌, ◌++◌, Some, Ok, IsPermutation}, List.{AllByRecursion}}
 use Rattle.t1_bytes.specs.Laws.{AreBytes}
 use Rattle.t1_font.specs.{FontValue.{FontValue}, FontModel.{subr_at}, ReadFont.{read_font_widely}, Encodings.{SameKind}}
-use Rattle.t1_algebra.specs.{Keep.{has}, States.{code_state}, Evened.{StaysDrawn, map_subrs}}
+use Rattle.t1_algebra.specs.{Keep.{has}, States.{code_state}, Normalized.{StaysDrawn, map_subrs}}
 use Rattle.t1_document.specs.{Lines.{breaks}, Documents.{Place, IsClosed}, Joins.{Outcomes, AreOutcomes, places_of_all, places_under, new_texts, PooledBy, LevelsTo}, Laws.{NoneRefused}}
 
 -- ---- glyphs

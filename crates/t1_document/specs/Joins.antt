@@ -1,7 +1,7 @@
 -- What becomes of the fonts of a document: those of one name are joined.
 use Rattle.std.specs.{Prelude.{◌≡◌, ℕ, map, Bool, true, false, List, [], ◌∷◌, filter, codes, Option, Some, None, Result, Ok, Err, if◌then◌else◌}, List.{list_all, flat_map}, Option.{option_and_then}}
 use Rattle.std.specs.Str.{bytes_eq}
-use Rattle.t1_font.specs.{declared.fault.ReadFault.{ReadFault}, FontValue.{FontValue}, FaultTexts.{fault_text}, ReadFont.{read_font_widely}, FontNames.{evened_named}}
+use Rattle.t1_font.specs.{declared.fault.ReadFault.{ReadFault}, FontValue.{FontValue}, FaultTexts.{fault_text}, ReadFont.{read_font_widely}, FontNames.{normalized_named}}
 use Rattle.t1_subset.specs.{FaultTexts.{rejoin_text}, declared.fault.RejoinFault.{RejoinFault}, declared.fault.RejoinFault.TheVariants.{Lacks, Merge}, declared.conflict.Conflict.{Conflict}}
 use Rattle.t1_subset.specs.{declared.conflict.Conflict.TheVariants.{Memory}, Rejoins.{Rejoin, NotRejoined}}
 use Rattle.t1_document.specs.{declared.joins.Kept.{Kept}, declared.joins.Kept.TheVariants.{Unread, Unlike, Barred}, declared.joins.Outcome.{Outcome}}
@@ -49,18 +49,18 @@ wants_memory (Merge conflict) = is_full conflict
 abbrev pub RejoinToText : List FontValue → List ℕ → Type 0
 RejoinToText fonts text = (j : FontValue) × Rejoin fonts j × (text ≡ canon_text j)
 
--- Fonts that were made even under the name of these places: they rejoin to a text that can stand at each place; or there is a place where it can't; or they
+-- Fonts that were normalized under the name of these places: they rejoin to a text that can stand at each place; or there is a place where it can't; or they
 -- don't rejoin, and it is said why.
-abbrev pub OfEvened : List FontValue → List Place → Outcome → Type 0
-OfEvened fonts ps (Same text) = ⊥
-OfEvened fonts ps (Joined text) = RejoinToText fonts text.items × (list_all (can_stand text.items) ps ≡ true)
-OfEvened fonts ps (Stays Barred) = (text : List ℕ) × RejoinToText fonts text × (list_all (can_stand text) ps ≡ false)
-OfEvened fonts ps (Stays (Unlike fault)) = NotRejoined fonts fault × (wants_memory fault ≡ false)
-OfEvened fonts ps (Stays (Unread fault)) = ⊥
+abbrev pub OfNormalized : List FontValue → List Place → Outcome → Type 0
+OfNormalized fonts ps (Same text) = ⊥
+OfNormalized fonts ps (Joined text) = RejoinToText fonts text.items × (list_all (can_stand text.items) ps ≡ true)
+OfNormalized fonts ps (Stays Barred) = (text : List ℕ) × RejoinToText fonts text × (list_all (can_stand text) ps ≡ false)
+OfNormalized fonts ps (Stays (Unlike fault)) = NotRejoined fonts fault × (wants_memory fault ≡ false)
+OfNormalized fonts ps (Stays (Unread fault)) = ⊥
 
 -- fonts of places of this name, or the fault of one
 abbrev pub OfFonts : List ℕ → List Place → Result (List FontValue) ReadFault → Outcome → Type 0
-OfFonts name ps (Ok fonts) o = OfEvened (evened_named name fonts) ps o
+OfFonts name ps (Ok fonts) o = OfNormalized (normalized_named name fonts) ps o
 OfFonts name ps (Err fault) o = o ≡ Stays (Unread fault)
 
 -- it is this text that all have
@@ -74,7 +74,7 @@ abbrev pub OfPlaces : List ℕ → List Place → List ℕ → Bool → Outcome 
 OfPlaces name ps text true o = IsSame text o
 OfPlaces name ps text false o = OfFonts name ps (fonts_of_places ps) o
 
--- What the places of a name come to. There is nothing to say of none. If all have one text, it is that; else the fonts that they spell are made even, keep the
+-- What the places of a name come to. There is nothing to say of none. If all have one text, it is that; else the fonts that they spell are normalized, keep the
 -- name, and rejoin.
 abbrev pub ComeTo : List ℕ → List Place → Option Outcome → Type 0
 ComeTo name [] o = o ≡ None

@@ -1,16 +1,10 @@
 //! A document as its places, which hold fonts, and the bytes before, between and behind them.
 
-ghost use Rattle.std.specs.Prelude.{◌≡◌, ◌+◌, ◌<◌, ◌^◌, [], length, map, IfOk};
-ghost use Rattle.std.specs.List.{AllByRecursion};
-ghost use Rattle.std.specs.Option.{option_map};
-ghost use Rattle.t1_font.specs.Answers.{Answers};
-ghost use Rattle.t1_font.specs.FontModel.{clamp};
-ghost use Rattle.t1_font.specs.ReadFont.{read_font_widely};
-ghost use Rattle.t1_document.specs.Marks.{open_count};
-ghost use Rattle.t1_document.specs.Stretches.{stretches};
-ghost use Rattle.t1_document.specs.Documents.{open_behind, begins_part, ends_part, encloses, next_mark, place_with, place_at, place_bytes, offsets_from, document_bytes, document_of};
-ghost use Rattle.t1_document.specs.Laws.{SpellsPlace};
-ghost use Rattle.t1_document.specs.Views.{stretch_view, font_view, place_view, document_view};
+ghost use Rattle.std.specs.{Prelude.{◌≡◌, ◌+◌, ◌<◌, ◌^◌, [], length, IfOk}, List.{AllByRecursion}, Option.{option_map}};
+ghost use Rattle.t1_font.specs.{Answers.{Answers}, FontModel.{clamp}, ReadFont.{read_font_widely}};
+ghost use Rattle.t1_document.specs.{Marks.{open_count}, Stretches.{stretches}};
+ghost use Rattle.t1_document.specs.Documents.{open_behind, begins_part, ends_part, encloses, next_mark, place_with, place_at, place_bytes, document_bytes};
+ghost use Rattle.t1_document.specs.{Documents.{document_of}, Laws.{SpellsPlace}, Views.{stretch_view, font_view, place_view, document_view}};
 
 use crate::fonts::{FontText, font_in};
 use crate::lines::line_of;
@@ -115,26 +109,6 @@ impl Open {
             open.raw = counted(mark.side, self.raw);
         }
         open
-    }
-}
-
-impl<'a> Document<'a> {
-    /// The offset of the font text of each place in the document, as far as 64 bits hold it: no text is as long as that, but
-    /// places that were put together by hand may be.
-    ///
-    /// # Errors
-    ///
-    /// Only want of memory.
-    pub fn offsets(&self, alloc: Global) -> Result<Vec<usize>, AllocError>
-        ensures { IfOk result (λ v. v.items ≡ map clamp (offsets_from 0 (document_view self.now).places)) }
-    {
-        let mut offsets = Vec::with_capacity(alloc, self.places.len())?;
-        let mut at = 0usize;
-        'places: for place in self.places.as_slice() {
-            offsets.push(place.text_offset(at))?;
-            at = place.end_offset(at);
-        }
-        Ok(offsets)
     }
 }
 

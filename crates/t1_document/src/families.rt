@@ -1,15 +1,10 @@
 //! Families of names: those that are equal without their tags.
 
-ghost use Rattle.std.specs.Prelude.{◌≡◌, ◌==◌, ◌&&◌, ◌++◌, ℕ, List, [], Some, map, not, IfOk, OnOk};
-ghost use Rattle.std.specs.Option.{option_map};
-ghost use Rattle.t1_document.specs.Documents.{document_bytes};
-ghost use Rattle.t1_document.specs.Rewriting.{fate_bytes, fated_bytes};
-ghost use Rattle.t1_document.specs.Joins.{new_texts};
-ghost use Rattle.t1_document.specs.Groups.{outcome_in};
+ghost use Rattle.std.specs.{Prelude.{◌≡◌, ◌==◌, ◌&&◌, ◌++◌, ℕ, List, [], Some, map, not, IfOk, OnOk}, Option.{option_map}};
+ghost use Rattle.t1_document.specs.{Documents.{document_bytes}, Rewriting.{fate_bytes, fated_bytes}, Joins.{new_texts}, Groups.{outcome_in}};
 ghost use Rattle.t1_document.specs.Texts.{text_in, has_text, Sees};
-ghost use Rattle.t1_document.specs.Families.{family, first_text, differs, has_other, leader_by, led_by, names_behind, led_from, with_leaders, members_of, family_members};
-ghost use Rattle.t1_document.specs.Families.{alias_line, fate_under, led_fate, aliased};
-ghost use Rattle.t1_document.specs.Views.{place_view, document_view, led_view};
+ghost use Rattle.t1_document.specs.Families.{family, first_text, differs, has_other, leader_by, led_by, names_behind, led_from, with_leaders, members_of};
+ghost use Rattle.t1_document.specs.{Families.{family_members, alias_line, fate_under, led_fate, aliased}, Views.{place_view, document_view, led_view}};
 
 use crate::documents::{Document, Place};
 use crate::joins::Joins;

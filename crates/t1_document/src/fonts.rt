@@ -1,12 +1,9 @@
 //! Font texts: fonts whose cipher is hexadecimal, as documents have them.
 
-ghost use Rattle.std.specs.Prelude.{◌≡◌, ◌≤◌, ◌-◌, false, length, take, drop, IfOk, IfSome};
-ghost use Rattle.std.specs.Option.{option_map};
+ghost use Rattle.std.specs.{Prelude.{◌≡◌, ◌≤◌, ◌-◌, false, length, take, drop, IfOk, IfSome}, Option.{option_map}};
 ghost use Rattle.t1_grammar.specs.Grammar.{that};
-ghost use Rattle.t1_bytes.specs.Eexec.{hex_text};
-ghost use Rattle.t1_bytes.specs.FlatText.{starts_segment};
-ghost use Rattle.t1_document.specs.Fonts.{ends_with_c, font_shape, parted_at, is_memory, spelled_name, name_within, if_font, font_in};
-ghost use Rattle.t1_document.specs.Views.{font_view};
+ghost use Rattle.t1_bytes.specs.{Eexec.{hex_text}, FlatText.{starts_segment}};
+ghost use Rattle.t1_document.specs.{Fonts.{ends_with_c, font_shape, is_memory, spelled_name, name_within, if_font, font_in}, Views.{font_view}};
 
 use std::alloc::{AllocError, Global};
 use t1_bytes::texts::fixed_at;

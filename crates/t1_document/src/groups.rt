@@ -1,11 +1,7 @@
 //! The places of each name.
 
-ghost use Rattle.std.specs.Prelude.{◌≡◌, ◌++◌, ◌∷◌, [], ℕ, List, map, IfOk, OnOk, if◌then◌else◌};
-ghost use Rattle.std.specs.Option.{option_map, unwrap_or};
-ghost use Rattle.std.specs.Str.{bytes_eq};
-ghost use Rattle.t1_document.specs.Joins.{places_under};
-ghost use Rattle.t1_document.specs.Groups.{places_in};
-ghost use Rattle.t1_document.specs.Views.{place_view};
+ghost use Rattle.std.specs.{Prelude.{◌≡◌, ◌++◌, ◌∷◌, [], ℕ, List, map, IfOk, OnOk, if◌then◌else◌}, Option.{option_map, unwrap_or}, Str.{bytes_eq}};
+ghost use Rattle.t1_document.specs.{Joins.{places_under}, Groups.{places_in}, Views.{place_view}};
 
 use crate::documents::Place;
 use std::alloc::{AllocError, Global};

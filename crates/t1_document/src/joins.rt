@@ -1,18 +1,12 @@
 //! What becomes of the fonts of a document: those of one name are joined.
 
-ghost use Rattle.std.specs.Prelude.{◌≡◌, ◌++◌, ◌∷◌, [], ℕ, List, Some, None, map, not, IfOk, IfErr, OnOk, if◌then◌else◌};
-ghost use Rattle.std.specs.List.{list_all};
-ghost use Rattle.std.specs.Option.{option_map, option_copied};
-ghost use Rattle.std.specs.Str.{bytes_eq};
+ghost use Rattle.std.specs.{Prelude.{◌≡◌, ℕ, List, Some, None, map, not, IfOk, IfErr, OnOk, if◌then◌else◌}, List.{list_all}};
+ghost use Rattle.std.specs.{Option.{option_map, option_copied}, Str.{bytes_eq}};
 ghost use Rattle.t1_font.specs.Answers.{Answers};
-ghost use Rattle.t1_font.specs.FontNames.{evened_named};
 ghost use Rattle.t1_subset.specs.Rejoins.{NotRejoined};
-ghost use Rattle.t1_document.specs.Fonts.{canon_text};
-ghost use Rattle.t1_document.specs.Rewriting.{can_stand, lacks_name};
-ghost use Rattle.t1_document.specs.Joins.{fonts_of_places, wants_memory, text_for_places, kept_text, RejoinToText, OfEvened, OfFonts, ComeTo, AreOutcomes, places_under, new_texts};
-ghost use Rattle.t1_document.specs.Groups.{places_in, outcome_in};
-ghost use Rattle.t1_document.specs.Texts.{text_in};
-ghost use Rattle.t1_document.specs.Views.{place_view, document_view};
+ghost use Rattle.t1_document.specs.{Fonts.{canon_text}, Rewriting.{can_stand, lacks_name}};
+ghost use Rattle.t1_document.specs.Joins.{fonts_of_places, wants_memory, text_for_places, kept_text, RejoinToText, OfNormalized, OfFonts, ComeTo, AreOutcomes};
+ghost use Rattle.t1_document.specs.{Joins.{places_under, new_texts}, Groups.{places_in, outcome_in}, Texts.{text_in}, Views.{place_view, document_view}};
 
 use crate::documents::{Document, Place};
 use crate::fonts::is_memory;
@@ -21,7 +15,8 @@ use crate::texts::Texts;
 use std::alloc::{AllocError, Global};
 use std::collections::BTreeMap;
 use std::fmt;
-use t1_font::{Font, Form, ReadFault, Source, even_named, write};
+use t1_font::{Font, Form, ReadFault, Source, normalize_named, write};
+use t1_join::push_item;
 use t1_subset::{Conflict, RejoinFault, rejoin};
 
 /// Why the places of a name keep their texts.
@@ -95,16 +90,6 @@ fn stands(alloc: Global, text: &[u8], places: &[Place<'_>]) -> Result<bool, Allo
     Ok(true)
 }
 
-/// One more source.
-fn keep(sources: &mut Vec<Source>, source: Source) -> Result<(), AllocError>
-    ensures { OnOk result (sources.new.items ≡ sources.old.items ++ source ∷ []) }
-{
-    match sources.push(source) {
-        Ok(_) => Ok(()),
-        Err(_) => Err(AllocError),
-    }
-}
-
 /// The fonts of places.
 fn sources_of(alloc: Global, places: &[Place<'_>]) -> Result<Vec<Source>, ReadFault>
     ensures { Answers (λ v. v.items) result (fonts_of_places (map place_view places.now)) }
@@ -115,7 +100,7 @@ fn sources_of(alloc: Global, places: &[Place<'_>]) -> Result<Vec<Source>, ReadFa
             Ok(source) => source,
             Err(fault) => return Err(fault),
         };
-        keep(&mut sources, source)?;
+        push_item(&mut sources, source)?;
     }
     Ok(sources)
 }
@@ -151,13 +136,13 @@ fn wants_memory(fault: &RejoinFault) -> bool
     matches!(fault, RejoinFault::Merge(Conflict::Memory))
 }
 
-/// What sources that were made even come to, at these places.
-fn of_evened<'a>(
+/// What sources that were normalized come to, at these places.
+fn of_normalized<'a>(
     alloc: Global,
     sources: &[Source],
     places: &[Place<'_>],
 ) -> Result<Outcome<'a>, AllocError>
-    ensures { IfOk result (OfEvened sources.now (map place_view places.now)) }
+    ensures { IfOk result (OfNormalized sources.now (map place_view places.now)) }
 {
     match rejoined_text(alloc, sources) {
         Ok(text) => {
@@ -182,8 +167,8 @@ fn of_fonts<'a>(alloc: Global, name: &[u8], places: &[Place<'_>]) -> Result<Outc
 {
     match sources_of(alloc, places) {
         Ok(sources) => {
-            let evened = even_named(alloc, sources, name)?;
-            of_evened(alloc, evened.as_slice(), places)
+            let normalized = normalize_named(alloc, sources, name)?;
+            of_normalized(alloc, normalized.as_slice(), places)
         }
         Err(fault) => {
             if is_memory(&fault) {
@@ -196,7 +181,7 @@ fn of_fonts<'a>(alloc: Global, name: &[u8], places: &[Place<'_>]) -> Result<Outc
 
 /// What the places of a name come to; nothing, if there are none.
 ///
-/// If all have one text, it is that. Else the fonts that they spell are made even, which takes the tags from their name and from
+/// If all have one text, it is that. Else the fonts that they spell are normalized, which takes the tags from their name and from
 /// other words, get the name back, and rejoin ([`rejoin`]).
 ///
 /// # Errors
@@ -298,7 +283,7 @@ fn joins_of<'a>(
 
 /// What the fonts of each name among some places, of one document or of several, come to.
 ///
-/// If all places of a name have one text, it is that. Else the fonts of its places are made even, which takes the tags from their
+/// If all places of a name have one text, it is that. Else the fonts of its places are normalized, which takes the tags from their
 /// name and from other words, get the name back, and rejoin ([`rejoin`]); and their text has to fit each place
 /// ([`Place::can_stand`]). Where that fails, the places keep their texts.
 ///

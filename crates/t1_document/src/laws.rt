@@ -1,9 +1,10 @@
 //! Laws of documents.
 
-ghost use Rattle.t1_document.specs.Laws.{StretchesOfText, ReadAgain, DocumentOfText, PlacesSpell, JoinedDocuments};
-ghost use Rattle.t1_document.specs.JoinLaws.{NewTextsDraw, NewTextsStand, OneOutcome, OnePooled, OneLevelled, PooledAgain, LevelledAgain, LevelledTogether, InAnyOrder};
+ghost use Rattle.t1_document.specs.Laws.{StretchesOfText, ReadAgain, DocumentOfText, PlacesSpell, JoinedDocuments, RewrittenIsRead, MarksStay, OthersStay};
+ghost use Rattle.t1_document.specs.Laws.{LevelRenews, CanonStands, OwnTextsStand, OwnTextsStay, LevelledTwice, LevelledApart, PoolsAll, PooledTwice};
+ghost use Rattle.t1_document.specs.JoinLaws.{NewTextsDraw, NewTextsStand, OneOutcome, OnePooled, OneLevelled, PooledAgain, LevelledAgain, LevelledTogether};
+ghost use Rattle.t1_document.specs.JoinLaws.{InAnyOrder};
 ghost use Rattle.t1_document.specs.FamilyLaws.{AliasedIsRead, AliasedMarksStay, AliasedOthersStay, AliasesDraw, OneAliased, OneByFamilies, FamiliesAgain};
-ghost use Rattle.t1_document.specs.Laws.{RewrittenIsRead, MarksStay, OthersStay, LevelRenews, CanonStands, OwnTextsStand, OwnTextsStay, LevelledTwice, LevelledApart, PoolsAll, PooledTwice};
 
 /// The stretches of a text, joined, are the text.
 pub fn stretches_of_text()

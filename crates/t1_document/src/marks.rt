@@ -1,6 +1,6 @@
 //! Marks: the lines by which a document says where its parts begin and end (Adobe's Document Structuring Conventions).
 
-ghost use Rattle.std.specs.Prelude.{◌≡◌, ◌≤◌, length};
+ghost use Rattle.std.specs.Prelude.{◌≡◌};
 ghost use Rattle.t1_grammar.specs.Grammar.{fixed};
 ghost use Rattle.t1_document.specs.Marks.{begins_with, kind_of, mark_behind, mark_of, holds_fonts, holds_data, is_document, same_kind};
 

@@ -1,9 +1,7 @@
 //! The names of the fonts of documents.
 
-ghost use Rattle.std.specs.Prelude.{◌≡◌, ◌++◌, ◌∷◌, [], map, ℕ, List, IfOk, OnOk};
-ghost use Rattle.t1_document.specs.Joins.{names_from};
-ghost use Rattle.t1_document.specs.Texts.{Sees};
-ghost use Rattle.t1_document.specs.Views.{place_view};
+ghost use Rattle.std.specs.Prelude.{◌≡◌, ◌∷◌, [], map, ℕ, List, IfOk, OnOk};
+ghost use Rattle.t1_document.specs.{Joins.{names_from}, Texts.{Sees}, Views.{place_view}};
 
 use crate::documents::Place;
 use crate::texts::Texts;

@@ -1,12 +1,9 @@
 //! A document whose fonts get new texts.
 
-ghost use Rattle.std.specs.Prelude.{◌≡◌, ◌&&◌, ◌<◌, ◌++◌, [], List, ℕ, length, is_some, map, not, None, IfOk, OnOk, if◌then◌else◌};
-ghost use Rattle.std.specs.Option.{option_map};
-ghost use Rattle.t1_document.specs.declared.rewriting.Way.TheVariants.{Level, Pool};
-ghost use Rattle.t1_document.specs.Marks.{has_mark};
-ghost use Rattle.t1_document.specs.Documents.{document_bytes};
-ghost use Rattle.t1_document.specs.Rewriting.{is_font, can_stand, is_barred, is_refused, standing, is_pool, fate_by, fate_bytes, seen_behind, document_rewritten, written_from};
-ghost use Rattle.t1_document.specs.Texts.{text_in, has_text, Sees};
+ghost use Rattle.std.specs.{Prelude.{◌≡◌, ◌&&◌, ◌<◌, ◌++◌, [], List, ℕ, is_some, map, None, IfOk, OnOk, if◌then◌else◌}, Option.{option_map}};
+ghost use Rattle.t1_document.specs.{declared.rewriting.Way.TheVariants.{Level, Pool}, Marks.{has_mark}, Documents.{document_bytes}};
+ghost use Rattle.t1_document.specs.Rewriting.{is_font, can_stand, is_barred, is_refused, standing, is_pool, fate_by, fate_bytes, seen_behind};
+ghost use Rattle.t1_document.specs.{Rewriting.{document_rewritten, written_from}, Texts.{text_in, has_text, Sees}};
 ghost use Rattle.t1_document.specs.Views.{font_view, place_view, document_view, fate_view};
 
 use crate::documents::{Document, Place};

@@ -1,10 +1,7 @@
 //! A document as stretches: what stands before its first mark, and each mark with what stands behind it.
 
 ghost use Rattle.std.specs.Prelude.{◌≡◌, ◌<◌, ◌++◌, [], ◌∷◌, None, length, IfSome, MatchOption};
-ghost use Rattle.t1_document.specs.Lines.{line_of};
-ghost use Rattle.t1_document.specs.Marks.{mark_of};
-ghost use Rattle.t1_document.specs.Stretches.{stretches};
-ghost use Rattle.t1_document.specs.Views.{stretch_view};
+ghost use Rattle.t1_document.specs.{Lines.{line_of}, Marks.{mark_of}, Stretches.{stretches}, Views.{stretch_view}};
 
 use crate::lines::line_of;
 use crate::marks::{Mark, mark_of};

@@ -1,8 +1,6 @@
 //! New texts by the names of fonts.
 
-ghost use Rattle.std.specs.Prelude.{◌≡◌, ℕ, List, Some, None, OnOk, OnErr, if◌then◌else◌};
-ghost use Rattle.std.specs.Option.{option_map};
-ghost use Rattle.std.specs.Str.{bytes_eq};
+ghost use Rattle.std.specs.{Prelude.{◌≡◌, ℕ, List, Some, None, OnOk, OnErr, if◌then◌else◌}, Option.{option_map}, Str.{bytes_eq}};
 ghost use Rattle.t1_document.specs.Texts.{text_in};
 
 use std::alloc::{AllocError, Global};

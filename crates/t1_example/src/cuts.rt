@@ -1,24 +1,20 @@
 //! The work of a tool that joins documents whose fonts other programs cut.
 
 ghost use Rattle.std.specs.Prelude.{◌≡◌, ◌∷◌, [], Option, None, Ok, IfOk, MatchResult};
-ghost use Rattle.t1_font.specs.Canon.{canon};
-ghost use Rattle.t1_font.specs.FontValue.{FontValue};
-ghost use Rattle.t1_font.specs.IsFont.{IsFont};
-ghost use Rattle.t1_font.specs.FontBoxes.{Box};
+ghost use Rattle.t1_font.specs.{Canon.{canon}, FontValue.{FontValue}, IsFont.{IsFont}, FontBoxes.{Box}};
 ghost use Rattle.t1_algebra.specs.Rejoins.{Truncated, GetBox, rejoined};
-ghost use Rattle.t1_cmd.specs.Fonts.{mended_input};
-ghost use Rattle.t1_cmd.specs.Cuts.{IsCutFile, AllStayDrawnIn};
+ghost use Rattle.t1_cmd.specs.{Fonts.{mended_input}, Cuts.{IsCutFile, AllStayDrawnIn}};
 
 use std::alloc::Global;
 use t1_cmd::{FilesRefusal, Reason, rejoin_files};
 use t1_font::Form;
 
-/// The file of the font that two cuts of a font come to, as dvips and pdfTeX make them: each is mended, both are made even and
+/// The file of the font that two cuts of a font come to, as dvips and pdfTeX make them: each is mended, both are normalized and
 /// merged, and the merged font is written.
 ///
 /// If each file, however it is spelled, is mended to a truncated subset of one font (its texts may differ in white space, in lines
 /// that number the font, in tags and in FontBBox, and it is cut to its first Subrs, which include those that it keeps), the answer
-/// is the file of the subset of the names of both, with even texts and cut to the larger count, and only want of memory is
+/// is the file of the subset of the names of both, with normalized texts and cut to the larger count, and only want of memory is
 /// refused. Its box is the font's where both have that, and else the least that holds both, where both and the font can have it.
 /// Whatever two fonts come to, each glyph that one of them draws without a fault is drawn the same in what is written.
 pub fn cuts_joined(

@@ -29,21 +29,11 @@ mod subset_files;
 mod widths;
 
 ghost use Rattle.std.specs.Prelude.{◌≡◌, ℕ, true, List, IfOk, MatchResult};
+ghost use Rattle.t1_font.specs.{Canon.{canon}, FontValue.{FontValue}, IsFont.{IsFont}, ReadFont.{read_font}, Spelling.{Spells}};
+ghost use Rattle.t1_algebra.specs.{Interpreter.{Names}, Keep.{keep, subset, IsOf}, Laws.{AnswersAlike}, Profile.{profile}};
+ghost use Rattle.t1_subset.specs.{NameSets.{lent, asked}, Merger.{IsMerger, MergesSubsets}};
+ghost use Rattle.t1_example.specs.{Joining.{AreCuts, CanBeCut, union_subset}, Outcomes.{FileComesTo, FilesMergeTo, MergeTo}, Refusals.{IsMemory}};
 ghost use Rattle.std.specs.FinSet as sets;
-ghost use Rattle.t1_font.specs.Canon.{canon};
-ghost use Rattle.t1_font.specs.FontValue.{FontValue};
-ghost use Rattle.t1_font.specs.IsFont.{IsFont};
-ghost use Rattle.t1_font.specs.ReadFont.{read_font};
-ghost use Rattle.t1_font.specs.Spelling.{Spells};
-ghost use Rattle.t1_algebra.specs.Interpreter.{Names};
-ghost use Rattle.t1_algebra.specs.Keep.{keep, subset, IsOf};
-ghost use Rattle.t1_algebra.specs.Laws.{AnswersAlike};
-ghost use Rattle.t1_subset.specs.NameSets.{lent, asked};
-ghost use Rattle.t1_subset.specs.Merger.{IsMerger, MergesSubsets};
-ghost use Rattle.t1_algebra.specs.Profile.{profile};
-ghost use Rattle.t1_example.specs.Joining.{AreCuts, CanBeCut, union_subset};
-ghost use Rattle.t1_example.specs.Outcomes.{FileComesTo, FilesMergeTo, MergeTo};
-ghost use Rattle.t1_example.specs.Refusals.{IsMemory};
 
 pub use cuts::cuts_joined;
 pub use listings::joined_text;

@@ -1,8 +1,7 @@
 //! A caller of `t1_join`.
 
 ghost use Rattle.std.specs.Prelude.{◌≡◌, Ok, IfOk, IfErr};
-ghost use Rattle.t1_join.specs.ListingJoin.{joined_listing, IsJoinFault};
-ghost use Rattle.t1_join.specs.ListingText.{listing_of};
+ghost use Rattle.t1_join.specs.{ListingJoin.{joined_listing, IsJoinFault}, ListingText.{listing_of}};
 
 use std::alloc::Global;
 use t1_join::{JoinFault, Listing, join, laws, listing};

@@ -1,15 +1,10 @@
 //! A caller of `t1_cmd`.
 
 ghost use Rattle.std.specs.Prelude.{◌≡◌, ◌∷◌, [], None, MatchResult};
-ghost use Rattle.t1_algebra.specs.Groupings.{union_all};
-ghost use Rattle.t1_algebra.specs.Interpreter.{Names};
-ghost use Rattle.t1_algebra.specs.Keep.{subset};
-ghost use Rattle.t1_algebra.specs.Profile.{profile};
+ghost use Rattle.t1_algebra.specs.{Groupings.{union_all}, Interpreter.{Names}, Keep.{subset}, Profile.{profile}};
 ghost use Rattle.t1_bytes.specs.declared.form.Form.TheVariants.{Pfa};
 ghost use Rattle.t1_cmd.specs.WrittenSubsets.{IsSubsetFile};
-ghost use Rattle.t1_font.specs.Canon.{canon};
-ghost use Rattle.t1_font.specs.FontValue.{FontValue};
-ghost use Rattle.t1_font.specs.IsFont.{IsFont};
+ghost use Rattle.t1_font.specs.{Canon.{canon}, FontValue.{FontValue}, IsFont.{IsFont}};
 
 use std::alloc::Global;
 use t1_cmd::{FilesRefusal, Reason, merge_files};

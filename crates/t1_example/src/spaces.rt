@@ -1,10 +1,8 @@
 //! A caller of `t1_char`.
 
 ghost use Rattle.std.specs.Prelude.{◌≡◌, ◌∷◌, [], pos, IfOk, IfErr};
-ghost use Rattle.t1_char.specs.declared.spelling.CharFault.TheVariants.{Memory};
-ghost use Rattle.t1_char.specs.declared.token.Command.TheVariants.{Hsbw, Endchar};
-ghost use Rattle.t1_char.specs.declared.token.Token.TheVariants.{Num, Cmd};
-ghost use Rattle.t1_char.specs.Tokens.{tokens};
+ghost use Rattle.t1_char.specs.{declared.spelling.CharFault.TheVariants.{Memory}, declared.token.Command.TheVariants.{Hsbw, Endchar}};
+ghost use Rattle.t1_char.specs.{declared.token.Token.TheVariants.{Num, Cmd}, Tokens.{tokens}};
 
 use std::alloc::Global;
 use t1_char::{CharFault, Command, Token, write};

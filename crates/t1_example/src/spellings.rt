@@ -1,8 +1,7 @@
 //! A caller of `t1_font`.
 
 ghost use Rattle.std.specs.Prelude.{◌≡◌, ◌⊎◌, Err, IfOk, IfErr};
-ghost use Rattle.t1_font.specs.declared.fault.ReadFault.TheVariants.{Memory};
-ghost use Rattle.t1_font.specs.ReadFont.{read_font};
+ghost use Rattle.t1_font.specs.{declared.fault.ReadFault.TheVariants.{Memory}, ReadFont.{read_font}};
 
 use std::alloc::Global;
 use t1_font::{Form, ReadFault, read, write};

@@ -1,11 +1,9 @@
 //! A caller of `t1_subset`.
 
 ghost use Rattle.std.specs.Prelude.{◌≡◌, ◌⊎◌, None, Ok, IfOk, OnOk, IfErr, MatchResult};
-ghost use Rattle.t1_algebra.specs.Keep.{subset, IsOf};
-ghost use Rattle.t1_algebra.specs.Profile.{profile};
+ghost use Rattle.t1_algebra.specs.{Keep.{subset, IsOf}, Profile.{profile}};
 ghost use Rattle.t1_example.specs.Refusals.{IsMemory, LacksFirst, first_lacking};
-ghost use Rattle.t1_font.specs.Canon.{canon, Fits};
-ghost use Rattle.t1_font.specs.ReadFont.{read_font};
+ghost use Rattle.t1_font.specs.{Canon.{canon, Fits}, ReadFont.{read_font}};
 ghost use Rattle.t1_subset.specs.NameSets.{asked, lent};
 
 use crate::refusal::Refusal;

@@ -2,11 +2,11 @@
 use Rattle.std.proofs.{Common.{◌≡◌, ℕ, zero, suc, ◌+◌, ◌-◌, ◌<◌, ◌≤◌, List, [], ◌∷◌, ◌++◌, length, Some, None, Ok, Err, sym, ap, subst, ◌∙◌, arith}, lemmas.List.{length-append}}
 use Rattle.std.specs.{FinMap.{insert}, Ordering.{nat_cmp}}
 use Rattle.t1_grammar.specs.{Tables.{with_front, counted_at}, CountedLaws.{counted_turn, counted_stops, counted_closes, counted_unclosed}}
-use Rattle.t1_font.specs.{declared.dialect.Spacing.{Spacing}, Words.{next_name}, Encoding.{code_count, array_end, from_code}, Entries.{map_of}, FontValue.{Numbered}}
+use Rattle.t1_font.specs.{declared.dialect.Spacing.{Spacing}, Words.{next_name}, Encoding.{code_count, array_end, from_code}, Entries.{map_of}, FontValue.{SparseArray}}
 use Rattle.t1_font.proofs.HeldLemmas.{one_code_more}
 
 -- the names of the codes below this one are held, before those that are left
-pub record NamesSoFar (d : Spacing) (bytes rest : List ℕ) (codes : Numbered) (code : ℕ) : Type 0 where
+pub record NamesSoFar (d : Spacing) (bytes rest : List ℕ) (codes : SparseArray) (code : ℕ) : Type 0 where
   pub names : List (List ℕ)
   pub count : length names ≡ code
   pub held : codes ≡ map_of (from_code 0 names)
@@ -17,14 +17,14 @@ from_code-push c [] n = ap (λ (k : ℕ). (k, n) ∷ []) (omega arith)
 from_code-push c (m ∷ names) n =
     ap (λ (es : List (ℕ × List ℕ)). (c, m) ∷ es) (from_code-push (suc c) names n ∙ ap (λ (k : ℕ). from_code (suc c) names ++ (k, n) ∷ []) (omega arith))
 
-module _ (d : Spacing) (bytes rest : List ℕ) (codes : Numbered) (code : ℕ) (s : NamesSoFar d bytes rest codes code) where
+module _ (d : Spacing) (bytes rest : List ℕ) (codes : SparseArray) (code : ℕ) (s : NamesSoFar d bytes rest codes code) where
   before_one : (m : ℕ) → code_count - code ≡ m →
       with_front s.names (counted_at (next_name d) (array_end d) m rest) ≡ counted_at (next_name d) (array_end d) code_count bytes
   before_one m e =
       subst (λ (k : ℕ). with_front s.names (counted_at (next_name d) (array_end d) k rest) ≡ counted_at (next_name d) (array_end d) code_count bytes) e s.read
 
   -- one more name
-  pub name_more : (x : List ℕ × List ℕ) (next : Numbered) → code < code_count → (next_name d).read rest ≡ Some x → next ≡ insert codes code x.0 →
+  pub name_more : (x : List ℕ × List ℕ) (next : SparseArray) → code < code_count → (next_name d).read rest ≡ Some x → next ≡ insert codes code x.0 →
       NamesSoFar d bytes x.1 next (code + 1)
   name_more x next below e put =
       let placed : from_code 0 (s.names ++ x.0 ∷ []) ≡ from_code 0 s.names ++ (code, x.0) ∷ [] =
@@ -45,7 +45,7 @@ module _ (d : Spacing) (bytes rest : List ℕ) (codes : Numbered) (code : ℕ) (
       counted_stops (next_name d) (array_end d) (code_count - suc code) s.names rest _ e (before_one (suc (code_count - suc code)) (omega (arith, below)))
 
 -- behind the last name
-module _ (d : Spacing) (bytes rest : List ℕ) (codes : Numbered) (code : ℕ) (all : code_count ≤ code) (s : NamesSoFar d bytes rest codes code) where
+module _ (d : Spacing) (bytes rest : List ℕ) (codes : SparseArray) (code : ℕ) (all : code_count ≤ code) (s : NamesSoFar d bytes rest codes code) where
   none_left : with_front s.names (counted_at (next_name d) (array_end d) zero rest) ≡ counted_at (next_name d) (array_end d) code_count bytes
   none_left = before_one d bytes rest codes code s zero (omega (arith, all))
 

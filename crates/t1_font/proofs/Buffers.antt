@@ -53,7 +53,7 @@ pub record Decrypted (was now : List ℕ) (at left iv : ℕ) (body : Place) (cip
   pub plain_end : plain.end ≡ cipher.end
 
 -- a name before the charstring
-pub record Named (was : List ℕ) (at : ℕ) (name body : Place) (part : Range) : Type 0 where
+pub record CharStrings (was : List ℕ) (at : ℕ) (name body : Place) (part : Range) : Type 0 where
   pub room : name.len + name.behind ≤ length (drop at was)
   pub order : body.len + body.behind ≤ name.behind
   pub start : part.start ≡ length was - (name.len + name.behind)
@@ -149,7 +149,7 @@ module _ (was now : List ℕ) (at left iv : ℕ) (body : Place) (cipher plain : 
   goes_on = omega (arith, same_length, long, d.fits, d.past)
 
   -- a name that stands before it stays
-  module _ (name : Place) (part : Range) (n : Named was at name body part) where
+  module _ (name : Place) (part : Range) (n : CharStrings was at name body part) where
     name_before : IsInside cipher.start part
     name_before = record { ordered = omega (arith, n.start, n.end, n.room, length-drop at was); within = omega (arith, n.end, n.order, d.start) }
 

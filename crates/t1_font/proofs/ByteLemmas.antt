@@ -5,7 +5,7 @@ use Rattle.std.specs.{Prelude.{codes, ◌==◌}, Ordering.{nat_cmp}, Fmt.{decima
 use Rattle.std.specs.{Cmp.{nat_cmp_total}, Cmp.Lexicographic.{nat_list_cmp_total}, FinMap.{get, find, entries, get-entries, nat_cmp-IsAntisymmetric}}
 use Rattle.t1_bytes.specs.{declared.form.Form.{Form}, declared.form.Form.TheVariants.{Pfa, Pfb}, Cipher.{private_cipher}, Texts.{segment_text, hex_byte, hex_rest, hex_lines, trailer}, Laws.{AreBytes}}
 use Rattle.t1_bytes.proofs.Ciphers.{sealed_bytes}
-use Rattle.t1_font.specs.{FontValue.{FontValue, Shell, SubrsShell, Encoding, Word, Codes, Numbered}, Entry.{Body}}
+use Rattle.t1_font.specs.{FontValue.{FontValue, Shell, SubrsShell, Encoding, Word, Codes, SparseArray}, Entry.{Body}}
 use Rattle.t1_font.specs.Canon.{sealed_body, sealed_entry, subr_entry, glyph_entry, subrs_pieces, encoding_pieces, canon_clear, canon_private, canon}
 use Rattle.t1_font.specs.Writing.{body_text, entry_text, entries_text, index_text, subrs_text, subrs_part, name_text, glyphs_text, glyphs_part, puts_text, encoding_text}
 use Rattle.t1_font.specs.IsFont.{IsFont, IsEncoding, SubrsFit, SubrWords, EncodingBytes, SubrsBytes, HasBytes}
@@ -83,7 +83,7 @@ index_bytes i = AreBytes-append (codes "dup ") (digits i) (small_bytes (codes "d
 name_bytes : (n : List ℕ) → AreBytes n → AreBytes (name_text n)
 name_bytes n h = AreBytes-append (codes "/") n (small_bytes (codes "/") refl) h
 
-part_bytes : (iv : ℕ) (o : Option SubrsShell) (m : Numbered) → SubrsBytes o → ((i : ℕ) (c : List ℕ) → get m i ≡ Some c → AreBytes c) →
+part_bytes : (iv : ℕ) (o : Option SubrsShell) (m : SparseArray) → SubrsBytes o → ((i : ℕ) (c : List ℕ) → get m i ≡ Some c → AreBytes c) →
     AreBytes (subrs_part (option_map (subrs_pieces iv (entries m)) o))
 part_bytes iv None m h k = tt
 part_bytes iv (Some t) m h k =
@@ -188,11 +188,11 @@ words_bytes : (es : List (ℕ × List ℕ)) (s : SubrsShell) → SubrWords es s 
 words_bytes [] s h = (subst AreBytes (sym h.0) tt, subst AreBytes (sym h.1) tt)
 words_bytes (e ∷ es) s h = (h.0.bytes, h.1.bytes)
 
-words_have : (s : Shell) (o : Option SubrsShell) (m : Numbered) → SubrsFit s o m → SubrsBytes o
+words_have : (s : Shell) (o : Option SubrsShell) (m : SparseArray) → SubrsFit s o m → SubrsBytes o
 words_have s None m h = tt
 words_have s (Some t) m h = let w = words_bytes (entries m) t h.words in (w.0, w.1, h.closing.bytes)
 
-subrs_have : (s : Shell) (o : Option SubrsShell) (m : Numbered) → SubrsFit s o m → (i : ℕ) (c : List ℕ) → get m i ≡ Some c → AreBytes c
+subrs_have : (s : Shell) (o : Option SubrsShell) (m : SparseArray) → SubrsFit s o m → (i : ℕ) (c : List ℕ) → get m i ≡ Some c → AreBytes c
 subrs_have s None m h i c e = Some_None (sym e ∙ get-entries m i ∙ ap (find nat_cmp i) h.0)
 subrs_have s (Some t) m h i c e = (h.bodies i c e).bytes
 

@@ -1,14 +1,14 @@
 -- What the entries of an Encoding put, copies among them.
 use Rattle.std.proofs.{Common.{◌≡◌, ℕ, zero, suc, ◌+◌, ◌-◌, ◌<◌, List, [], ◌∷◌, ◌++◌, length, refl, sym, ap, ◌∙◌, append_assoc, arith}, lemmas.List.{append-nil}}
 use Rattle.std.specs.{Prelude.{map, unwrap_or}, Ordering.{nat_cmp}, Cmp.{nat_cmp_total}, FinSet.{nat_cmp-IsAntisymmetric}, FinMap.{insert}}
-use Rattle.t1_font.specs.{FontValue.{Numbered, notdef}, Encoding.{CodeEntry, Put, Copy, name_after, copied, put_by, puts_after, puts_of}, Entries.{map_of}}
+use Rattle.t1_font.specs.{FontValue.{SparseArray, notdef}, Encoding.{CodeEntry, Put, Copy, name_after, copied, put_by, puts_after, puts_of}, Entries.{map_of}}
 use Rattle.t1_font.specs.Gathering.{name_in, copied_names, named_from, kept_by}
 use Rattle.t1_font.proofs.{MapLaws.{get-map_of}, HeldLemmas.{one_code_more}}
 
 -- ---- names in turn
 
 -- one more name of so many
-pub names_turn : (codes : Numbered) (from n i : ℕ) (done : List (List ℕ)) (name : List ℕ) (all : List (List ℕ)) → i < n → name ≡ name_in codes (from + i) →
+pub names_turn : (codes : SparseArray) (from n i : ℕ) (done : List (List ℕ)) (name : List ℕ) (all : List (List ℕ)) → i < n → name ≡ name_in codes (from + i) →
     done ++ copied_names codes (from + i) (n - i) ≡ all → (done ++ name ∷ []) ++ copied_names codes (from + (i + 1)) (n - (i + 1)) ≡ all
 names_turn codes from n i done name all below is so_far =
     let more : n - i ≡ suc (n - (i + 1)) = omega (arith, below) in
@@ -18,7 +18,7 @@ names_turn codes from n i done name all below is so_far =
     ((λ j. is j ∷ copied_names codes (next j) (n - (i + 1))) ∙ ap (copied_names codes (from + i)) (sym more)) ∙ so_far)
 
 -- there are so many
-pub names_count : (codes : Numbered) (from n : ℕ) → length (copied_names codes from n) ≡ n
+pub names_count : (codes : SparseArray) (from n : ℕ) → length (copied_names codes from n) ≡ n
 names_count codes from zero = refl
 names_count codes from (suc n) = ap suc (names_count codes (suc from) n)
 
@@ -36,7 +36,7 @@ puts_plain puts [] = sym (append-nil puts)
 puts_plain puts (e ∷ es) = puts_plain (puts ++ e ∷ []) es ∙ append_assoc puts (e ∷ []) es
 
 -- names that are copied are those of the puts before
-copies_kept : (n from to : ℕ) (old now : Numbered) (before puts : List (ℕ × List ℕ)) → old ≡ map_of before → now ≡ map_of puts →
+copies_kept : (n from to : ℕ) (old now : SparseArray) (before puts : List (ℕ × List ℕ)) → old ≡ map_of before → now ≡ map_of puts →
     named_from now to (copied_names old from n) ≡ map_of (puts ++ copied before from n to)
 copies_kept zero from to old now before puts o h = h ∙ ap (map_of {R = nat_cmp}) (sym (append-nil puts))
 copies_kept (suc n) from to old now before puts o h =
@@ -48,11 +48,11 @@ copies_kept (suc n) from to old now before puts o h =
     ∙ ap (map_of {R = nat_cmp}) (append_assoc puts (put ∷ []) (copied before (suc from) n (suc to)))
 
 -- what one entry puts is held with what is held before
-entry_kept : (e : CodeEntry) (puts : List (ℕ × List ℕ)) (codes : Numbered) → codes ≡ map_of puts → kept_by codes e ≡ map_of (puts ++ put_by puts e)
+entry_kept : (e : CodeEntry) (puts : List (ℕ × List ℕ)) (codes : SparseArray) → codes ≡ map_of puts → kept_by codes e ≡ map_of (puts ++ put_by puts e)
 entry_kept (Put c n) puts codes h = one_code_more puts (c, n) codes _ refl h
 entry_kept (Copy from count to) puts codes h = copies_kept count from to codes codes puts puts h h
 
 -- one more entry
-pub one_entry_more : (es : List CodeEntry) (e : CodeEntry) (codes next : Numbered) → next ≡ kept_by codes e → codes ≡ map_of (puts_of es) →
+pub one_entry_more : (es : List CodeEntry) (e : CodeEntry) (codes next : SparseArray) → next ≡ kept_by codes e → codes ≡ map_of (puts_of es) →
     next ≡ map_of (puts_of (es ++ e ∷ []))
 one_entry_more es e codes next kept h = kept ∙ (entry_kept e (puts_of es) codes h ∙ ap (map_of {R = nat_cmp}) (sym (puts_push [] es e)))

@@ -2,9 +2,9 @@
 use Rattle.std.proofs.{Common.{◌≡◌, refl, sym, ◌∙◌, ℕ, Bool, true, false, true≢false, List, Option, None, Some}, lemmas.Slice.Eq.{bytes_eq-Decides}}
 use Rattle.std.specs.{Prelude.{MatchOption}, Str.{bytes_eq}, Cmp.Lexicographic.{nat_list_cmp_total}, FinMap.{get, find, entries, entries_sorted, get-entries}}
 use Rattle.t1_join.proofs.Conflicts.{Says, both_agree, says_first}
-use Rattle.t1_font.specs.{FontValue.{Named, name_cmp}, Joins.{differing_name}, Differing.{DifferAt, IsFirstDiffering, MeetsSmallest}}
+use Rattle.t1_font.specs.{FontValue.{CharStrings, name_cmp}, Joins.{differing_name}, Differing.{DifferAt, IsFirstDiffering, MeetsSmallest}}
 
-module _ (m n : Named) where
+module _ (m n : CharStrings) where
   abbrev agree : List ℕ → Bool
   agree q = both_agree bytes_eq (find name_cmp q (entries m)) (find name_cmp q (entries n))
 

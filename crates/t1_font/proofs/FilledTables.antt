@@ -4,11 +4,11 @@ use Rattle.std.proofs.Common.{Ok, Err, arith, rules, ◌<◌, ◌++◌}
 use Rattle.std.specs.{Prelude.{filter, nat_lt}, Cmp.{nat_cmp_total, Equal-is}, List.Sorted.{IsSearchInRange, IsBinarySearchResult}, Result.{is_ok}, Ordering.{eq_by_cmp, nat_cmp, is_lt}}
 use Rattle.std.specs.{FinMap.{is_sorted}, FinMap.Entries.{below_all}, declared.cmp.Ordering.{Ordering}, declared.cmp.Ordering.TheVariants.{Less, Equal, Greater}}
 use Rattle.t1_join.{specs.TableMeaning.{Rises}, proofs.{Searches.{searched}, Sorted.{both_true}}}
-use Rattle.t1_font.specs.{Filling.{are_below}, Evening.{stubs_at, below_count}, Maps.{merged}, Cut.{stub}, FontValue.{Numbered}, Lent.{stub_at, filled_at}}
+use Rattle.t1_font.specs.{Filling.{are_below}, Normalizing.{stubs_at, below_count}, Maps.{merged}, Cut.{stub}, FontValue.{SparseArray}, Lent.{stub_at, filled_at}}
 use Rattle.t1_font.proofs.{CutEntries.{entries-retain}, MapLemmas.{get-merged, joined}}
 use Rattle.std.specs.FinMap as fin
 
-module _ (own : Numbered) where
+module _ (own : SparseArray) where
   same_below : (k : ℕ) (es : List ℕ) → below_all nat_cmp k (map (filled_at own) es) ≡ below_all nat_cmp k (map stub_at es)
   same_below k [] = refl
   same_below k (e ∷ es) = λ i. is_lt (nat_cmp k e) && same_below k es i
@@ -20,7 +20,7 @@ module _ (own : Numbered) where
 
 -- ---- what is found
 
-module _ (own : Numbered) (q : ℕ) where
+module _ (own : SparseArray) (q : ℕ) where
   -- an entry is found as the stub there
   find_filled : (es : List ℕ) → fin.find nat_cmp q (map (filled_at own) es) ≡ option_map (unwrap_or (fin.get own q)) (fin.find nat_cmp q (map stub_at es))
   find_filled [] = refl
@@ -36,7 +36,7 @@ over None (Some d) h = refl
 over (Some c) None h = absurd (true≢false (sym (h refl)))
 over (Some c) (Some d) h = refl
 
-module _ (others : List ℕ) (own : Numbered) (rise : Rises nat_cmp (map stub_at others)) (all : (q : ℕ) → fin.contains_key own q ≡ true →
+module _ (others : List ℕ) (own : SparseArray) (rise : Rises nat_cmp (map stub_at others)) (all : (q : ℕ) → fin.contains_key own q ≡ true →
     fin.contains_key (fin.from_sorted {R = nat_cmp} (map stub_at others)) q ≡ true) where
   -- a table that is filled at the indices of a list, which has each of its own, is merged with the stubs there
   pub filled_is : fin.from_sorted {R = nat_cmp} (map (filled_at own) others) ≡ merged own (fin.from_sorted (map stub_at others))
@@ -88,7 +88,7 @@ below_by_last n last (i ∷ front) rise =
     with_first false false h = refl
 
 -- the keys of a map rise
-pub keys_rise : (m : Numbered) → Rises nat_cmp (map stub_at (fin.keys m))
+pub keys_rise : (m : SparseArray) → Rises nat_cmp (map stub_at (fin.keys m))
 keys_rise m = subst (λ (b : Bool). T b) (sym (same_keys_rise (fin.entries m))) (fin.entries_sorted m)
 
 module _ (indices : List ℕ) (rise : Rises nat_cmp (map stub_at indices)) where

@@ -1,10 +1,10 @@
 -- What the readers of a font answer.
 use Rattle.std.proofs.{Common.{◌≡◌, ℕ, ◌<◌, Bool, true, false, cond, ltb, List, Option, Some, None, refl, sym, ap, ◌∙◌}, lemmas.Bool.{lt-ltb}}
 use Rattle.std.specs.{FinMap.{get, get-entries, find}, Ordering.{nat_cmp}}
-use Rattle.t1_font.specs.{FontValue.{FontValue, Shell, SubrsShell, Numbered, declared_count}, FontModel.{subr_at}, IsFont.{IsFont, SubrsFit}}
+use Rattle.t1_font.specs.{FontValue.{FontValue, Shell, SubrsShell, SparseArray, declared_count}, FontModel.{subr_at}, IsFont.{IsFont, SubrsFit}}
 
 -- an index with an entry is declared
-below_of : (s : Shell) (o : Option SubrsShell) (m : Numbered) → SubrsFit s o m → (i : ℕ) (c : List ℕ) → get m i ≡ Some c → i < declared_count o
+below_of : (s : Shell) (o : Option SubrsShell) (m : SparseArray) → SubrsFit s o m → (i : ℕ) (c : List ℕ) → get m i ≡ Some c → i < declared_count o
 below_of s None m fit i c e = absurd (none_some (sym (get-entries m i ∙ ap (find nat_cmp i) fit.0) ∙ e))
   where
     none_some : {c : List ℕ} → ◌≡◌ {A = Option (List ℕ)} None (Some c) → ⊥

@@ -2,7 +2,8 @@
 use Rattle.std.proofs.{Common.{◌≡◌, Ordering, ℕ, ◌||◌, Bool, true, false, List, [], ◌∷◌, ◌++◌, Some, refl, sym, ap, ◌∙◌}, lemmas.List.{map_push}}
 use Rattle.std.specs.{Prelude.{unwrap_or, filter}, Str.{bytes_eq}, Ordering.{nat_cmp}, Cmp.{IsTotalOrder, nat_cmp_total}, Cmp.Lexicographic.{nat_list_cmp_total}}
 use Rattle.std.specs.{FinSet.{IsAntisymmetric, slice_cmp-IsAntisymmetric, nat_cmp-IsAntisymmetric}, FinMap.{FinMap, insert, empty, from_sorted}}
-use Rattle.t1_font.specs.{FontValue.{Numbered, Named, name_cmp, notdef}, Charstrings.{plain_of}, Entries.{map_of, names_of, has_name}, Entry.{Entry, plain_entries}, Subrs.{Subr}, Glyphs.{Glyph}}
+use Rattle.t1_font.specs.{FontValue.{SparseArray, CharStrings, name_cmp, notdef}, Charstrings.{plain_of}}
+use Rattle.t1_font.specs.{Entries.{map_of, names_of, has_name}, Entry.{Entry, plain_entries}, Subrs.{Subr}, Glyphs.{Glyph}}
 use Rattle.t1_font.specs.{Held.{first_words, HoldsSubrs, HoldsGlyphs, names_notdef}, Gathering.{named}}
 use Rattle.t1_font.proofs.MapLaws.{map_of-append, map_of-nil, entries-map_of}
 
@@ -15,12 +16,12 @@ pub none_named : empty ≡ map_of {R = name_cmp} []
 none_named = sym (map_of-nil nat_list_cmp_total (slice_cmp-IsAntisymmetric nat_cmp-IsAntisymmetric))
 
 -- one more put
-pub one_code_more : (es : List (ℕ × List ℕ)) (e : ℕ × List ℕ) (codes next : Numbered) → next ≡ insert codes e.0 e.1 → codes ≡ map_of es →
+pub one_code_more : (es : List (ℕ × List ℕ)) (e : ℕ × List ℕ) (codes next : SparseArray) → next ≡ insert codes e.0 e.1 → codes ≡ map_of es →
     next ≡ map_of (es ++ e ∷ [])
 one_code_more es e codes next put same = put ∙ (ap (λ m. insert m e.0 e.1) same ∙ sym (map_of-append nat_cmp_total nat_cmp-IsAntisymmetric es e))
 
 -- the names among the last puts
-pub names_put : (es : List (ℕ × List ℕ)) (codes : Numbered) → codes ≡ map_of es → named codes ≡ names_of es
+pub names_put : (es : List (ℕ × List ℕ)) (codes : SparseArray) → codes ≡ map_of es → named codes ≡ names_of es
 names_put es codes same =
     ap named same ∙ ap (λ last. from_sorted {R = nat_cmp} (filter has_name last)) (entries-map_of nat_cmp_total nat_cmp-IsAntisymmetric es)
 
@@ -41,12 +42,12 @@ module _ {K : Type 0} {R : K → K → Ordering} (o : IsTotalOrder R) (same : Is
   entry_more iv bodies next es e put held = put ∙ (ap (λ m. insert m e.key (plain_of iv e.body.bytes)) held ∙ sym (entries_more iv es e))
 
 -- one more glyph
-pub one_glyph_more : (iv : ℕ) (bodies next : Named) (es : List Glyph) (e : Glyph) →
+pub one_glyph_more : (iv : ℕ) (bodies next : CharStrings) (es : List Glyph) (e : Glyph) →
     next ≡ insert bodies e.key (plain_of iv e.body.bytes) → HoldsGlyphs iv bodies es → HoldsGlyphs iv next (es ++ e ∷ [])
 one_glyph_more = entry_more nat_list_cmp_total (slice_cmp-IsAntisymmetric nat_cmp-IsAntisymmetric)
 
 -- one Subr more
-pub one_subr_more : (declared iv : ℕ) (bodies next : Numbered) (es : List Subr) (e : Subr) →
+pub one_subr_more : (declared iv : ℕ) (bodies next : SparseArray) (es : List Subr) (e : Subr) →
     next ≡ insert bodies e.key (plain_of iv e.body.bytes) → HoldsSubrs declared iv bodies es → HoldsSubrs declared iv next (es ++ e ∷ [])
 one_subr_more declared iv bodies next es e put h few = entry_more nat_cmp_total nat_cmp-IsAntisymmetric iv bodies next es e put (h few)
 

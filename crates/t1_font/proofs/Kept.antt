@@ -3,7 +3,7 @@ use Rattle.std.proofs.Common.{◌≡◌, ℕ, ◌≤◌, Ordering, Bool, true, f
 use Rattle.std.proofs.{lemmas.Slice.Eq.{bytes_eq-Decides}, lemmas.Bool.{leb-true}}
 use Rattle.std.specs.{Option.{option_map}, Str.{bytes_eq}, Ordering.{nat_cmp}, Cmp.{IsTotalOrder, nat_cmp_total}}
 use Rattle.std.specs.{FinMap.{FinMap, find, get, get-entries, entries, len, len-entries, retain_keys, IsAntisymmetric, nat_cmp-IsAntisymmetric}, Cmp.Lexicographic.{nat_list_cmp_total}}
-use Rattle.t1_font.specs.{FontValue.{FontValue, Shell, SubrsShell, Encoding, Word, Codes, Numbered, notdef, total, subr_weight, glyph_weight, weight, count_limit, weight_limit}, Markers.{len_iv}}
+use Rattle.t1_font.specs.{FontValue.{FontValue, Shell, SubrsShell, Encoding, Word, Codes, SparseArray, notdef, total, subr_weight, glyph_weight, weight, count_limit, weight_limit}, Markers.{len_iv}}
 use Rattle.t1_font.specs.{Pieces.{iv_of}, Spelling.{IsLenIV, said, unsaid}, Cut.{stub, restrict, restrict_encoding}, Maps.{map_values, merged}, Joins.{joined_subr, join_parts}}
 use Rattle.t1_font.specs.{Encodings.{join_encodings, SameKind}, IsFont.{IsFont, IsWord, IsCharstring, SubrsFit, SubrWords, AreGlyphs, IsCode, IsEncoding}}
 use Rattle.t1_font.proofs.{MapLemmas.{get-map_values, entries-map_values, get-retain, get-merged, total-le, length_total, joined, Some_same, Some_None}, Spelled.{iv_is}}
@@ -41,7 +41,7 @@ words_kept f [] s h = h
 words_kept f (e ∷ es) s h = h
 
 -- subroutines with other charstrings, which have room for their lead bytes
-subrs_kept : (s : Shell) (o : Option SubrsShell) (m : Numbered) (f : ℕ → List ℕ → List ℕ) → SubrsFit s o m →
+subrs_kept : (s : Shell) (o : Option SubrsShell) (m : SparseArray) (f : ℕ → List ℕ → List ℕ) → SubrsFit s o m →
     ((i : ℕ) (c : List ℕ) → get m i ≡ Some c → IsCharstring s.len_iv c → IsCharstring s.len_iv (f i c)) → SubrsFit s o (map_values f m)
 subrs_kept s None m f h k = (entries-map_values nat_cmp_total nat_cmp-IsAntisymmetric f m ∙ ap (map (λ e. (e.0, f e.0 e.1))) h.0, h.1)
 subrs_kept s (Some t) m f h k = record {
@@ -136,7 +136,7 @@ other_fits iv true c None h k = h
 other_fits iv true c (Some d) h k = k d refl
 other_fits iv false c o h k = h
 
-subrs_fit : (s : Shell) (o : Option SubrsShell) (m : Numbered) → SubrsFit s o m → (i : ℕ) (c : List ℕ) → get m i ≡ Some c → IsCharstring s.len_iv c
+subrs_fit : (s : Shell) (o : Option SubrsShell) (m : SparseArray) → SubrsFit s o m → (i : ℕ) (c : List ℕ) → get m i ≡ Some c → IsCharstring s.len_iv c
 subrs_fit s None m h i c e = Some_None (sym e ∙ get-entries m i ∙ ap (find nat_cmp i) h.0)
 subrs_fit s (Some t) m h i c e = h.bodies i c e
 

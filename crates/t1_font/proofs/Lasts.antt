@@ -8,7 +8,7 @@ use Rattle.std.specs.{declared.cmp.Ordering.TheVariants.{Less, Equal, Greater}, 
 use Rattle.std.specs.Map.{keys_of}
 use Rattle.t1_grammar.specs.Grammar.{choice}
 use Rattle.t1_join.{specs.{Entries.{entries_by}, TableMeaning.{Rises}}, proofs.TreeEntries.{sorted_entries}}
-use Rattle.t1_font.{specs.Entries.{comes_again, run_end, run_ends, AreLast, AreSettled, last_value, map_of}, proofs.{MapLaws.{get-map_of, choice-none}, canonical.FontAgain.{map_again}}}
+use Rattle.t1_font.{specs.Entries.{comes_again, run_end, run_ends, KeysRise, AreLast, AreSettled, last_value, map_of}, proofs.{MapLaws.{get-map_of, choice-none}, canonical.FontAgain.{map_again}}}
 use Rattle.std.specs.FinMap as fin
 
 -- ---- the last of a list
@@ -101,6 +101,30 @@ module _ {K V : Type 0} {R : K → K → Ordering} (o : IsTotalOrder R) where
   -- the keys of the last entries rise
   pub last_rise : (es last : List (K × V)) → AreLast R es last → IsStrictlySortedBy R (keys_of last)
   last_rise es last are = subst (λ l. IsStrictlySortedBy R (keys_of l)) (sym are.last_is) (ends_rise are.sorted are.rise)
+
+  -- keys of which each is below the next don't fall
+  pub rising_sorted : (es : List (K × V)) → KeysRise R es → IsSortedByKey key R es
+  rising_sorted es up = λ k d low high. above (R (get_or es k d).0 (get_or es (k + 1) d).0) (R (get_or es (k + 1) d).0 (get_or es k d).0)
+      (o.antisymm _ _) (up k d high)
+    where
+      above : (r s : Ordering) → s ≡ ordering_reverse r → r ≡ Less → is_lt s ≡ false
+      above r s e less = grind (arith, e, less)
+
+  tail_rises : (e : K × V) (es : List (K × V)) → KeysRise R (e ∷ es) → KeysRise R es
+  tail_rises e es up = λ k d high. subst (λ n. R (get_or es k d).0 (get_or es n d).0 ≡ Less)
+      (omega arith) (simp unary_clauses at (up (suc k) d (omega (arith, high))))
+
+  -- and none of them comes again
+  pub rising_ends : (es : List (K × V)) → KeysRise R es → run_ends R es ≡ es
+  rising_ends [] up = refl
+  rising_ends (e ∷ []) up = refl
+  rising_ends (e ∷ f ∷ es) up =
+      let alone : comes_again R e.0 (f ∷ es) ≡ false = apart (R e.0 f.0) (R f.0 e.0) (o.antisymm _ _) (up 0 e (omega arith)) in
+      ap (λ b. cond b (run_ends R (f ∷ es)) (e ∷ run_ends R (f ∷ es))) alone
+      ∙ ap (λ (x : List (K × V)). e ∷ x) (rising_ends (f ∷ es) (tail_rises e (f ∷ es) up))
+    where
+      apart : (r s : Ordering) → s ≡ ordering_reverse r → r ≡ Less → is_eq s ≡ false
+      apart r s e less = grind (arith, e, less)
 
 -- ---- by what keys and values stand for
 

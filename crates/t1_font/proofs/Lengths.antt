@@ -1,14 +1,14 @@
 -- Lengths that the writer counts.
 use Rattle.std.{proofs.Common.{◌≡◌, ℕ, suc, ◌+◌, List, [], ◌∷◌, ◌++◌, length, map, refl, sym, ap, ◌∙◌, append_assoc}, specs.{Prelude.{codes}, FinMap.{entries, len, len-entries}, Fmt.{decimal}}}
 use Rattle.t1_bytes.proofs.Ciphers.{length-sealed}
-use Rattle.t1_font.specs.{FontValue.{Named, Shell, SubrsShell, name_cmp}, Canon.{sealed_body, subr_entry, glyph_entry}, Writing.{subr_text, glyph_text, glyphs_text, glyphs_part}}
+use Rattle.t1_font.specs.{FontValue.{CharStrings, Shell, SubrsShell, name_cmp}, Canon.{sealed_body, subr_entry, glyph_entry}, Writing.{subr_text, glyph_text, glyphs_text, glyphs_part}}
 
 -- a charstring in a file has its lead bytes before it
 pub length_of_sealed : (len_iv : ℕ) (plain : List ℕ) → length (sealed_body len_iv plain) ≡ len_iv + length plain
 length_of_sealed len_iv plain = length-sealed 4330 len_iv plain
 
 -- as many glyphs are written as there are
-pub glyphs_counted : (s : Shell) (m : Named) → length (map (glyph_entry s) (entries m)) ≡ len m
+pub glyphs_counted : (s : Shell) (m : CharStrings) → length (map (glyph_entry s) (entries m)) ≡ len m
 glyphs_counted s m = length_map (entries m) ∙ sym (len-entries {R = name_cmp} m)
   where
     length_map : (es : List (List ℕ × List ℕ)) → length (map (glyph_entry s) es) ≡ length es
@@ -42,7 +42,7 @@ subr_put out one two all len_iv s index plain a b c = three_put out (10 ∷ 100 
     ∙ ap (λ (u : List ℕ). out ++ (10 ∷ 100 ∷ 117 ∷ 112 ∷ 32 ∷ (decimal index ++ u))) (counted len_iv plain s.rd s.put)
 
 -- the marker of the glyphs, and the glyphs that are left to write
-pub glyphs_begun : (out one two three : List ℕ) (s : Shell) (m : Named) (n : ℕ) (es : List (List ℕ × List ℕ)) → n ≡ len m →
+pub glyphs_begun : (out one two three : List ℕ) (s : Shell) (m : CharStrings) (n : ℕ) (es : List (List ℕ × List ℕ)) → n ≡ len m →
     one ≡ out ++ codes "/CharStrings " → two ≡ one ++ decimal n → three ≡ two ++ codes " dict dup begin" → es ≡ entries m
     → three ++ glyphs_text (map (glyph_entry s) es) ≡ out ++ glyphs_part (map (glyph_entry s) (entries m))
 glyphs_begun out one two three s m n es count a b c same =

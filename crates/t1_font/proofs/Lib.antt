@@ -33,7 +33,7 @@ pub mod CutEntries
 pub mod CutLoops
 pub mod LentTables
 pub mod FilledTables
-pub mod even_fonts
+pub mod normal_fonts
 pub mod Untested
 pub mod FontTests
 pub mod Differing

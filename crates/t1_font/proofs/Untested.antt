@@ -4,7 +4,7 @@ use Rattle.std.proofs.{Common.{true≢false}, lemmas.List.{append-nil, length-ap
 use Rattle.std.specs.Prelude.{ℕ, ◌&&◌, ◌||◌, ◌==◌, not, codes}
 use Rattle.t1_grammar.specs.{Grammar.{Grammar, NoneIn, Lacks, first}, Places.{occurs, absent_lacks}}
 use Rattle.t1_bytes.specs.{FlatText.{starts_segment}, Laws.{AreBytes}, Eexec.{eexec_marker}}
-use Rattle.t1_font.specs.{Markers.{encoding_marker}, FontValue.{Shell, SubrsShell, Numbered, weight}, IsFont.{NoMarker, SubrsFit}, Words.{is_regular, regular_comes}}
+use Rattle.t1_font.specs.{Markers.{encoding_marker}, FontValue.{Shell, SubrsShell, SparseArray, weight}, IsFont.{NoMarker, SubrsFit}, Words.{is_regular, regular_comes}}
 use Rattle.t1_font.specs.FontTest.{ends_before, token, test_tokens, then_save, known_name, font_test, apart_test, found_test, around, eexec_there, has_marker, is_untested, tested_head, untested}
 use Rattle.t1_font.specs.FontTest.{untested_shell, untested_font, UntestedTwice, UntestedStarts, UntestedIsFont}
 use Rattle.t1_font.proofs.{ByteLemmas.{AreBytes-append}, read_fonts.ReadBytes.{bytes_left, bytes_right, drop_bytes}}
@@ -197,7 +197,7 @@ untested_is_font f h =
       light,
     )
   where
-    subrs_stay : (s : Shell) (o : Option SubrsShell) (m : Numbered) → SubrsFit s o m → SubrsFit (untested_shell s) o m
+    subrs_stay : (s : Shell) (o : Option SubrsShell) (m : SparseArray) → SubrsFit s o m → SubrsFit (untested_shell s) o m
     subrs_stay s None m k = k
     subrs_stay s (Some t) m k = k
 

@@ -1,7 +1,7 @@
 -- Rows that are computed on the definitions.
 pub mod FontTestRows
 pub mod TagRows
-pub mod EvenRows
+pub mod NormalRows
 pub mod BoxRows
 pub mod Tiny
 pub mod TinyCuts

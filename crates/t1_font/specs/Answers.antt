@@ -2,7 +2,7 @@
 use Rattle.std.specs.{Prelude.{◌≡◌, ℕ, List, Option, Some, None, Result, Ok, Err}, Option.{option_map}}
 use Rattle.t1_font.specs.{declared.fault.ReadFault.{ReadFault}, declared.fault.ReadFault.TheVariants.{Memory}, declared.encoding.EncodingParts.{EncodingParts}}
 use Rattle.t1_font.specs.{declared.encoding.ClearParts.{ClearParts}, declared.subrs.SubrsParts.{SubrsParts}, declared.glyphs.GlyphsParts.{GlyphsParts}, declared.private.Before.{Before}}
-use Rattle.t1_font.specs.{declared.private.PrivateParts.{PrivateParts}, FontValue.{Numbered, Encoding, Word, Codes}, Pieces.{ClearPieces, SubrsPieces, PrivatePieces}, Glyphs.{Glyph}}
+use Rattle.t1_font.specs.{declared.private.PrivateParts.{PrivateParts}, FontValue.{SparseArray, Encoding, Word, Codes}, Pieces.{ClearPieces, SubrsPieces, PrivatePieces}, Glyphs.{Glyph}}
 use Rattle.t1_font.specs.{ReadFont.{encoding_value, subrs_of}, Views.{words_view}, Gathering.{Entries, named}, Held.{first_words, names_notdef, HoldsSubrs, HoldsGlyphs}}
 use Rattle.t1_font.specs.declared.encoding.EncodingParts.TheVariants as parts
 
@@ -22,11 +22,11 @@ Answers view (Ok x) r = r ≡ Ok (view x)
 Answers view (Err e) r = Refused e r
 
 -- the Encoding of what was read, with what is gathered of codes
-abbrev pub encoding_view : EncodingParts → Numbered → Encoding
+abbrev pub encoding_view : EncodingParts → SparseArray → Encoding
 encoding_view (parts.OneWord w) codes = Word w.now
 encoding_view parts.Puts codes = Codes (named codes)
 
-pub record ShowsClear (x : ClearParts) (codes : Numbered) (c : ClearPieces) : Type 0 where
+pub record ShowsClear (x : ClearParts) (codes : SparseArray) (c : ClearPieces) : Type 0 where
   pub head : x.head.now ≡ c.head
   pub encoding : encoding_view x.encoding codes ≡ encoding_value c.encoding
   pub clear_tail : x.clear_tail.now ≡ c.clear_tail
@@ -52,7 +52,7 @@ declared_in None = 0
 declared_in (Some x) = x.declared
 
 -- what stands before the glyphs, with what is gathered of Subrs
-pub record ShowsBefore (x : Before) (subrs : Numbered) (s : Option SubrsPieces) : Type 0 where
+pub record ShowsBefore (x : Before) (subrs : SparseArray) (s : Option SubrsPieces) : Type 0 where
   pub table : ShowsSubrs x.subrs s
   pub bodies : HoldsSubrs (declared_in x.subrs) x.len_iv subrs (subrs_of s)
 

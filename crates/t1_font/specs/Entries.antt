@@ -1,5 +1,6 @@
 -- Lists of entries in the order of a file, and the maps that they make: of a repeated key the last entry stands.
-use Rattle.std.specs.{Prelude.{◌≡◌, ◌⊎◌, ℕ, not, Bool, false, List, [], ◌∷◌, filter, Option, Some, None, if◌then◌else◌}, Str.{bytes_eq}, Ordering.{is_eq}, declared.cmp.Ordering.{Ordering}}
+use Rattle.std.specs.Prelude.{◌≡◌, ◌⊎◌, ◌+◌, ◌<◌, ℕ, not, Bool, false, List, [], ◌∷◌, length, filter, slice_index_or, Option, Some, None, if◌then◌else◌}
+use Rattle.std.specs.{Str.{bytes_eq}, Ordering.{is_eq}, declared.cmp.Ordering.{Ordering}, declared.cmp.Ordering.TheVariants.{Less}}
 use Rattle.std.specs.List.Sorted.{IsPermutation, IsSortedByKey, IsStableByKey}
 use Rattle.t1_grammar.specs.Grammar.{choice}
 use Rattle.t1_font.specs.FontValue.{notdef}
@@ -37,6 +38,10 @@ module _ {K V : Type 0} (R : K → K → Ordering) where
   abbrev pub run_ends : List (K × V) → List (K × V)
   run_ends [] = []
   run_ends (e ∷ es) = if comes_again e.0 es then run_ends es else e ∷ run_ends es
+
+  -- each key is below the next
+  abbrev pub KeysRise : List (K × V) → Type 0
+  KeysRise es = (k : ℕ) (d : K × V) → k + 1 < length es → R (slice_index_or es k d).0 (slice_index_or es (k + 1) d).0 ≡ Less
 
   -- in the order of the keys, of each key the last entry
   pub record AreLast (entries last : List (K × V)) : Type 0 where

@@ -1,7 +1,7 @@
 -- What is answered where fonts are filled.
 use Rattle.std.specs.{Prelude.{◌≡◌, ◌⊎◌, ◌≤◌, ◌<◌, ℕ, nat_lt, Bool, true, false, List, [], ◌∷◌, Some}, List.{AllByRecursion, list_all}, FinMap.{get, contains_key, entries, retain_keys}}
-use Rattle.t1_font.specs.{declared.parts.PartsFault.{PartsFault}, declared.parts.PartsFault.TheVariants.{Limit, Memory}, FontValue.{FontValue, Numbered, declared_count, weight, weight_limit}}
-use Rattle.t1_font.specs.{Cut.{stub}, Maps.{merged}, Evening.{filled_all}}
+use Rattle.t1_font.specs.{declared.parts.PartsFault.{PartsFault}, declared.parts.PartsFault.TheVariants.{Limit, Memory}, FontValue.{FontValue, SparseArray, declared_count, weight, weight_limit}}
+use Rattle.t1_font.specs.{Cut.{stub}, Maps.{merged}, Normalizing.{filled_all}}
 
 -- each of these fonts is within the weight limit
 abbrev pub AreLight : List FontValue → Type 0
@@ -24,7 +24,7 @@ FillRefuses fs Memory = Unit {0}
 -- ---- indices
 
 -- a map has each of these numbers
-abbrev pub has_each : Numbered → List ℕ → Bool
+abbrev pub has_each : SparseArray → List ℕ → Bool
 has_each m numbers = list_all (contains_key m) numbers
 
 -- each of these indices is below a count
@@ -39,20 +39,20 @@ has_none [] = true
 has_none (e ∷ es) = false
 
 -- Subrs and these, where there are Subrs
-abbrev pub with_these : Numbered → Numbered → List (ℕ × List ℕ) → Numbered
+abbrev pub with_these : SparseArray → SparseArray → List (ℕ × List ℕ) → SparseArray
 with_these stubs m [] = m
 with_these stubs m (e ∷ es) = merged m stubs
 
 -- each entry is a stub
-abbrev pub AreStubs : Numbered → Type 0
+abbrev pub AreStubs : SparseArray → Type 0
 AreStubs stubs = (i : ℕ) (c : List ℕ) → get stubs i ≡ Some c → c ≡ stub
 
 -- a font with these Subrs
-abbrev pub with_subrs : FontValue → Numbered → FontValue
+abbrev pub with_subrs : FontValue → SparseArray → FontValue
 with_subrs f m = record { shell = f.shell; encoding = f.encoding; subrs = m; glyphs = f.glyphs }
 
 -- a font with those of the stubs that are below its declared count
-abbrev pub filled_by : Numbered → FontValue → FontValue
+abbrev pub filled_by : SparseArray → FontValue → FontValue
 filled_by stubs f = record {
   shell = f.shell;
   encoding = f.encoding;

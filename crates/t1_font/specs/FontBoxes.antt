@@ -6,7 +6,7 @@ use Rattle.std.proofs.Common.{refl}
 use Rattle.t1_grammar.specs.Grammar.{Grammar, pure, ◌>>=◌, ◌>>◌, that, before, count, fixed, first, Begins}
 use Rattle.t1_bytes.specs.White.{is_white, white, gap}
 use Rattle.t1_font.specs.{Rewriting.{parted}, Numbers.{number, is_zero, least_first, greatest_first, soonest}, FontValue.{FontValue, Shell, weight, weight_limit}}
-use Rattle.t1_font.specs.EvenTexts.{same_both, both_fit, even_clear}
+use Rattle.t1_font.specs.NormalTexts.{same_both, both_fit, normal_clear}
 
 -- ---- boxes
 
@@ -217,10 +217,10 @@ with_texts f x = record { shell = with_clear f.shell x; encoding = f.encoding; s
 abbrev pub font_with : Box → FontValue → FontValue
 font_with u f = with_texts f (clear_with u f.shell)
 
--- A font can have these two texts, in which this box stands there: they are texts of a font, they are even, and read again they have the box there;
+-- A font can have these two texts, in which this box stands there: they are texts of a font, they are normalized, and read again they have the box there;
 -- and the font is within the weight limit.
 abbrev pub can_take : Box → FontValue → List ℕ × List ℕ → Side → Bool
-can_take u f x s = both_fit x && (same_both (even_clear x) x && (stays_at u x s && nat_le (weight (with_texts f x)) weight_limit))
+can_take u f x s = both_fit x && (same_both (normal_clear x) x && (stays_at u x s && nat_le (weight (with_texts f x)) weight_limit))
 
 -- a font that has a box can have this one in its place
 abbrev pub can_have_at : Box → FontValue → Option Side → Bool

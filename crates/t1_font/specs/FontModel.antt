@@ -4,7 +4,7 @@ use Rattle.std.specs.{FinMap.{get}, Option.{option_map}}
 use Rattle.std.proofs.{Common.{inl, inr, refl}, lemmas.Bool.{ltb-true}}
 use Rattle.t1_font.specs.{declared.shell.KeptSubrs.{KeptSubrs}, declared.font.LentEncoding.{LentEncoding}, declared.shell.Part.{Part}}
 use Rattle.t1_font.specs.declared.shell.Part.TheVariants.{Head, ClearTail, Private, Middle, Tail, SubrsRd, SubrsPut, SubrsDef, GlyphsRd, GlyphsDef}
-use Rattle.t1_font.specs.{FontValue.{FontValue, Shell, SubrsShell, Encoding, Word, Codes, Numbered, Named, declared_count}, Codes.{bytes_code, numbered_code, named_code}}
+use Rattle.t1_font.specs.{FontValue.{FontValue, Shell, SubrsShell, Encoding, Word, Codes, SparseArray, CharStrings, declared_count}, Codes.{bytes_code, numbered_code, named_code}}
 use Rattle.t1_font.specs.declared.shell.Shell.TheInside as shells
 use Rattle.t1_font.specs.declared.font.LentEncoding.TheVariants as lent
 
@@ -58,11 +58,11 @@ shell_code = code_by (Texts × (ℕ × (Option SubrsShell × (List ℕ × List �
       glyphs_def = p.1.1.1.1;
     }) (λ s. refl)
 
-abbrev pub from_encoding : Encoding → List ℕ ⊎ Numbered
+abbrev pub from_encoding : Encoding → List ℕ ⊎ SparseArray
 from_encoding (Word w) = inl w
 from_encoding (Codes m) = inr m
 
-abbrev pub to_encoding : List ℕ ⊎ Numbered → Encoding
+abbrev pub to_encoding : List ℕ ⊎ SparseArray → Encoding
 to_encoding (inl w) = Word w
 to_encoding (inr m) = Codes m
 
@@ -71,10 +71,10 @@ encoding_again (Word w) = refl
 encoding_again (Codes m) = refl
 
 abbrev pub encoding_code : Coded Encoding
-encoding_code = code_by (List ℕ ⊎ Numbered) (coded⊎ bytes_code numbered_code) from_encoding to_encoding encoding_again
+encoding_code = code_by (List ℕ ⊎ SparseArray) (coded⊎ bytes_code numbered_code) from_encoding to_encoding encoding_again
 
 abbrev pub font_code : Coded FontValue
-font_code = code_by (Shell × (Encoding × (Numbered × Named))) (coded× shell_code (coded× encoding_code (coded× numbered_code named_code)))
+font_code = code_by (Shell × (Encoding × (SparseArray × CharStrings))) (coded× shell_code (coded× encoding_code (coded× numbered_code named_code)))
     (λ f. (f.shell, (f.encoding, (f.subrs, f.glyphs)))) (λ p. record { shell = p.0; encoding = p.1.0; subrs = p.1.1.0; glyphs = p.1.1.1 }) (λ f. refl)
 
 -- ---- readers
@@ -103,12 +103,12 @@ word_of (Word w) = Some w
 word_of (Codes m) = None
 
 -- the Encoding that is this word, or else the table of these names
-abbrev pub encoding_by : Option (List ℕ) → Numbered → Encoding
+abbrev pub encoding_by : Option (List ℕ) → SparseArray → Encoding
 encoding_by (Some w) names = Word w
 encoding_by None names = Codes names
 
 -- the font of these parts: its Encoding is a word, or else the names of codes
-abbrev pub font_by : Shell → Option (List ℕ) → Numbered → Numbered → Named → FontValue
+abbrev pub font_by : Shell → Option (List ℕ) → SparseArray → SparseArray → CharStrings → FontValue
 font_by shell word codes subrs glyphs = record { shell = shell; encoding = encoding_by word codes; subrs = subrs; glyphs = glyphs }
 
 -- the name of a code in a table

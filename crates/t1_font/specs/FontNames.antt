@@ -2,8 +2,8 @@
 -- the key by which a document finds the font.
 use Rattle.std.specs.{Prelude.{ℕ, ◌-◌, ◌&&◌, nat_le, Bool, List, ◌++◌, length, take, map, Option, Some, None, if◌then◌else◌}, Option.{option_map}}
 use Rattle.t1_grammar.specs.Grammar.{first}
-use Rattle.t1_font.specs.{Words.{is_regular}, Rewriting.{parted}, Tags.{name_marker}, FontValue.{FontValue, Shell, weight, weight_limit}, EvenTexts.{both_fit}, FontBoxes.{with_texts}}
-use Rattle.t1_font.specs.Evening.{evened_shells}
+use Rattle.t1_font.specs.{Words.{is_regular}, Rewriting.{parted}, Tags.{name_marker}, FontValue.{FontValue, Shell, weight, weight_limit}, NormalTexts.{both_fit}, FontBoxes.{with_texts}}
+use Rattle.t1_font.specs.Normalizing.{normalized_shells}
 
 -- the bytes of a text before its name, and those behind the name
 abbrev pub around_name : List ℕ → Option (List ℕ × List ℕ)
@@ -34,6 +34,6 @@ can_be_named name f = both_fit (clear_named name f.shell) && nat_le (weight (fon
 abbrev pub named : List ℕ → FontValue → FontValue
 named name f = if can_be_named name f then font_named name f else f
 
--- fonts with even texts and one FontBBox, each with this name if it can have it
-abbrev pub evened_named : List ℕ → List FontValue → List FontValue
-evened_named name fs = map (named name) (evened_shells fs)
+-- fonts with normalized texts and one FontBBox, each with this name if it can have it
+abbrev pub normalized_named : List ℕ → List FontValue → List FontValue
+normalized_named name fs = map (named name) (normalized_shells fs)

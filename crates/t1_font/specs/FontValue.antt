@@ -7,15 +7,15 @@ abbrev pub name_cmp : List ℕ → List ℕ → Ordering
 name_cmp = slice_cmp nat_cmp
 
 -- what stands at each index or code
-abbrev pub Numbered : Type 0
-Numbered = FinMap nat_cmp (List ℕ)
+abbrev pub SparseArray : Type 0
+SparseArray = FinMap nat_cmp (List ℕ)
 
 -- what stands at each name
-abbrev pub Named : Type 0
-Named = FinMap name_cmp (List ℕ)
+abbrev pub CharStrings : Type 0
+CharStrings = FinMap name_cmp (List ℕ)
 
 -- the names at which something stands, upwards
-abbrev pub names_in : Named → List (List ℕ)
+abbrev pub names_in : CharStrings → List (List ℕ)
 names_in m = map (λ e. e.0) (entries m)
 
 -- What a font with Subrs keeps of their table: the declared count, the words of its first entry (empty where it has none), and the phrase that closes it.
@@ -41,14 +41,14 @@ pub record Shell : Type 0 where
 -- one word, or the names of codes
 pub data Encoding : Type 0 where
   Word : List ℕ → Encoding
-  Codes : Numbered → Encoding
+  Codes : SparseArray → Encoding
 
 -- a font: its shell, its Encoding, the plain charstrings of its Subrs and of its glyphs
 pub record FontValue : Type 0 where
   pub shell : Shell
   pub encoding : Encoding
-  pub subrs : Numbered
-  pub glyphs : Named
+  pub subrs : SparseArray
+  pub glyphs : CharStrings
 
 -- the name that each font has
 abbrev pub notdef : List ℕ

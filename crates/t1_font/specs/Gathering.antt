@@ -3,30 +3,30 @@ use Rattle.std.specs.{Prelude.{◌≡◌, ℕ, zero, suc, ◌≤◌, List, [], �
 use Rattle.std.proofs.Common.{refl}
 use Rattle.t1_bytes.specs.Limits.{file_limit}
 use Rattle.t1_join.specs.Entries.{entries_by}
-use Rattle.t1_font.specs.{declared.gathered.Gathered.TheInside.{Inside}, declared.ranges.Range.{Range}, FontValue.{Numbered, Named, notdef}, Encoding.{CodeEntry, Put, Copy}}
+use Rattle.t1_font.specs.{declared.gathered.Gathered.TheInside.{Inside}, declared.ranges.Range.{Range}, FontValue.{SparseArray, CharStrings, notdef}, Encoding.{CodeEntry, Put, Copy}}
 use Rattle.t1_font.specs.{Entries.{has_name, map_of}, Codes.{bytes_code, numbered_code, named_code}, Ranges.{bytes_at, AllInside, NamesInside, named_at}}
 
 -- what is left of the private text; the last name of each code, `.notdef` among them, and the last plain charstring of
 -- each Subr and of each glyph
 pub record Entries : Type 0 where
   pub rest : List ℕ
-  pub codes : Numbered
-  pub subrs : Numbered
-  pub glyphs : Named
+  pub codes : SparseArray
+  pub subrs : SparseArray
+  pub glyphs : CharStrings
 
 abbrev pub entries_code : Coded Entries
-entries_code = code_by (List ℕ × (Numbered × (Numbered × Named))) (coded× bytes_code (coded× numbered_code (coded× numbered_code named_code)))
+entries_code = code_by (List ℕ × (SparseArray × (SparseArray × CharStrings))) (coded× bytes_code (coded× numbered_code (coded× numbered_code named_code)))
     (λ g. (g.rest, (g.codes, (g.subrs, g.glyphs)))) (λ p. record { rest = p.0; codes = p.1.0; subrs = p.1.1.0; glyphs = p.1.1.1 }) (λ g. refl)
 
 -- the names of codes, which stand elsewhere
-abbrev pub gathered_codes : List (ℕ × Bor (List ℕ)) → Numbered
+abbrev pub gathered_codes : List (ℕ × Bor (List ℕ)) → SparseArray
 gathered_codes es = map_of (entries_by (λ k. k) (λ n. n.now) es)
 
 -- the charstrings of a buffer, by index and by name
-abbrev pub gathered_subrs : List ℕ → List (ℕ × Range) → Numbered
+abbrev pub gathered_subrs : List ℕ → List (ℕ × Range) → SparseArray
 gathered_subrs buffer es = map_of (entries_by (λ k. k) (bytes_at buffer) es)
 
-abbrev pub gathered_glyphs : List ℕ → List (Range × Range) → Named
+abbrev pub gathered_glyphs : List ℕ → List (Range × Range) → CharStrings
 gathered_glyphs buffer es = map_of (map (named_at buffer) es)
 
 abbrev pub gathered_value : Inside → Entries
@@ -46,27 +46,27 @@ pub record IsGathered (g : Inside) : Type 0 where
   pub glyphs : AllInside g.at g.glyphs.items
 
 -- the names of codes, but for `.notdef`
-abbrev pub named : Numbered → Numbered
+abbrev pub named : SparseArray → SparseArray
 named m = from_sorted (filter has_name (entries m))
 
 -- ---- what an entry of an Encoding puts
 
 -- the name of a code among those that are gathered
-abbrev pub name_in : Numbered → ℕ → List ℕ
+abbrev pub name_in : SparseArray → ℕ → List ℕ
 name_in codes c = unwrap_or (get codes c) notdef
 
 -- the names of so many codes from one on
-abbrev pub copied_names : Numbered → ℕ → ℕ → List (List ℕ)
+abbrev pub copied_names : SparseArray → ℕ → ℕ → List (List ℕ)
 copied_names codes from zero = []
 copied_names codes from (suc n) = name_in codes from ∷ copied_names codes (suc from) n
 
 -- names put at the codes from one on
-abbrev pub named_from : Numbered → ℕ → List (List ℕ) → Numbered
+abbrev pub named_from : SparseArray → ℕ → List (List ℕ) → SparseArray
 named_from codes to [] = codes
 named_from codes to (n ∷ names) = named_from (insert codes to n) (suc to) names
 
 -- what is gathered with one entry more
-abbrev pub kept_by : Numbered → CodeEntry → Numbered
+abbrev pub kept_by : SparseArray → CodeEntry → SparseArray
 kept_by codes (Put c n) = insert codes c n
 kept_by codes (Copy from count to) = named_from codes to (copied_names codes from count)
 

@@ -1,7 +1,8 @@
 -- What code holds of a table that it has read so far.
 use Rattle.std.specs.{Prelude.{◌≡◌, ℕ, ◌≤◌, Bool, List, [], ◌∷◌, Option, Some, None, Result, Ok, Err}, List.{list_any}, Str.{bytes_eq}}
 use Rattle.t1_grammar.specs.Tables.{Table}
-use Rattle.t1_font.specs.{declared.fault.TableError.{TableError}, FontValue.{Numbered, Named, notdef, count_limit}, Entries.{map_of}, Entry.{Entry, plain_entries}, Subrs.{Subr}, Glyphs.{Glyph}}
+use Rattle.t1_font.specs.{declared.fault.TableError.{TableError}, FontValue.{SparseArray, CharStrings, notdef, count_limit}}
+use Rattle.t1_font.specs.{Entries.{map_of}, Entry.{Entry, plain_entries}, Subrs.{Subr}, Glyphs.{Glyph}}
 use Rattle.t1_font.specs.{declared.dialect.Spacing.{Spacing}, Faults.{TableFails}}
 
 -- the words of the first entry, where there is one
@@ -10,11 +11,11 @@ first_words [] = None
 first_words (e ∷ es) = Some (e.body.rd, e.body.phrase)
 
 -- the Subrs of these entries, unless more are declared than a font may have
-abbrev pub HoldsSubrs : ℕ → ℕ → Numbered → List Subr → Type 0
+abbrev pub HoldsSubrs : ℕ → ℕ → SparseArray → List Subr → Type 0
 HoldsSubrs declared len_iv bodies es = declared ≤ count_limit → bodies ≡ map_of (plain_entries len_iv es)
 
 -- the glyphs of these entries
-abbrev pub HoldsGlyphs : ℕ → Named → List Glyph → Type 0
+abbrev pub HoldsGlyphs : ℕ → CharStrings → List Glyph → Type 0
 HoldsGlyphs len_iv bodies es = bodies ≡ map_of (plain_entries len_iv es)
 
 -- one of these entries is `.notdef`

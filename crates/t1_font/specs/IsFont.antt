@@ -4,7 +4,7 @@ use Rattle.std.specs.FinMap.{get, contains_key, len, entries}
 use Rattle.t1_bytes.specs.{Laws.{AreBytes}, Eexec.{eexec_marker}}
 use Rattle.t1_grammar.specs.Grammar.{Grammar, first, NoneIn, Stops, Lacks}
 use Rattle.t1_font.specs.{Words.{word_limit, name_limit, is_regular, phrase_of, passes}, Entry.{charstring_limit}, Markers.{encoding_marker, subrs_marker, chars_marker, closefile}, Pieces.{iv_of}}
-use Rattle.t1_font.specs.FontValue.{FontValue, Shell, SubrsShell, Encoding, Word, Codes, Numbered, Named, notdef, count_limit, weight_limit, weight}
+use Rattle.t1_font.specs.FontValue.{FontValue, Shell, SubrsShell, Encoding, Word, Codes, SparseArray, CharStrings, notdef, count_limit, weight_limit, weight}
 
 -- ---- words
 
@@ -66,7 +66,7 @@ SubrWords [] s = (s.rd ≡ []) × (s.put ≡ [])
 SubrWords (e ∷ es) s = IsWord word_limit s.rd × IsPhrase true s.put
 
 -- Subrs that are within their count and fit their charstrings, and the phrase that closes them
-pub record IsSubrs (iv : ℕ) (s : SubrsShell) (m : Numbered) : Type 0 where
+pub record IsSubrs (iv : ℕ) (s : SubrsShell) (m : SparseArray) : Type 0 where
   pub declared : s.declared ≤ count_limit
   pub below : (i : ℕ) (c : List ℕ) → get m i ≡ Some c → i < s.declared
   pub bodies : (i : ℕ) (c : List ℕ) → get m i ≡ Some c → IsCharstring iv c
@@ -74,12 +74,12 @@ pub record IsSubrs (iv : ℕ) (s : SubrsShell) (m : Numbered) : Type 0 where
   pub closing : IsPhrase false s.closing
 
 -- a font without Subrs has no entries, and its CharStrings marker ends `private`
-abbrev pub SubrsFit : Shell → Option SubrsShell → Numbered → Type 0
+abbrev pub SubrsFit : Shell → Option SubrsShell → SparseArray → Type 0
 SubrsFit s None m = (entries m ≡ []) × (s.middle ≡ [])
 SubrsFit s (Some t) m = IsSubrs s.len_iv t m
 
 -- glyphs with their kept words, `.notdef` among them
-pub record AreGlyphs (s : Shell) (m : Named) : Type 0 where
+pub record AreGlyphs (s : Shell) (m : CharStrings) : Type 0 where
   pub rd : IsWord word_limit s.glyphs_rd
   pub def : IsPhrase true s.glyphs_def
   pub names : (n c : List ℕ) → get m n ≡ Some c → IsWord name_limit n

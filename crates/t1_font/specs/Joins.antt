@@ -1,11 +1,12 @@
 -- A font of the entries of two, and why these are not one font.
 use Rattle.std.specs.{Prelude.{◌<◌, ◌⊎◌, cond, List, ℕ, Option, unwrap_or}, Str.{bytes_eq}, FinMap.{get, len, entries}}
 use Rattle.t1_join.specs.Passes.{first_met}
-use Rattle.t1_font.specs.{declared.parts.PartsFault.{PartsFault}, declared.parts.PartsFault.TheVariants.{Limit, Memory}, FontValue.{FontValue, Named, name_cmp, count_limit, weight_limit, weight}}
+use Rattle.t1_font.specs.{declared.parts.PartsFault.{PartsFault}, declared.parts.PartsFault.TheVariants.{Limit, Memory}}
+use Rattle.t1_font.specs.FontValue.{FontValue, CharStrings, name_cmp, count_limit, weight_limit, weight}
 use Rattle.t1_font.specs.{Cut.{stub}, Encodings.{join_encodings}, Maps.{map_values, merged}}
 
 -- the smallest name for which both tables have a glyph, with different charstrings
-abbrev pub differing_name : Named → Named → Option (List ℕ)
+abbrev pub differing_name : CharStrings → CharStrings → Option (List ℕ)
 differing_name m n = first_met name_cmp bytes_eq (entries m) (entries n)
 
 -- the entry c, or where it is a stub the other font's

@@ -43,13 +43,13 @@ pub mod NumberViews
 pub mod Steps
 pub mod FontTest
 pub mod Mends
-pub mod EvenTexts
+pub mod NormalTexts
 pub mod FontBoxes
 pub mod BoxViews
-pub mod Evening
+pub mod Normalizing
 pub mod FontNames
 pub mod Filling
-pub mod EveningLaws
+pub mod NormalizingLaws
 pub mod WriteLaws
 pub mod Parts
 pub mod Codes

@@ -1,10 +1,8 @@
 //! The entries of an Encoding's table.
 
-ghost use Rattle.std.specs.Prelude.{◌≡◌, ◌+◌, ◌≤◌, true, ℕ, List, map, OnOk, IfOk, IfSome, Some, None, length, if◌then◌else◌};
-ghost use Rattle.std.specs.Option.{option_map};
-ghost use Rattle.t1_font.specs.Encoding.{is_octal, octal_after, octal, number, code, put_entry, copy_start, one_copy, copied_range, copy_of_range};
-ghost use Rattle.t1_font.specs.Encoding.{are_codes, range_copy, code_entry, within_codes, Copy};
-ghost use Rattle.t1_font.specs.Gathering.{CodesAlone, copied_names, named_from, kept_by};
+ghost use Rattle.std.specs.{Prelude.{◌≡◌, ◌+◌, ◌≤◌, true, map, OnOk, IfOk, IfSome, Some, None, length, if◌then◌else◌}, Option.{option_map}};
+ghost use Rattle.t1_font.specs.Encoding.{is_octal, octal_after, octal, number, code, put_entry, copy_start, one_copy, copied_range, copy_of_range, are_codes};
+ghost use Rattle.t1_font.specs.{Encoding.{range_copy, code_entry, within_codes, Copy}, Gathering.{CodesAlone, copied_names, named_from, kept_by}};
 ghost use Rattle.t1_font.specs.Views.{code_entry_view};
 
 use crate::dialect::{Dialect, Spacing};

@@ -1,20 +1,14 @@
 //! A font cut to some of its glyphs and Subrs.
 
-ghost use Rattle.std.specs.Prelude.{◌≡◌, ℕ, List, [], true, cond, unwrap_or, IfOk, OnOk};
-ghost use Rattle.std.specs.Ordering.{nat_cmp};
-ghost use Rattle.std.specs.BTreeSet.{contains};
-ghost use Rattle.std.specs.List.Sorted.{IsStrictlySortedBy};
-ghost use Rattle.std.specs.Map.{keys_of, values_of};
+ghost use Rattle.std.specs.{Prelude.{◌≡◌, ℕ, List, [], true, cond, unwrap_or, IfOk, OnOk}, Ordering.{nat_cmp}, BTreeSet.{contains}};
+ghost use Rattle.std.specs.{List.Sorted.{IsStrictlySortedBy}, Map.{keys_of, values_of}};
+ghost use Rattle.t1_font.specs.{FontValue.{notdef}, FontModel.{encoding_of}, Lent.{glyph_names, AreOwn}, Cut.{stub, set_of_names, restrict_encoding, restrict}};
+ghost use Rattle.t1_font.specs.Maps.{put_all_into, entry_of, map_values};
 ghost use Rattle.std.specs.FinMap as fin;
 ghost use Rattle.std.specs.FinSet as sets;
-ghost use Rattle.t1_font.specs.FontValue.{notdef};
-ghost use Rattle.t1_font.specs.FontModel.{encoding_of};
-ghost use Rattle.t1_font.specs.Lent.{glyph_names, AreOwn};
-ghost use Rattle.t1_font.specs.Cut.{stub, set_of_names, restrict_encoding, restrict};
-ghost use Rattle.t1_font.specs.Maps.{put_all_into, entry_of, map_values};
 
 use crate::font::{Font, FontParts, LentEncoding};
-use crate::lent::{Glyph, Named, Numbered};
+use crate::lent::{CharStrings, Glyph, SparseArray};
 use crate::stub::STUB;
 use std::alloc::{AllocError, Global};
 use std::collections::{BTreeMap, BTreeSet};
@@ -34,7 +28,7 @@ fn drain<K: Ord + Drop, V: Drop>(alloc: Global, map: BTreeMap<K, V>) -> Result<V
 /// Keeps the glyph of a name, if there is one.
 fn keep_named<'a>(
     cut: &mut BTreeMap<&'a [u8], Glyph<'a>>,
-    glyphs: &Named<'a>,
+    glyphs: &CharStrings<'a>,
     name: &[u8],
 ) -> Result<(), AllocError>
     ensures kept { OnOk result (glyph_names cut.new.entries
@@ -51,9 +45,9 @@ fn keep_named<'a>(
 /// The glyphs of these names.
 fn cut_glyphs<'a>(
     alloc: Global,
-    glyphs: &Named<'a>,
+    glyphs: &CharStrings<'a>,
     names: &[Vec<u8>],
-) -> Result<Named<'a>, AllocError>
+) -> Result<CharStrings<'a>, AllocError>
     ensures { IfOk result (λ m. m
         ≡ fin.retain_keys glyphs.now (sets.contains (set_of_names names.now))) }
 {
@@ -61,15 +55,15 @@ fn cut_glyphs<'a>(
     'names: for name in names {
         keep_named(&mut cut, glyphs, name.as_slice())?;
     }
-    Ok(Named::made(drain(alloc, cut)?))
+    Ok(CharStrings::made(drain(alloc, cut)?))
 }
 
 /// The codes whose names are those of glyphs.
 fn cut_codes<'a>(
     alloc: Global,
-    codes: &Numbered<'a>,
-    glyphs: &Named<'_>,
-) -> Result<Numbered<'a>, AllocError>
+    codes: &SparseArray<'a>,
+    glyphs: &CharStrings<'_>,
+) -> Result<SparseArray<'a>, AllocError>
     ensures { IfOk result (λ m. m
         ≡ fin.retain_keys codes.now
         (λ c. fin.contains_key glyphs.now (unwrap_or (fin.get codes.now c) []))) }
@@ -80,14 +74,14 @@ fn cut_codes<'a>(
             cut.push((code, name))?;
         }
     }
-    Ok(Numbered::made(cut))
+    Ok(SparseArray::made(cut))
 }
 
 /// An Encoding with only the names of these glyphs; a word stays as it is.
 fn cut_encoding<'a>(
     alloc: Global,
     encoding: &LentEncoding<'a>,
-    glyphs: &Named<'_>,
+    glyphs: &CharStrings<'_>,
 ) -> Result<LentEncoding<'a>, AllocError>
     ensures { IfOk result (λ e. encoding_of e
         ≡ restrict_encoding (fin.contains_key glyphs.now) (encoding_of encoding.now)) }
@@ -108,9 +102,9 @@ fn kept_or_stub<'a>(is_kept: bool, body: &'a [u8]) -> &'a [u8]
 /// The Subrs, with `return` in place of all that are not in the set.
 pub(crate) fn cut_subrs<'a>(
     alloc: Global,
-    subrs: &Numbered<'a>,
+    subrs: &SparseArray<'a>,
     kept: &BTreeSet<u16>,
-) -> Result<Numbered<'a>, AllocError>
+) -> Result<SparseArray<'a>, AllocError>
     ensures { IfOk result (λ m. m
         ≡ map_values (λ i c. cond (contains nat_cmp kept.now i) c stub) subrs.now) }
 {
@@ -118,7 +112,7 @@ pub(crate) fn cut_subrs<'a>(
     'bodies: for (index, body) in subrs.entries() {
         cut.push((index, kept_or_stub(kept.contains(&index), body)))?;
     }
-    Ok(Numbered::made(cut))
+    Ok(SparseArray::made(cut))
 }
 
 /// The parts of a font that is cut.

@@ -1,9 +1,8 @@
 //! By which rules a font may be spelled, beside those of the standard.
 
-ghost use Rattle.std.specs.Prelude.{◌≡◌, Some};
-ghost use Rattle.std.specs.Option.{option_map};
+ghost use Rattle.std.specs.{Prelude.{◌≡◌, Some}, Option.{option_map}};
 ghost use Rattle.t1_grammar.specs.Scans.{taken};
-ghost use Rattle.t1_font.specs.Dialect.{Blank, Comment, ends_comment, spacing, white_in, gap_in, strict, wide, without};
+ghost use Rattle.t1_font.specs.Dialect.{Blank, ends_comment, spacing, white_in, gap_in, strict, wide, without};
 
 use t1_bytes::texts::{gap_at, is_white, white_at};
 

@@ -1,22 +1,14 @@
 //! The Encoding of the clear text.
 
-ghost use Rattle.std.specs.Prelude.{◌≡◌, ◌++◌, ◌∷◌, [], ℕ, List, OnOk, Some, None, length, if◌then◌else◌};
-ghost use Rattle.std.specs.Option.{option_map};
-ghost use Rattle.t1_grammar.specs.Grammar.{may_be};
-ghost use Rattle.t1_grammar.specs.Tables.{table_at, counted_at};
+ghost use Rattle.std.specs.{Prelude.{◌≡◌, OnOk, Some, length}, Option.{option_map}};
+ghost use Rattle.t1_grammar.specs.{Grammar.{may_be}, Tables.{table_at, counted_at}};
 ghost use Rattle.t1_font.specs.Words.{next_name};
-ghost use Rattle.t1_font.specs.Encoding.{code_entry, puts_of, before_def, encoding_end, encoding_word, encoding_table, loop_range, loop_body};
-ghost use Rattle.t1_font.specs.Encoding.{encoding_loop, encoding_start, readonly, array_start, array_end, code_count, from_code, OpensPuts, OpensNames};
-ghost use Rattle.t1_font.specs.Faults.{table_fault};
-ghost use Rattle.t1_font.specs.declared.fault.ReadFault.TheVariants.{BadEncoding};
-ghost use Rattle.std.specs.FinMap as fin;
-ghost use Rattle.t1_font.specs.Entries.{map_of};
-ghost use Rattle.t1_font.specs.Gathering.{CodesAlone};
-ghost use Rattle.t1_font.specs.Held.{TableHeld};
-ghost use Rattle.t1_font.specs.ReadFont.{encoding_value};
-ghost use Rattle.t1_font.specs.Views.{opening_view};
-ghost use Rattle.t1_font.specs.Pieces.{encoding_from, clear_pieces};
+ghost use Rattle.t1_font.specs.Encoding.{code_entry, puts_of, before_def, encoding_end, encoding_word, encoding_table, loop_range, loop_body, encoding_loop};
+ghost use Rattle.t1_font.specs.Encoding.{encoding_start, readonly, array_start, array_end, code_count, from_code, OpensPuts, OpensNames};
+ghost use Rattle.t1_font.specs.{Faults.{table_fault}, declared.fault.ReadFault.TheVariants.{BadEncoding}, Entries.{map_of}, Gathering.{CodesAlone}};
+ghost use Rattle.t1_font.specs.{Held.{TableHeld}, ReadFont.{encoding_value}, Views.{opening_view}, Pieces.{encoding_from, clear_pieces}};
 ghost use Rattle.t1_font.specs.Answers.{Shown, encoding_view, ShowsClear};
+ghost use Rattle.std.specs.FinMap as fin;
 
 use crate::code_entry::{code_entry_at, keep_entry};
 use crate::dialect::{Dialect, Spacing};

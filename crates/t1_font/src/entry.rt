@@ -1,10 +1,7 @@
 //! What stands behind the key of an entry, in the tables of subroutines and of glyphs.
 
-ghost use Rattle.std.specs.Prelude.{◌≡◌, ◌≤◌, IfSome, length};
-ghost use Rattle.std.specs.Option.{option_map};
-ghost use Rattle.t1_font.specs.Entry.{length_from, body};
-ghost use Rattle.t1_font.specs.Places.{StandsIn};
-ghost use Rattle.t1_font.specs.Views.{body_view};
+ghost use Rattle.std.specs.{Prelude.{◌≡◌, ◌≤◌, IfSome, length}, Option.{option_map}};
+ghost use Rattle.t1_font.specs.{Entry.{length_from, body}, Places.{StandsIn}, Views.{body_view}};
 
 use crate::limits::CHARSTRING_LIMIT;
 use crate::places::Place;

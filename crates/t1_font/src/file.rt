@@ -1,20 +1,12 @@
 //! Reading a font file.
 
-ghost use Rattle.std.specs.Prelude.{◌≡◌, ◌≤◌, ◌+◌, length, take, drop, true, IfOk, MatchResult};
-ghost use Rattle.std.specs.Ordering.{nat_cmp};
-ghost use Rattle.t1_bytes.specs.Cipher.{decrypted};
-ghost use Rattle.t1_bytes.specs.Split.{cipher_in, last_bytes};
-ghost use Rattle.t1_bytes.specs.Limits.{file_limit};
+ghost use Rattle.std.specs.{Prelude.{◌≡◌, ◌≤◌, ◌+◌, length, take, drop, true, IfOk, MatchResult}, Ordering.{nat_cmp}};
+ghost use Rattle.t1_bytes.specs.{Cipher.{decrypted}, Split.{cipher_in, last_bytes}, Limits.{file_limit}, Laws.{AreBytes}};
 ghost use Rattle.t1_join.specs.TableMeaning.{Rises};
-ghost use Rattle.t1_font.specs.FontValue.{count_limit};
-ghost use Rattle.t1_font.specs.Gathering.{gathered_codes};
-ghost use Rattle.t1_font.specs.Pieces.{ClearPieces, PrivatePieces, flat_pieces};
+ghost use Rattle.t1_font.specs.{FontValue.{count_limit}, Gathering.{gathered_codes}, Pieces.{ClearPieces, PrivatePieces, flat_pieces}};
 ghost use Rattle.t1_font.specs.ReadFont.{font_of, flat_text, file_pieces, font_from, font_texts, font_file, read_font, read_font_widely};
-ghost use Rattle.t1_bytes.specs.Laws.{AreBytes};
-ghost use Rattle.t1_font.specs.Answers.{Answers, Shown, ShowsClear, ShowsPrivate, encoding_view, declared_in};
-ghost use Rattle.t1_font.specs.Sources.{kept_encoding, codes_of};
-ghost use Rattle.t1_font.specs.Spelling.{SpellsIn, Spells, SpellsWidely};
-ghost use Rattle.t1_font.specs.Reasons.{RefusesIn, Refuses, RefusesWidely};
+ghost use Rattle.t1_font.specs.{Answers.{Answers, Shown, ShowsClear, ShowsPrivate, encoding_view, declared_in}, Sources.{kept_encoding, codes_of}};
+ghost use Rattle.t1_font.specs.{Spelling.{SpellsIn, Spells, SpellsWidely}, Reasons.{RefusesIn, Refuses, RefusesWidely}};
 
 use crate::dialect::Dialect;
 use crate::encoding::{ClearParts, EncodingParts, clear_parts};
@@ -249,7 +241,7 @@ fn file_parts(alloc: Global, dialect: Dialect, file: Vec<u8>) -> Result<SourcePa
 }
 
 /// Tells proofs that bytes are numbers below 256. It does nothing when it runs.
-pub(crate) fn are_bytes(bytes: &[u8])
+pub(crate) fn proof_are_bytes(bytes: &[u8])
     ensures { AreBytes bytes.now }
 {
     let _bytes = bytes;
@@ -260,7 +252,7 @@ pub(crate) fn read_in(alloc: Global, dialect: Dialect, file: Vec<u8>) -> Result<
     ensures right { MatchResult result (SpellsIn dialect file.items) (RefusesIn dialect file.items) }
     ensures exact { Answers (λ f. f) result (font_file dialect file.items).read }
 {
-    are_bytes(file.as_slice());
+    proof_are_bytes(file.as_slice());
     match file_parts(alloc, dialect, file) {
         Ok(parts) => Ok(Source { parts }),
         Err(fault) => Err(fault),

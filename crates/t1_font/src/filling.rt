@@ -1,27 +1,24 @@
 //! Fonts with one set of Subrs: a stub stands where a font lacks a Subr that another has.
 
-ghost use Rattle.std.specs.Prelude.{◌≡◌, ◌+◌, ◌*◌, ◌++◌, ◌∷◌, [], ◌≤◌, map, nat_lt, IfOk, OnOk, MatchResult};
-ghost use Rattle.std.specs.Ordering.{nat_cmp};
-ghost use Rattle.std.specs.FinMap as fin;
-ghost use Rattle.t1_font.specs.FontValue.{Numbered as NumberedValue, weight, weight_limit};
-ghost use Rattle.t1_font.specs.FontModel.{clamp};
-ghost use Rattle.t1_font.specs.Maps.{merged};
-ghost use Rattle.t1_font.specs.Evening.{stubs_at, indices_of_all};
-ghost use Rattle.t1_font.specs.Filling.{Fills, FillRefuses, has_each, are_below, AreStubs, with_subrs, filled_by, FontRefused};
-ghost use Rattle.t1_font.specs.Lent.{stub_at};
+ghost use Rattle.std.specs.{Prelude.{◌≡◌, ◌+◌, ◌*◌, ◌≤◌, map, nat_lt, IfOk, MatchResult}, Ordering.{nat_cmp}};
+ghost use Rattle.t1_font.specs.{FontValue.{SparseArray as SparseArrayValue, weight, weight_limit}, FontModel.{clamp}, Maps.{merged}};
+ghost use Rattle.t1_font.specs.Normalizing.{stubs_at, indices_of_all};
+ghost use Rattle.t1_font.specs.{Filling.{Fills, FillRefuses, has_each, are_below, AreStubs, with_subrs, filled_by, FontRefused}, Lent.{stub_at}};
 ghost use Rattle.t1_join.specs.TableMeaning.{Rises};
+ghost use Rattle.std.specs.FinMap as fin;
 
 use crate::cut::cut_subrs;
 use crate::font::{Font, FontParts};
-use crate::lent::{Numbered, NumberedForm};
+use crate::lent::{SparseArray, SparseArrayForm};
 use crate::limits::WEIGHT_LIMIT;
 use crate::parts::{PartsFault, join_codes};
 use crate::stub::STUB;
 use std::alloc::{AllocError, Global};
 use std::collections::BTreeSet;
+use t1_join::push_item;
 
 /// Whether a table has an entry at each number at which the other has one.
-fn has_all(table: &Numbered<'_>, others: &Numbered<'_>) -> bool
+fn has_all(table: &SparseArray<'_>, others: &SparseArray<'_>) -> bool
     ensures { result ≡ has_each table.now (fin.keys others.now) }
 {
     'others: for (number, _) in others.entries() {
@@ -33,10 +30,10 @@ fn has_all(table: &Numbered<'_>, others: &Numbered<'_>) -> bool
 }
 
 /// A stub at each index at which some font has a Subr. A font takes no room here if all of its indices are known.
-fn stubs_of_all<'a>(alloc: Global, fonts: &[Font<'a>]) -> Result<Numbered<'a>, AllocError>
+fn stubs_of_all<'a>(alloc: Global, fonts: &[Font<'a>]) -> Result<SparseArray<'a>, AllocError>
     ensures { IfOk result (λ m. m ≡ stubs_at (indices_of_all fonts.now)) }
 {
-    let mut all = Numbered::made(Vec::new(alloc));
+    let mut all = SparseArray::made(Vec::new(alloc));
     'fonts: for font in fonts {
         if !has_all(&all, &font.parts.subrs) {
             all = join_codes(alloc, &all, &font.parts.subrs)?;
@@ -59,10 +56,10 @@ fn are_below(indices: &[u16], declared: u16) -> bool
 /// The Subrs, and stubs at the indices that are below a count and have no Subr, in a list of their own.
 fn made_with_stubs<'a>(
     alloc: Global,
-    subrs: &Numbered<'a>,
+    subrs: &SparseArray<'a>,
     indices: &[u16],
     declared: u16,
-) -> Result<Numbered<'a>, AllocError>
+) -> Result<SparseArray<'a>, AllocError>
     requires { Rises nat_cmp (map stub_at indices.now) }
     ensures { IfOk result (λ m. m ≡ merged subrs.now
         (fin.retain_keys (stubs_at indices.now) (λ i. nat_lt i declared))) }
@@ -73,7 +70,7 @@ fn made_with_stubs<'a>(
             stubs.push((*index, STUB))?;
         }
     }
-    let stubs = Numbered::made(stubs);
+    let stubs = SparseArray::made(stubs);
     join_codes(alloc, subrs, &stubs)
 }
 
@@ -81,17 +78,17 @@ fn made_with_stubs<'a>(
 /// below the count and each index of a Subr is one of them, they are lent, and take no room.
 fn with_stubs<'a>(
     alloc: Global,
-    subrs: &Numbered<'a>,
+    subrs: &SparseArray<'a>,
     indices: &'a [u16],
     declared: u16,
-) -> Result<Numbered<'a>, AllocError>
+) -> Result<SparseArray<'a>, AllocError>
     requires { Rises nat_cmp (map stub_at indices.now) }
     ensures { IfOk result (λ m. m ≡ merged subrs.now
         (fin.retain_keys (stubs_at indices.now) (λ i. nat_lt i declared))) }
 {
-    if let NumberedForm::Stored(own) = subrs.form() {
+    if let SparseArrayForm::Stored(own) = subrs.form() {
         if are_below(indices, declared) && subrs.are_among(indices) {
-            return Ok(Numbered::filled(own.again(), indices));
+            return Ok(SparseArray::filled(own.again(), indices));
         }
     }
     made_with_stubs(alloc, subrs, indices, declared)
@@ -105,8 +102,8 @@ fn stubs_weight(len_iv: u8, count: usize) -> u64
 }
 
 /// What a font weighs with these Subrs, which are its own and stubs, as far as 64 bits hold it.
-fn filled_weight(parts: &FontParts<'_>, subrs: &Numbered<'_>) -> u64
-    ensures { (stubs : NumberedValue)
+fn filled_weight(parts: &FontParts<'_>, subrs: &SparseArray<'_>) -> u64
+    ensures { (stubs : SparseArrayValue)
         → AreStubs stubs
         → subrs.now ≡ merged parts.now.subrs stubs
         → result ≡ clamp (weight (with_subrs parts.now subrs.now)) }
@@ -152,16 +149,6 @@ fn fill<'a>(alloc: Global, font: Font<'a>, indices: &'a [u16]) -> Result<Font<'a
     Ok(Font { parts })
 }
 
-/// Adds one more font.
-fn keep<'a>(fonts: &mut Vec<Font<'a>>, font: Font<'a>) -> Result<(), AllocError>
-    ensures { OnOk result (fonts.new.items ≡ fonts.old.items ++ font.entry ∷ []) }
-{
-    match fonts.push(font) {
-        Ok(_) => Ok(()),
-        Err(_) => Err(AllocError),
-    }
-}
-
 /// The indices at which some font has a Subr, upwards.
 fn stub_indices(alloc: Global, fonts: &[Font<'_>]) -> Result<Vec<u16>, AllocError>
     ensures { IfOk result (λ v. v.items ≡ fin.keys (stubs_at (indices_of_all fonts.now))) }
@@ -191,7 +178,7 @@ fn fill_each<'a>(
             Ok(font) => font,
             Err(fault) => return Err(fault),
         };
-        keep(&mut all, font)?;
+        push_item(&mut all, font)?;
     }
     Ok(all)
 }

@@ -1,14 +1,11 @@
 //! The font value.
 
-ghost use Rattle.std.specs.Prelude.{◌≡◌, ◌≤◌, true, false, is_some};
-ghost use Rattle.std.specs.Option.{option_map};
+ghost use Rattle.std.specs.{Prelude.{◌≡◌, ◌≤◌, true, false, is_some}, Option.{option_map}};
+ghost use Rattle.t1_font.specs.{FontValue.{weight, count_limit, weight_limit, names_in}, FontModel.{clamp, part_of, word_of, font_by, name_at, subr_at}};
+ghost use Rattle.t1_font.specs.{IsFont.{IsFont}, Joins.{IsOverLimits}};
 ghost use Rattle.std.specs.FinMap as fin;
-ghost use Rattle.t1_font.specs.FontValue.{weight, count_limit, weight_limit, names_in};
-ghost use Rattle.t1_font.specs.FontModel.{clamp, part_of, word_of, font_by, name_at, subr_at};
-ghost use Rattle.t1_font.specs.IsFont.{IsFont};
-ghost use Rattle.t1_font.specs.Joins.{IsOverLimits};
 
-use crate::lent::{Named, NamedEntries, Numbered, NumberedEntries};
+use crate::lent::{CharStrings, CharStringsEntries, SparseArray, SparseArrayEntries};
 use crate::limits::{COUNT_LIMIT, WEIGHT_LIMIT};
 use crate::shell::{Part, Shell};
 use std::marker::Model;
@@ -18,7 +15,7 @@ use t1_run::{Glyphs, Subroutines};
 #[derive(Drop)]
 pub(crate) enum LentEncoding<'a> {
     Word(&'a [u8]),
-    Codes(Numbered<'a>),
+    Codes(SparseArray<'a>),
 }
 
 /// The parts of a font, which together need not make one.
@@ -26,13 +23,12 @@ pub(crate) enum LentEncoding<'a> {
 pub(crate) struct FontParts<'a> {
     pub(crate) shell: &'a Shell,
     pub(crate) encoding: LentEncoding<'a>,
-    pub(crate) subrs: Numbered<'a>,
-    pub(crate) glyphs: Named<'a>,
+    pub(crate) subrs: SparseArray<'a>,
+    pub(crate) glyphs: CharStrings<'a>,
 }
 
 impl<'a> Model for FontParts<'a> {
-    ghost use Rattle.t1_font.specs.FontValue.{FontValue};
-    ghost use Rattle.t1_font.specs.FontModel.{font_code, encoding_of};
+    ghost use Rattle.t1_font.specs.{FontValue.{FontValue}, FontModel.{font_code, encoding_of}};
 
     ghost Value = { FontValue };
 
@@ -52,9 +48,7 @@ pub struct Font<'a> {
 }
 
 impl<'a> Model for Font<'a> {
-    ghost use Rattle.t1_font.specs.FontValue.{FontValue};
-    ghost use Rattle.t1_font.specs.FontModel.{font_code};
-    ghost use Rattle.t1_font.specs.IsFont.{IsFont};
+    ghost use Rattle.t1_font.specs.{FontValue.{FontValue}, FontModel.{font_code}, IsFont.{IsFont}};
 
     ghost Value = { FontValue };
 
@@ -79,9 +73,9 @@ impl<'a> Font<'a> {
     pub fn of_parts(
         shell: &'a Shell,
         word: Option<&'a [u8]>,
-        codes: Numbered<'a>,
-        subrs: Numbered<'a>,
-        glyphs: Named<'a>,
+        codes: SparseArray<'a>,
+        subrs: SparseArray<'a>,
+        glyphs: CharStrings<'a>,
     ) -> Self
         requires { IsFont (font_by shell.now (option_map (λ w. w.now) word) codes subrs glyphs) }
         ensures { result
@@ -111,14 +105,14 @@ impl<'a> Font<'a> {
     }
 
     /// The glyphs, by name.
-    pub fn glyphs(&self) -> &Named<'a>
+    pub fn glyphs(&self) -> &CharStrings<'a>
         ensures { result.now ≡ self.now.glyphs }
     {
         &self.parts.glyphs
     }
 
     /// The Subrs, by index.
-    pub fn subrs(&self) -> &Numbered<'a>
+    pub fn subrs(&self) -> &SparseArray<'a>
         ensures { result.now ≡ self.now.subrs }
     {
         &self.parts.subrs
@@ -244,7 +238,7 @@ impl<'a> FontParts<'a> {
 /// The names of a font's glyphs, upwards by their bytes.
 #[derive(Drop)]
 pub struct Names<'t, 'a> {
-    inner: NamedEntries<'t, 'a>,
+    inner: CharStringsEntries<'t, 'a>,
 }
 
 impl<'t, 'a> Model for Names<'t, 'a> {
@@ -261,9 +255,7 @@ impl<'t, 'a> Model for Names<'t, 'a> {
 impl<'t, 'a> Iterator for Names<'t, 'a> {
     type Item = &'a [u8];
 
-    ghost use Rattle.std.specs.Prelude.{length};
-    ghost use Rattle.std.specs.Iterator.{at_most};
-    ghost use Rattle.std.specs.Map.Iter.{TakesFirst};
+    ghost use Rattle.std.specs.{Prelude.{length}, Iterator.{at_most}, Map.Iter.{TakesFirst}};
 
     ghost next_gives = { TakesFirst (λ n. n.now) };
 
@@ -278,7 +270,7 @@ impl<'t, 'a> Iterator for Names<'t, 'a> {
 /// The indices of a font's Subrs, upwards.
 #[derive(Drop)]
 pub struct Indices<'t, 'a> {
-    inner: NumberedEntries<'t, 'a>,
+    inner: SparseArrayEntries<'t, 'a>,
 }
 
 impl<'t, 'a> Model for Indices<'t, 'a> {
@@ -295,9 +287,7 @@ impl<'t, 'a> Model for Indices<'t, 'a> {
 impl<'t, 'a> Iterator for Indices<'t, 'a> {
     type Item = u16;
 
-    ghost use Rattle.std.specs.Prelude.{length};
-    ghost use Rattle.std.specs.Iterator.{at_most};
-    ghost use Rattle.std.specs.Map.Iter.{TakesFirst};
+    ghost use Rattle.std.specs.{Prelude.{length}, Iterator.{at_most}, Map.Iter.{TakesFirst}};
 
     ghost next_gives = { TakesFirst (λ i. i) };
 
@@ -310,8 +300,7 @@ impl<'t, 'a> Iterator for Indices<'t, 'a> {
 }
 
 impl<'a> Subroutines for Font<'a> {
-    ghost use Rattle.t1_font.specs.FontValue.{declared_count};
-    ghost use Rattle.t1_font.specs.FontModel.{subr_at, subrs_below};
+    ghost use Rattle.t1_font.specs.{FontValue.{declared_count}, FontModel.{subr_at, subrs_below}};
 
     ghost subrs = { subr_at };
 

@@ -1,26 +1,22 @@
 //! One FontBBox for a list of fonts: the least box that holds the box of each (Adobe Type 1 Font Format 1.1, chapter 2).
 
-ghost use Rattle.std.specs.Prelude.{◌≡◌, nat_le, ℕ, List, ◌++◌, ◌∷◌, [], map, filter, Some, None, IfOk, OnOk, if◌then◌else◌};
-ghost use Rattle.std.specs.List.{list_any, list_all};
-ghost use Rattle.std.specs.Option.{option_map};
-ghost use Rattle.t1_font.specs.FontBoxes.{says_nothing, held, counting_boxes, joined_box, is_opening, closing, closes_box, opening, spaced, box_numbers, font_box, place_in};
-ghost use Rattle.t1_font.specs.FontBoxes.{at_place, box_place_text, side_of, side_in, box_at, texts_at, same_box, same_numbers, same_place, is_read, stays_at};
-ghost use Rattle.t1_font.specs.EvenTexts.{same_both, even_clear};
-ghost use Rattle.t1_font.specs.IsFont.{IsFont};
-ghost use Rattle.t1_font.specs.FontBoxes.{clear_of, with_clear, box_of, clear_with, with_texts, font_with, can_take, can_have, if_can, boxes_of, boxed};
-ghost use Rattle.t1_font.specs.FontModel.{clamp};
-ghost use Rattle.t1_font.specs.FontValue.{weight, texts_weight, weight_limit};
+ghost use Rattle.std.specs.{Prelude.{◌≡◌, nat_le, ℕ, List, [], map, Some, None, IfOk, if◌then◌else◌}, List.{list_all}, Option.{option_map}};
+ghost use Rattle.t1_font.specs.FontBoxes.{joined_box, is_opening, closing, closes_box, opening, spaced, box_numbers, font_box, place_in, at_place};
+ghost use Rattle.t1_font.specs.FontBoxes.{box_place_text, side_in, box_at, texts_at, same_box, same_numbers, same_place, is_read, stays_at, with_clear, box_of};
+ghost use Rattle.t1_font.specs.{FontBoxes.{clear_with, with_texts, can_take, can_have, if_can, boxes_of, boxed}, NormalTexts.{same_both, normal_clear}};
+ghost use Rattle.t1_font.specs.{IsFont.{IsFont}, FontModel.{clamp}, FontValue.{weight, texts_weight, weight_limit}};
 ghost use Rattle.t1_font.specs.BoxViews.{box_view, kept_view, numbers_view, box_place_view, side_view, are_alike, wanted_box};
 
-use crate::even_texts::{ClearTexts, both_fit, even_clear, same_both};
-use crate::file::are_bytes;
+use crate::file::proof_are_bytes;
 use crate::joined_boxes::{FontBox, KeptBox, joined_box};
 use crate::limits::WEIGHT_LIMIT;
+use crate::normal_texts::{ClearTexts, both_fit, normal_clear, same_both};
 use crate::numbers::number_at;
 use crate::shell::Shell;
-use crate::source::{Source, SourceParts, glyphs_weight, keep, subrs_weight};
+use crate::source::{Source, SourceParts, glyphs_weight, subrs_weight};
 use std::alloc::{AllocError, Global};
 use t1_bytes::texts::{count_at, find_from, fixed_at, gap_at, white_at};
+use t1_join::push_item;
 
 /// Four numbers, and what stands between them.
 #[derive(Clone, Copy)]
@@ -282,16 +278,16 @@ fn stays_at<'a>(sides: FontBox<'a>, texts: &ClearTexts, side: Side<'a>) -> bool
     }
 }
 
-/// Whether two texts stay when they are made even.
-fn are_even(alloc: Global, texts: &ClearTexts) -> Result<bool, AllocError>
+/// Whether two texts stay when they are normalized.
+fn are_normal(alloc: Global, texts: &ClearTexts) -> Result<bool, AllocError>
     ensures { IfOk result (λ b. b
-        ≡ same_both (even_clear (texts.now.head.items, texts.now.clear_tail.items))
+        ≡ same_both (normal_clear (texts.now.head.items, texts.now.clear_tail.items))
         (texts.now.head.items, texts.now.clear_tail.items)) }
 {
     let head = texts.head.as_slice();
     let clear_tail = texts.clear_tail.as_slice();
-    let even = even_clear(alloc, head, clear_tail)?;
-    Ok(same_both(&even, head, clear_tail))
+    let normal = normal_clear(alloc, head, clear_tail)?;
+    Ok(same_both(&normal, head, clear_tail))
 }
 
 // ---- fonts
@@ -340,10 +336,10 @@ fn can_take<'a>(
         × (texts.new.clear_tail.items ≡ texts.old.clear_tail.items)) }
 {
     let fit = both_fit(texts)?;
-    let even = are_even(alloc, texts)?;
+    let normal = are_normal(alloc, texts)?;
     let stays = stays_at(sides, texts, side);
     let light = is_light(parts, texts);
-    Ok(fit && (even && (stays && light)))
+    Ok(fit && (normal && (stays && light)))
 }
 
 /// The two texts around the Encoding with this box, if the font can have it.
@@ -393,27 +389,10 @@ impl Source {
         ensures { result ≡ with_texts self (texts.head.items, texts.clear_tail.items) }
     {
         let ClearTexts { head, clear_tail } = texts;
-        let SourceParts {
-            shell,
-            encoding,
-            buffer,
-            subrs,
-            likely,
-            glyphs,
-        } = self.parts;
-        let mut shell = shell;
-        shell.head = head;
-        shell.clear_tail = clear_tail;
-        Source {
-            parts: SourceParts {
-                shell,
-                encoding,
-                buffer,
-                subrs,
-                likely,
-                glyphs,
-            },
-        }
+        let mut parts = self.parts;
+        parts.shell.head = head;
+        parts.shell.clear_tail = clear_tail;
+        Source { parts }
     }
 
     /// The font with this box, if it can have it.
@@ -429,8 +408,8 @@ impl Source {
         };
         match texts {
             Some(texts) => {
-                are_bytes(texts.head.as_slice());
-                are_bytes(texts.clear_tail.as_slice());
+                proof_are_bytes(texts.head.as_slice());
+                proof_are_bytes(texts.clear_tail.as_slice());
                 Ok(self.with_texts(texts))
             }
             None => Ok(self),
@@ -516,7 +495,7 @@ fn all_with_box(
             Ok(source) => source,
             Err(fault) => return Err(fault),
         };
-        keep(&mut all, source)?;
+        push_item(&mut all, source)?;
     }
     Ok(all)
 }
@@ -530,7 +509,7 @@ fn all_with_box(
 /// them so. Only the four words are replaced.
 ///
 /// All sources stay as they are if their boxes are spelled alike, if one has no such box, or if one cannot have the new one: where
-/// its texts would no longer be even texts of a font, where the box would not be read again at its place, and where the font would
+/// its texts would no longer be normalized texts of a font, where the box would not be read again at its place, and where the font would
 /// be over the weight limit.
 ///
 /// The sources are consumed whatever the answer is; after an error none of them is left.
@@ -538,7 +517,7 @@ fn all_with_box(
 /// # Errors
 ///
 /// A growth was refused.
-pub fn even_boxes(alloc: Global, sources: Vec<Source>) -> Result<Vec<Source>, AllocError>
+pub fn normalize_boxes(alloc: Global, sources: Vec<Source>) -> Result<Vec<Source>, AllocError>
     ensures { IfOk result (λ all. all.items ≡ boxed sources.items) }
 {
     let joined = match one_box(alloc, sources.as_slice()) {

@@ -1,16 +1,16 @@
 //! Fonts under another name.
 
-ghost use Rattle.std.specs.Prelude.{◌≡◌, ℕ, List, map, Some, None, IfOk, if◌then◌else◌};
-ghost use Rattle.std.specs.Option.{option_map};
-ghost use Rattle.t1_font.specs.FontNames.{around_name, text_named, clear_named, can_be_named, named, evened_named};
+ghost use Rattle.std.specs.{Prelude.{◌≡◌, ℕ, List, map, Some, None, IfOk, if◌then◌else◌}, Option.{option_map}};
+ghost use Rattle.t1_font.specs.FontNames.{around_name, text_named, clear_named, can_be_named, named, normalized_named};
 
-use crate::even_texts::{ClearTexts, both_fit};
-use crate::evening::even_shells;
-use crate::file::are_bytes;
+use crate::file::proof_are_bytes;
 use crate::font_boxes::is_light;
-use crate::source::{Source, SourceParts, keep};
+use crate::normal_texts::{ClearTexts, both_fit};
+use crate::normalizing::normalize_shells;
+use crate::source::{Source, SourceParts};
 use crate::tags::around_name;
 use std::alloc::{AllocError, Global};
+use t1_join::push_item;
 
 /// A text with this name in place of its own, if it has one.
 fn text_named(alloc: Global, name: &[u8], text: &[u8]) -> Result<Vec<u8>, AllocError>
@@ -73,8 +73,8 @@ impl Source {
         };
         match texts {
             Some(texts) => {
-                are_bytes(texts.head.as_slice());
-                are_bytes(texts.clear_tail.as_slice());
+                proof_are_bytes(texts.head.as_slice());
+                proof_are_bytes(texts.clear_tail.as_slice());
                 Ok(self.with_texts(texts))
             }
             None => Ok(self),
@@ -93,27 +93,27 @@ fn all_named(alloc: Global, sources: Vec<Source>, name: &[u8]) -> Result<Vec<Sou
             Ok(source) => source,
             Err(fault) => return Err(fault),
         };
-        keep(&mut all, source)?;
+        push_item(&mut all, source)?;
     }
     Ok(all)
 }
 
-/// The sources made even by [`even_shells`], each with this name ([`Source::named`]): a document finds a font by its name, from
-/// which evening takes the tags.
+/// The sources normalized by [`normalize_shells`], each with this name ([`Source::named`]): a document finds a font by its name, from
+/// which normalizing takes the tags.
 ///
 /// The sources are consumed whatever the answer is; after an error none of them is left.
 ///
 /// # Errors
 ///
 /// A growth was refused.
-pub fn even_named(
+pub fn normalize_named(
     alloc: Global,
     sources: Vec<Source>,
     name: &[u8],
 ) -> Result<Vec<Source>, AllocError>
-    ensures { IfOk result (λ all. all.items ≡ evened_named name.now sources.items) }
+    ensures { IfOk result (λ all. all.items ≡ normalized_named name.now sources.items) }
 {
-    match even_shells(alloc, sources) {
+    match normalize_shells(alloc, sources) {
         Ok(sources) => all_named(alloc, sources, name),
         Err(fault) => Err(fault),
     }

@@ -3,13 +3,14 @@
 //! Many fonts, those of Computer Modern among them, begin by asking PostScript's `FontDirectory` for themselves. The answer
 //! stays on the operand stack, for a `restore` behind the font's `cleartomark`, which isn't kept.
 
-ghost use Rattle.std.specs.Prelude.{◌≡◌, ℕ, List, ◌++◌, ◌∷◌, [], ◌+◌, ◌≤◌, ◌<◌, not, length, map, drop, get_or, codes, Some, None, IfOk, IfSome, MatchOption, if◌then◌else◌};
-ghost use Rattle.std.specs.Option.{option_map};
+ghost use Rattle.std.specs.Prelude.{◌≡◌, ℕ, List, ◌++◌, ◌∷◌, ◌+◌, ◌≤◌, ◌<◌, not, length, map, drop, get_or, codes, Some, None, IfOk, IfSome, MatchOption};
+ghost use Rattle.std.specs.{Prelude.{if◌then◌else◌}, Option.{option_map}};
 ghost use Rattle.t1_grammar.specs.Grammar.{first};
 ghost use Rattle.t1_bytes.specs.Eexec.{blank_comes};
 ghost use Rattle.t1_font.specs.Words.{is_regular, keyword};
 ghost use Rattle.t1_font.specs.FontTest.{is_brace, get_number, is_same, then_save, token, test_tokens, literal, known_name, known_number, font_test};
-ghost use Rattle.t1_font.specs.FontTest.{found_test, place_and_around, eexec_there, test_begins, eexec_begins, has_marker, is_untested, untested, taken_test, untested_shell, untested_font};
+ghost use Rattle.t1_font.specs.FontTest.{found_test, place_and_around, eexec_there, test_begins, eexec_begins, has_marker, is_untested, untested, taken_test};
+ghost use Rattle.t1_font.specs.FontTest.{untested_shell, untested_font};
 
 use crate::markers::{EncodingMarker, Marker, first};
 use crate::shell::Shell;

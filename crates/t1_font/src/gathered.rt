@@ -1,17 +1,11 @@
 //! What is gathered of a font while it is read.
 
-ghost use Rattle.std.specs.Prelude.{◌≡◌, ◌≤◌, ◌+◌, ◌-◌, ◌++◌, length, take, drop, unwrap_or, OnOk};
-ghost use Rattle.std.specs.FinMap as fin;
-ghost use Rattle.t1_bytes.specs.Cipher.{decrypted};
-ghost use Rattle.t1_bytes.specs.Limits.{file_limit};
-ghost use Rattle.t1_font.specs.Charstrings.{plain_of};
-ghost use Rattle.std.specs.Ordering.{nat_cmp};
-ghost use Rattle.t1_join.specs.Entries.{entries_by};
-ghost use Rattle.t1_font.specs.Entries.{last_value};
-ghost use Rattle.t1_font.specs.FontValue.{notdef};
-ghost use Rattle.t1_font.specs.Gathering.{name_in};
-ghost use Rattle.t1_font.specs.Places.{ending, bytes_at_place};
+ghost use Rattle.std.specs.{Prelude.{◌≡◌, ◌≤◌, ◌+◌, ◌-◌, ◌++◌, length, take, drop, unwrap_or, OnOk}, Ordering.{nat_cmp}};
+ghost use Rattle.t1_bytes.specs.{Cipher.{decrypted}, Limits.{file_limit}};
+ghost use Rattle.t1_font.specs.{Charstrings.{plain_of}, Entries.{last_value}, FontValue.{notdef}, Gathering.{name_in}, Places.{ending, bytes_at_place}};
 ghost use Rattle.t1_font.specs.Ranges.{bytes_at, IsInside};
+ghost use Rattle.t1_join.specs.Entries.{entries_by};
+ghost use Rattle.std.specs.FinMap as fin;
 
 use crate::places::Place;
 use crate::ranges::Range;

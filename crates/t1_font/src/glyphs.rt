@@ -1,19 +1,10 @@
 //! The table of glyphs.
 
-ghost use Rattle.std.specs.Prelude.{◌≡◌, ◌≤◌, ◌+◌, OnOk, IfSome, length};
-ghost use Rattle.std.specs.Option.{option_map};
-ghost use Rattle.std.specs.Str.{bytes_eq};
-ghost use Rattle.t1_font.specs.FontValue.{notdef};
+ghost use Rattle.std.specs.{Prelude.{◌≡◌, ◌≤◌, ◌+◌, OnOk, IfSome, length}, Option.{option_map}, Str.{bytes_eq}};
+ghost use Rattle.t1_font.specs.{FontValue.{notdef}, Glyphs.{glyph, glyphs_end}, Answers.{ShowsGlyphs}, Gathering.{GlyphsAlone}, Held.{HoldsGlyphs, TableHeld}};
+ghost use Rattle.t1_font.specs.{Places.{StandsIn}, Views.{entry_view}, declared.dialect.Spacing.TheVariants.{White}};
 ghost use Rattle.t1_grammar.specs.Tables.{table_at};
-ghost use Rattle.t1_font.specs.Glyphs.{glyph, glyphs_end};
 ghost use Rattle.std.specs.FinMap as fin;
-ghost use Rattle.t1_font.specs.Answers.{ShowsGlyphs};
-ghost use Rattle.t1_font.specs.Gathering.{GlyphsAlone};
-ghost use Rattle.t1_font.specs.Held.{HoldsGlyphs, TableHeld};
-ghost use Rattle.t1_font.specs.Places.{StandsIn};
-ghost use Rattle.t1_font.specs.Views.{entry_view};
-ghost use Rattle.t1_font.specs.Words.{next_name};
-ghost use Rattle.t1_font.specs.declared.dialect.Spacing.TheVariants.{White};
 
 use crate::entry::{Body, body_at};
 use crate::fault::TableError;

@@ -1,9 +1,7 @@
 //! The least box that holds some boxes, of which one may say that nothing is known (Adobe Type 1 Font Format 1.1, chapter 2).
 
-ghost use Rattle.std.specs.Prelude.{◌≡◌, ◌∷◌, [], map, filter, IfOk};
-ghost use Rattle.std.specs.List.{list_any};
-ghost use Rattle.t1_font.specs.FontBoxes.{says_nothing, held, joined_box};
-ghost use Rattle.t1_font.specs.BoxViews.{box_view, kept_view};
+ghost use Rattle.std.specs.{Prelude.{◌≡◌, ◌∷◌, [], map, filter, IfOk}, List.{list_any}};
+ghost use Rattle.t1_font.specs.{FontBoxes.{says_nothing, held, joined_box}, BoxViews.{box_view, kept_view}};
 
 use crate::numbers::{greater, is_zero, lesser};
 use std::alloc::{AllocError, Global};

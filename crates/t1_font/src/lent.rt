@@ -5,17 +5,11 @@
 //! in a list that it shares with others. Beside `copy` and filling, only `len`, `at` and `place_of` ask which of these a
 //! table is; all other functions go by places.
 
-ghost use Rattle.std.specs.Prelude.{◌≡◌, ◌+◌, ◌<◌, ℕ, max, map, IfOk, IfSome};
-ghost use Rattle.std.specs.List.{slice_get};
-ghost use Rattle.std.specs.Option.{option_map, option_and_then};
-ghost use Rattle.std.specs.Ordering.{nat_cmp, is_eq};
-ghost use Rattle.std.specs.FinMap as fin;
+ghost use Rattle.std.specs.{Prelude.{◌≡◌, ◌+◌, ◌<◌, ℕ, max, map, IfOk}, List.{slice_get}, Option.{option_map, option_and_then}, Ordering.{nat_cmp, is_eq}};
 ghost use Rattle.t1_join.specs.TableMeaning.{Rises};
-ghost use Rattle.t1_font.specs.FontValue.{name_cmp, total, subr_weight, glyph_weight};
-ghost use Rattle.t1_font.specs.FontModel.{clamp};
-ghost use Rattle.t1_font.specs.Filling.{has_none, has_each};
-ghost use Rattle.t1_font.specs.Lent.{lent_number, stub_at, filled_at, numbered_entries, lent_glyph};
-ghost use Rattle.t1_font.specs.Ranges.{named_at};
+ghost use Rattle.t1_font.specs.{FontValue.{name_cmp, total, subr_weight, glyph_weight}, FontModel.{clamp}, Filling.{has_none, has_each}};
+ghost use Rattle.t1_font.specs.{Lent.{lent_number, stub_at, filled_at, numbered_entries, lent_glyph}, Ranges.{named_at}};
+ghost use Rattle.std.specs.FinMap as fin;
 
 use crate::ranges::Range;
 use crate::stored::StoredSubrs;
@@ -49,9 +43,9 @@ fn is_among(indices: &[u16], index: u16) -> bool
     indices.binary_search(&index).is_ok()
 }
 
-/// Where a table by number has its entries.
+/// Where a sparse array has its entries.
 #[derive(Drop)]
-pub(crate) enum NumberedForm<'a> {
+pub(crate) enum SparseArrayForm<'a> {
     /// In a source.
     Stored(StoredSubrs<'a>),
     /// In a source, and stubs at the other indices of a list.
@@ -63,21 +57,18 @@ pub(crate) enum NumberedForm<'a> {
     Made(Vec<(u16, &'a [u8])>),
 }
 
-/// Charstrings by index, or names by code, upwards by number.
+/// An array of PostScript with gaps, such as the Subrs and a table Encoding: charstrings by index, or names by code, upwards by number.
 #[derive(Drop)]
-pub struct Numbered<'a> {
-    form: NumberedForm<'a>,
+pub struct SparseArray<'a> {
+    form: SparseArrayForm<'a>,
 }
 
-impl<'a> Model for Numbered<'a> {
-    ghost use Rattle.std.specs.Ordering.{nat_cmp};
-    ghost use Rattle.std.specs.FinMap.{from_sorted};
+impl<'a> Model for SparseArray<'a> {
+    ghost use Rattle.std.specs.{Ordering.{nat_cmp}, FinMap.{from_sorted}};
     ghost use Rattle.t1_join.specs.TableMeaning.{Rises};
-    ghost use Rattle.t1_font.specs.FontValue.{Numbered as NumberedValue};
-    ghost use Rattle.t1_font.specs.Codes.{numbered_code};
-    ghost use Rattle.t1_font.specs.Lent.{numbered_entries};
+    ghost use Rattle.t1_font.specs.{FontValue.{SparseArray as SparseArrayValue}, Codes.{numbered_code}, Lent.{numbered_entries}};
 
-    ghost Value = { NumberedValue };
+    ghost Value = { SparseArrayValue };
 
     ghost coded = { numbered_code };
 
@@ -86,14 +77,14 @@ impl<'a> Model for Numbered<'a> {
     ghost invariant = { λ m. Rises nat_cmp (numbered_entries m.form) };
 }
 
-impl<'a> Numbered<'a> {
+impl<'a> SparseArray<'a> {
     /// The table of a source, as it stands there.
     #[tactic(auto, using(t1_join::proofs::Sorted::map_of))]
     pub(crate) fn stored(own: StoredSubrs<'a>) -> Self
         ensures { result ≡ own.entry }
     {
-        Numbered {
-            form: NumberedForm::Stored(own),
+        SparseArray {
+            form: SparseArrayForm::Stored(own),
         }
     }
 
@@ -103,21 +94,21 @@ impl<'a> Numbered<'a> {
         requires { Rises nat_cmp (map stub_at indices.now) }
         ensures { result ≡ fin.from_sorted (map (filled_at own.entry) indices.now) }
     {
-        Numbered {
-            form: NumberedForm::Filled { own, indices },
+        SparseArray {
+            form: SparseArrayForm::Filled { own, indices },
         }
     }
 
     /// Where the table has its entries.
     #[tactic(auto, using(crate::proofs::LentTables::same_table))]
-    pub(crate) fn form(&self) -> &NumberedForm<'a>
+    pub(crate) fn form(&self) -> &SparseArrayForm<'a>
         ensures { fin.from_sorted (numbered_entries result.now) ≡ self.now }
     {
         &self.form
     }
 
     /// Whether a list has the number of each entry.
-    #[tactic(auto, using(std::proofs::lemmas::Map::Iter::rest_more, std::proofs::lemmas::Map::Iter::rest_all, crate::proofs::even_fonts::Filled::all_left, crate::proofs::even_fonts::Filled::one_known, crate::proofs::even_fonts::Filled::one_unknown, crate::proofs::even_fonts::Filled::all_known))]
+    #[tactic(auto, using(std::proofs::lemmas::Map::Iter::rest_more, std::proofs::lemmas::Map::Iter::rest_all, crate::proofs::normal_fonts::Filled::all_left, crate::proofs::normal_fonts::Filled::one_known, crate::proofs::normal_fonts::Filled::one_unknown, crate::proofs::normal_fonts::Filled::all_known))]
     pub(crate) fn are_among(&self, numbers: &[u16]) -> bool
         requires { Rises nat_cmp (map stub_at numbers.now) }
         ensures { result ≡ has_each (fin.from_sorted {R = nat_cmp} (map stub_at numbers.now)) (fin.keys self.now) }
@@ -135,8 +126,8 @@ impl<'a> Numbered<'a> {
         requires { Rises nat_cmp (map lent_number entries.items) }
         ensures { result ≡ fin.from_sorted (map lent_number entries.entry.items) }
     {
-        Numbered {
-            form: NumberedForm::Made(entries),
+        SparseArray {
+            form: SparseArrayForm::Made(entries),
         }
     }
 
@@ -146,9 +137,14 @@ impl<'a> Numbered<'a> {
         ensures { IfOk result (λ m. m ≡ self.now) }
     {
         match &self.form {
-            NumberedForm::Stored(own) => Ok(Numbered::stored(own.again())),
-            NumberedForm::Filled { own, indices } => Ok(Numbered::filled(own.again(), indices)),
-            NumberedForm::Made(entries) => Ok(Numbered::made(Vec::from_slice(alloc, entries)?)),
+            SparseArrayForm::Stored(own) => Ok(SparseArray::stored(own.again())),
+            SparseArrayForm::Filled { own, indices } => Ok(SparseArray::filled(
+                own.again(),
+                indices,
+            )),
+            SparseArrayForm::Made(entries) => Ok(SparseArray::made(Vec::from_slice(
+                alloc, entries,
+            )?)),
         }
     }
 
@@ -158,9 +154,9 @@ impl<'a> Numbered<'a> {
         ensures { result ≡ fin.len self.now }
     {
         match &self.form {
-            NumberedForm::Stored(own) => own.len(),
-            NumberedForm::Filled { indices, .. } => indices.len(),
-            NumberedForm::Made(entries) => entries.len(),
+            SparseArrayForm::Stored(own) => own.len(),
+            SparseArrayForm::Filled { indices, .. } => indices.len(),
+            SparseArrayForm::Made(entries) => entries.len(),
         }
     }
 
@@ -171,9 +167,9 @@ impl<'a> Numbered<'a> {
             ≡ option_map (λ b. (number, b)) (fin.get self.now number) }
     {
         match &self.form {
-            NumberedForm::Stored(own) => own.place_of(number),
-            NumberedForm::Filled { indices, .. } => indices.binary_search(&number).ok(),
-            NumberedForm::Made(entries) => {
+            SparseArrayForm::Stored(own) => own.place_of(number),
+            SparseArrayForm::Filled { indices, .. } => indices.binary_search(&number).ok(),
+            SparseArrayForm::Made(entries) => {
                 entries.binary_search_by_key(&number, |entry| entry.0).ok()
             }
         }
@@ -199,7 +195,7 @@ impl<'a> Numbered<'a> {
     #[inline(always)]
     fn likely_place(&self, number: u16) -> usize {
         match &self.form {
-            NumberedForm::Stored(own) => own.likely_place(number),
+            SparseArrayForm::Stored(own) => own.likely_place(number),
             _ => number as usize,
         }
     }
@@ -222,13 +218,13 @@ impl<'a> Numbered<'a> {
     }
 
     /// Whether both tables have entries at the same numbers. Those of tables that are filled stand in lists.
-    pub fn same_numbers(&self, other: &Numbered<'_>) -> bool
+    pub fn same_numbers(&self, other: &SparseArray<'_>) -> bool
         ensures { result ≡ is_eq (name_cmp (fin.keys self.now) (fin.keys other.now)) }
     {
         match (&self.form, &other.form) {
             (
-                NumberedForm::Filled { indices, .. },
-                NumberedForm::Filled {
+                SparseArrayForm::Filled { indices, .. },
+                SparseArrayForm::Filled {
                     indices: others,
                     ..
                 },
@@ -238,10 +234,10 @@ impl<'a> Numbered<'a> {
     }
 
     /// The entries, upwards by number.
-    pub fn entries(&self) -> NumberedEntries<'_, 'a>
+    pub fn entries(&self) -> SparseArrayEntries<'_, 'a>
         ensures { result ≡ fin.entries self.now }
     {
-        NumberedEntries {
+        SparseArrayEntries {
             table: self,
             place: 0,
         }
@@ -260,9 +256,8 @@ impl<'a> Numbered<'a> {
     }
 }
 
-impl<'t, 'a> SortedTable for &'t Numbered<'a> {
-    ghost use Rattle.std.specs.Prelude.{ℕ};
-    ghost use Rattle.std.specs.Ordering.{nat_cmp};
+impl<'t, 'a> SortedTable for &'t SparseArray<'a> {
+    ghost use Rattle.std.specs.{Prelude.{ℕ}, Ordering.{nat_cmp}};
     ghost use Rattle.t1_join.specs.Meaning.{of_number};
     ghost use Rattle.t1_font.specs.Lent.{lent_number};
 
@@ -282,12 +277,12 @@ impl<'t, 'a> SortedTable for &'t Numbered<'a> {
     #[tactic(auto, using(t1_join::proofs::TablePlaces::stands, t1_join::proofs::TablePlaces::stands_not, t1_join::proofs::TablePlaces::stands_copied, crate::proofs::LentTables::same_table))]
     fn at(self, place: usize) -> Option<(u16, &'a [u8])> {
         match &self.form {
-            NumberedForm::Stored(own) => own.at(place),
-            NumberedForm::Filled { own, indices } => {
+            SparseArrayForm::Stored(own) => own.at(place),
+            SparseArrayForm::Filled { own, indices } => {
                 let index = *indices.get(place)?;
                 Some((index, own.get_or_stub(index)))
             }
-            NumberedForm::Made(entries) => entries.get(place).copied(),
+            SparseArrayForm::Made(entries) => entries.get(place).copied(),
         }
     }
 
@@ -303,7 +298,7 @@ impl<'t, 'a> SortedTable for &'t Numbered<'a> {
 }
 
 /// Whether both tables have entries at the same numbers.
-fn same_keys(left: &Numbered<'_>, right: &Numbered<'_>) -> bool
+fn same_keys(left: &SparseArray<'_>, right: &SparseArray<'_>) -> bool
     ensures { result ≡ is_eq (name_cmp (fin.keys left.now) (fin.keys right.now)) }
 {
     if left.len() != right.len() {
@@ -319,14 +314,14 @@ fn same_keys(left: &Numbered<'_>, right: &Numbered<'_>) -> bool
     others.next().is_none()
 }
 
-/// The entries of a table, upwards by number.
+/// The entries of a sparse array, upwards by number.
 #[derive(Drop)]
-pub struct NumberedEntries<'t, 'a> {
-    table: &'t Numbered<'a>,
+pub struct SparseArrayEntries<'t, 'a> {
+    table: &'t SparseArray<'a>,
     place: usize,
 }
 
-impl<'t, 'a> Model for NumberedEntries<'t, 'a> {
+impl<'t, 'a> Model for SparseArrayEntries<'t, 'a> {
     ghost use Rattle.std.specs.Prelude.{List, ℕ, drop};
     ghost use Rattle.std.specs.FinMap as fin;
 
@@ -335,12 +330,10 @@ impl<'t, 'a> Model for NumberedEntries<'t, 'a> {
     ghost view = { λ s. drop s.place (fin.entries s.table.now) };
 }
 
-impl<'t, 'a> Iterator for NumberedEntries<'t, 'a> {
+impl<'t, 'a> Iterator for SparseArrayEntries<'t, 'a> {
     type Item = (u16, &'a [u8]);
 
-    ghost use Rattle.std.specs.Prelude.{length};
-    ghost use Rattle.std.specs.Iterator.{at_most};
-    ghost use Rattle.std.specs.Map.Iter.{TakesFirst};
+    ghost use Rattle.std.specs.{Prelude.{length}, Iterator.{at_most}, Map.Iter.{TakesFirst}};
     ghost use Rattle.t1_font.specs.Lent.{lent_number};
 
     ghost next_gives = { TakesFirst lent_number };
@@ -381,9 +374,9 @@ impl<'a> Glyph<'a> {
     }
 }
 
-/// Where a table by name has its glyphs.
+/// Where the CharStrings of a font have their glyphs.
 #[derive(Drop)]
-pub(crate) enum NamedForm<'a> {
+pub(crate) enum CharStringsForm<'a> {
     /// In a source: its buffer, and the places of each there.
     Stored {
         buffer: &'a Vec<u8>,
@@ -393,20 +386,18 @@ pub(crate) enum NamedForm<'a> {
     Made(Vec<Glyph<'a>>),
 }
 
-/// Charstrings by name, upwards by the bytes of their names.
+/// The dictionary CharStrings of a font: charstrings by name, upwards by the bytes of their names.
 #[derive(Drop)]
-pub struct Named<'a> {
-    form: NamedForm<'a>,
+pub struct CharStrings<'a> {
+    form: CharStringsForm<'a>,
 }
 
-impl<'a> Model for Named<'a> {
+impl<'a> Model for CharStrings<'a> {
     ghost use Rattle.std.specs.FinMap.{from_sorted};
     ghost use Rattle.t1_join.specs.TableMeaning.{Rises};
-    ghost use Rattle.t1_font.specs.FontValue.{Named as NamedValue, name_cmp};
-    ghost use Rattle.t1_font.specs.Codes.{named_code};
-    ghost use Rattle.t1_font.specs.Lent.{named_entries};
+    ghost use Rattle.t1_font.specs.{FontValue.{CharStrings as CharStringsValue, name_cmp}, Codes.{named_code}, Lent.{named_entries}};
 
-    ghost Value = { NamedValue };
+    ghost Value = { CharStringsValue };
 
     ghost coded = { named_code };
 
@@ -415,14 +406,14 @@ impl<'a> Model for Named<'a> {
     ghost invariant = { λ m. Rises name_cmp (named_entries m.form) };
 }
 
-impl<'a> Named<'a> {
+impl<'a> CharStrings<'a> {
     /// The table of a source, as it stands there.
     pub(crate) fn stored(buffer: &'a Vec<u8>, places: &'a [(Range, Range)]) -> Self
         requires { Rises name_cmp (map (named_at buffer.now.items) places.now) }
         ensures { result ≡ fin.from_sorted (map (named_at buffer.now.items) places.now) }
     {
-        Named {
-            form: NamedForm::Stored { buffer, places },
+        CharStrings {
+            form: CharStringsForm::Stored { buffer, places },
         }
     }
 
@@ -431,8 +422,8 @@ impl<'a> Named<'a> {
         requires { Rises name_cmp (map lent_glyph glyphs.items) }
         ensures { result ≡ fin.from_sorted (map lent_glyph glyphs.entry.items) }
     {
-        Named {
-            form: NamedForm::Made(glyphs),
+        CharStrings {
+            form: CharStringsForm::Made(glyphs),
         }
     }
 
@@ -441,8 +432,8 @@ impl<'a> Named<'a> {
         ensures { IfOk result (λ m. m ≡ self.now) }
     {
         match &self.form {
-            NamedForm::Stored { buffer, places } => Ok(Named::stored(buffer, places)),
-            NamedForm::Made(glyphs) => Ok(Named::made(Vec::from_slice(alloc, glyphs)?)),
+            CharStringsForm::Stored { buffer, places } => Ok(CharStrings::stored(buffer, places)),
+            CharStringsForm::Made(glyphs) => Ok(CharStrings::made(Vec::from_slice(alloc, glyphs)?)),
         }
     }
 
@@ -452,8 +443,8 @@ impl<'a> Named<'a> {
         ensures { result ≡ fin.len self.now }
     {
         match &self.form {
-            NamedForm::Stored { places, .. } => places.len(),
-            NamedForm::Made(glyphs) => glyphs.len(),
+            CharStringsForm::Stored { places, .. } => places.len(),
+            CharStringsForm::Made(glyphs) => glyphs.len(),
         }
     }
 
@@ -463,10 +454,12 @@ impl<'a> Named<'a> {
             ≡ option_map (λ b. (name.now, b)) (fin.get self.now name.now) }
     {
         match &self.form {
-            NamedForm::Stored { buffer, places } => places
+            CharStringsForm::Stored { buffer, places } => places
                 .binary_search_by(|entry| entry.0.of(buffer).cmp(name))
                 .ok(),
-            NamedForm::Made(glyphs) => glyphs.binary_search_by(|glyph| glyph.name().cmp(name)).ok(),
+            CharStringsForm::Made(glyphs) => glyphs
+                .binary_search_by(|glyph| glyph.name().cmp(name))
+                .ok(),
         }
     }
 
@@ -488,10 +481,10 @@ impl<'a> Named<'a> {
     }
 
     /// The entries, upwards by the bytes of their names.
-    pub fn entries(&self) -> NamedEntries<'_, 'a>
+    pub fn entries(&self) -> CharStringsEntries<'_, 'a>
         ensures { result ≡ fin.entries self.now }
     {
-        NamedEntries {
+        CharStringsEntries {
             table: self,
             place: 0,
         }
@@ -510,10 +503,9 @@ impl<'a> Named<'a> {
     }
 }
 
-impl<'t, 'a> SortedTable for &'t Named<'a> {
+impl<'t, 'a> SortedTable for &'t CharStrings<'a> {
     ghost use Rattle.std.specs.Prelude.{List, ℕ};
-    ghost use Rattle.t1_font.specs.FontValue.{name_cmp};
-    ghost use Rattle.t1_font.specs.Lent.{lent_glyph};
+    ghost use Rattle.t1_font.specs.{FontValue.{name_cmp}, Lent.{lent_glyph}};
 
     ghost Key = { List ℕ };
 
@@ -530,11 +522,11 @@ impl<'t, 'a> SortedTable for &'t Named<'a> {
     #[tactic(auto, using(t1_join::proofs::TablePlaces::stands, t1_join::proofs::TablePlaces::stands_not, t1_join::proofs::TablePlaces::stands_copied))]
     fn at(self, place: usize) -> Option<Glyph<'a>> {
         match &self.form {
-            NamedForm::Stored { buffer, places } => {
+            CharStringsForm::Stored { buffer, places } => {
                 let places = places.get(place)?;
                 Some(Glyph { buffer, places })
             }
-            NamedForm::Made(glyphs) => glyphs.get(place).copied(),
+            CharStringsForm::Made(glyphs) => glyphs.get(place).copied(),
         }
     }
 
@@ -549,14 +541,14 @@ impl<'t, 'a> SortedTable for &'t Named<'a> {
     }
 }
 
-/// The entries of a table, upwards by the bytes of their names.
+/// The glyphs of CharStrings, upwards by the bytes of their names.
 #[derive(Drop)]
-pub struct NamedEntries<'t, 'a> {
-    table: &'t Named<'a>,
+pub struct CharStringsEntries<'t, 'a> {
+    table: &'t CharStrings<'a>,
     place: usize,
 }
 
-impl<'t, 'a> Model for NamedEntries<'t, 'a> {
+impl<'t, 'a> Model for CharStringsEntries<'t, 'a> {
     ghost use Rattle.std.specs.Prelude.{List, ℕ, drop};
     ghost use Rattle.std.specs.FinMap as fin;
 
@@ -565,12 +557,10 @@ impl<'t, 'a> Model for NamedEntries<'t, 'a> {
     ghost view = { λ s. drop s.place (fin.entries s.table.now) };
 }
 
-impl<'t, 'a> Iterator for NamedEntries<'t, 'a> {
+impl<'t, 'a> Iterator for CharStringsEntries<'t, 'a> {
     type Item = (&'a [u8], &'a [u8]);
 
-    ghost use Rattle.std.specs.Prelude.{length};
-    ghost use Rattle.std.specs.Iterator.{at_most};
-    ghost use Rattle.std.specs.Map.Iter.{TakesFirst};
+    ghost use Rattle.std.specs.{Prelude.{length}, Iterator.{at_most}, Map.Iter.{TakesFirst}};
     ghost use Rattle.t1_font.specs.Lent.{lent_name};
 
     ghost next_gives = { TakesFirst lent_name };

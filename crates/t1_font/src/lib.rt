@@ -22,8 +22,6 @@ mod cut;
 mod dialect;
 mod encoding;
 mod entry;
-mod even_texts;
-mod evening;
 mod fault;
 mod file;
 mod filling;
@@ -39,6 +37,8 @@ mod lent;
 mod limits;
 mod markers;
 mod mend;
+mod normal_texts;
+mod normalizing;
 mod numbers;
 mod parts;
 mod passes;
@@ -60,16 +60,16 @@ mod words;
 mod writing;
 
 pub use cut::restrict;
-pub use evening::even_shells;
 pub use fault::ReadFault;
 pub use file::{read, read_vec, read_wide, read_wide_vec};
 pub use filling::fill_all;
 pub use font::{Font, Indices, Names};
-pub use font_boxes::even_boxes;
-pub use font_names::even_named;
-pub use lent::{Glyph, Named, NamedEntries, Numbered, NumberedEntries};
+pub use font_boxes::normalize_boxes;
+pub use font_names::normalize_named;
+pub use lent::{CharStrings, CharStringsEntries, Glyph, SparseArray, SparseArrayEntries};
 pub use limits::{COUNT_LIMIT, WEIGHT_LIMIT};
 pub use mend::{Mend, mends};
+pub use normalizing::normalize_shells;
 pub use parts::{PartsFault, join_parts};
 pub use passes::{Extent, join_glyphs, join_same_glyphs};
 pub use shell::{Part, Shell};
@@ -77,8 +77,7 @@ pub use source::Source;
 pub use stub::STUB;
 pub use t1_bytes::Form;
 pub use t1_run::{
-    Curve, DrawFault, Drawing, DrawnPart, Fault, Layout, Mark, Pen, PlacedPart, Point, draw,
-    lay_out, trace,
+    Curve, DrawFault, Drawing, DrawnPart, Fault, Mark, Pen, Point, draw, lay_out, trace,
 };
 pub use tags::{name_in, untagged};
 pub use writing::write;

@@ -1,9 +1,7 @@
 //! The markers of font text.
 
-ghost use Rattle.std.specs.Prelude.{◌≡◌, ℕ, List, codes};
-ghost use Rattle.std.specs.Option.{option_map};
-ghost use Rattle.t1_grammar.specs.Grammar.{Grammar, first, Begins};
-ghost use Rattle.t1_grammar.specs.Places.{occurs};
+ghost use Rattle.std.specs.{Prelude.{◌≡◌, ℕ, List, codes}, Option.{option_map}};
+ghost use Rattle.t1_grammar.specs.{Grammar.{Grammar, first, Begins}, Places.{occurs}};
 ghost use Rattle.t1_font.specs.Markers.{white_comes, break_comes, encoding_marker, subrs_marker, chars_marker, len_iv_marker, len_iv, closefile};
 ghost use Rattle.t1_font.specs.Markers.{encoding_begins, subrs_begins, chars_begins, len_iv_begins, closefile_begins};
 

@@ -1,11 +1,8 @@
 //! What is mended of a file that other programs spell.
 
-ghost use Rattle.std.specs.Prelude.{◌≡◌, ◌++◌, ◌∷◌, [], List, Some, IfOk, IfErr};
-ghost use Rattle.t1_font.specs.declared.dialect.Rule.{Rule};
-ghost use Rattle.t1_font.specs.declared.fault.ReadFault.TheVariants.{Memory};
-ghost use Rattle.t1_font.specs.Answers.{Answers};
-ghost use Rattle.t1_font.specs.ReadFont.{read_font, read_font_widely};
-ghost use Rattle.t1_font.specs.Mends.{place_of, mend_by, all_rules, needed, mends_by_rules, test_in, mends_of};
+ghost use Rattle.std.specs.Prelude.{◌≡◌, ◌++◌, ◌∷◌, List, Some, IfOk, IfErr};
+ghost use Rattle.t1_font.specs.{declared.dialect.Rule.{Rule}, declared.fault.ReadFault.TheVariants.{Memory}, Answers.{Answers}};
+ghost use Rattle.t1_font.specs.{ReadFont.{read_font, read_font_widely}, Mends.{place_of, mend_by, all_rules, needed, mends_by_rules, test_in, mends_of}};
 ghost use Rattle.t1_font.specs.Dialect.{wide};
 
 use crate::dialect::{Dialect, Rule};

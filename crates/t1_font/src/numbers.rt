@@ -1,11 +1,9 @@
 //! Decimal numbers of font text, whole or with a point, and the order of their values.
 
-ghost use Rattle.std.specs.Prelude.{◌≡◌, ◌+◌, length, drop, take_while};
-ghost use Rattle.std.specs.List.{list_any, list_all, suffix_len};
-ghost use Rattle.std.specs.Option.{option_map};
+ghost use Rattle.std.specs.{Prelude.{◌≡◌, ◌+◌, length, drop, take_while}, List.{list_any, list_all, suffix_len}, Option.{option_map}};
 ghost use Rattle.t1_font.specs.Words.{is_digit};
-ghost use Rattle.t1_font.specs.Numbers.{unsigned, at_point, is_fraction, is_number, number, is_nought, significant, trimmed, size_of, size_cmp};
-ghost use Rattle.t1_font.specs.Numbers.{is_minus, below_zero, above_zero, value_cmp, spelling_cmp, least_first, greatest_first, sooner, is_other_digit, is_zero};
+ghost use Rattle.t1_font.specs.Numbers.{unsigned, at_point, is_fraction, is_number, number, is_nought, significant, trimmed, size_of, size_cmp, is_minus};
+ghost use Rattle.t1_font.specs.Numbers.{below_zero, above_zero, value_cmp, spelling_cmp, least_first, greatest_first, sooner, is_other_digit, is_zero};
 ghost use Rattle.t1_font.specs.NumberViews.{size_view};
 
 use crate::words::regular_at;

@@ -1,15 +1,12 @@
 //! A font with the entries of two.
 
-ghost use Rattle.std.specs.Prelude.{◌≡◌, IfOk, MatchResult};
-ghost use Rattle.std.specs.Option.{option_map};
-ghost use Rattle.std.specs.FinMap as fin;
-ghost use Rattle.t1_font.specs.FontModel.{encoding_of};
-ghost use Rattle.t1_font.specs.Maps.{map_values, merged};
-ghost use Rattle.t1_font.specs.Joins.{joined_subr, join_parts, Refuses};
+ghost use Rattle.std.specs.{Prelude.{◌≡◌, IfOk, MatchResult}, Option.{option_map}};
+ghost use Rattle.t1_font.specs.{FontModel.{encoding_of}, Maps.{map_values, merged}, Joins.{joined_subr, join_parts, Refuses}};
 ghost use Rattle.t1_font.specs.Encodings.{join_encodings, SameKind};
+ghost use Rattle.std.specs.FinMap as fin;
 
 use crate::font::{Font, FontParts, LentEncoding};
-use crate::lent::Numbered;
+use crate::lent::SparseArray;
 use crate::passes::join_glyphs;
 use crate::stub::STUB;
 use std::alloc::{AllocError, Global};
@@ -56,14 +53,14 @@ impl From<AllocError> for PartsFault {
 #[tactic(auto, using(t1_join::proofs::TablePasses::put_out, t1_join::proofs::TablePasses::merge_rises, t1_join::proofs::TablePasses::merge_is, std::proofs::lemmas::Cmp::nat_cmp_total, crate::proofs::canonical::FontAgain::number_same))]
 pub(crate) fn join_codes<'a>(
     alloc: Global,
-    first: &Numbered<'a>,
-    second: &Numbered<'a>,
-) -> Result<Numbered<'a>, AllocError>
+    first: &SparseArray<'a>,
+    second: &SparseArray<'a>,
+) -> Result<SparseArray<'a>, AllocError>
     ensures { IfOk result (λ m. m ≡ merged first.now second.now) }
 {
     let mut all = Vec::with_capacity(alloc, first.len().saturating_add(second.len()))?;
     push_both(&mut all, first, second, 0, 0)?;
-    Ok(Numbered::made(all))
+    Ok(SparseArray::made(all))
 }
 
 /// The Encoding of both fonts. A word stays as it is in the first.
@@ -99,9 +96,9 @@ fn joined_subr<'a>(first: &'a [u8], second: Option<&'a [u8]>) -> &'a [u8]
 /// The Subrs of the first font. Its stubs give way to the second's Subrs.
 pub(crate) fn join_subrs<'a>(
     alloc: Global,
-    first: &Numbered<'a>,
-    second: &Numbered<'a>,
-) -> Result<Numbered<'a>, AllocError>
+    first: &SparseArray<'a>,
+    second: &SparseArray<'a>,
+) -> Result<SparseArray<'a>, AllocError>
     ensures { IfOk result (λ m. m
         ≡ map_values (λ i c. joined_subr c (fin.get second.now i)) first.now) }
 {
@@ -110,7 +107,7 @@ pub(crate) fn join_subrs<'a>(
         let other = second.get_near(joined.len(), index);
         joined.push((index, joined_subr(body, other)))?;
     }
-    Ok(Numbered::made(joined))
+    Ok(SparseArray::made(joined))
 }
 
 /// The entries of both, whatever they weigh.

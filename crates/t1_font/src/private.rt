@@ -1,22 +1,13 @@
 //! The private text.
 
-ghost use Rattle.std.specs.Prelude.{◌≡◌, ◌++◌, Option, Some, None, [], OnOk};
-ghost use Rattle.std.specs.FinMap as fin;
-ghost use Rattle.std.specs.Option.{option_map};
-ghost use Rattle.t1_grammar.specs.Formats.{in_table};
-ghost use Rattle.t1_grammar.specs.Grammar.{first};
-ghost use Rattle.t1_grammar.specs.Tables.{table_at};
-ghost use Rattle.t1_grammar.specs.Places.{occurs};
-ghost use Rattle.t1_font.specs.Markers.{subrs_marker, closefile};
-ghost use Rattle.t1_font.specs.Glyphs.{glyph, glyphs_end};
+ghost use Rattle.std.specs.{Prelude.{◌≡◌, ◌++◌, Option, Some, None, [], OnOk}, Option.{option_map}};
+ghost use Rattle.t1_grammar.specs.{Formats.{in_table}, Grammar.{first}, Tables.{table_at}, Places.{occurs}};
+ghost use Rattle.t1_font.specs.{Markers.{subrs_marker, closefile}, Glyphs.{glyph, glyphs_end}};
 ghost use Rattle.t1_font.specs.Pieces.{SubrsPieces, iv_of, tail_after, glyphs_from, tables_from, private_pieces};
-ghost use Rattle.t1_font.specs.declared.fault.ReadFault.TheVariants.{BadSubrs, BadGlyphs};
-ghost use Rattle.t1_font.specs.declared.dialect.Spacing.TheVariants.{White};
-ghost use Rattle.t1_font.specs.Subrs.{subr, subrs_end};
-ghost use Rattle.t1_font.specs.Reading.{bad_at};
-ghost use Rattle.t1_font.specs.Answers.{Answers, Shown, ShowsTable, ShowsGlyphs, ShowsBefore, ShowsPrivate};
-ghost use Rattle.t1_font.specs.Gathering.{SubrsAlone, GlyphsAlone};
-ghost use Rattle.t1_font.specs.Held.{HoldsSubrs, HoldsGlyphs};
+ghost use Rattle.t1_font.specs.{declared.fault.ReadFault.TheVariants.{BadSubrs, BadGlyphs}, declared.dialect.Spacing.TheVariants.{White}};
+ghost use Rattle.t1_font.specs.{Subrs.{subr, subrs_end}, Reading.{bad_at}, Answers.{Answers, Shown, ShowsTable, ShowsGlyphs, ShowsBefore, ShowsPrivate}};
+ghost use Rattle.t1_font.specs.{Gathering.{SubrsAlone, GlyphsAlone}, Held.{HoldsSubrs, HoldsGlyphs}};
+ghost use Rattle.std.specs.FinMap as fin;
 
 use crate::dialect::Spacing;
 use crate::fault::{ReadFault, TableError};

@@ -1,16 +1,13 @@
 //! The canonical private text of a font, and its cipher.
 
-ghost use Rattle.std.specs.Prelude.{◌≡◌, ◌+◌, ◌++◌, ◌∷◌, length, map, Some, OnOk, IfOk};
-ghost use Rattle.std.specs.Fmt.{decimal};
-ghost use Rattle.std.specs.Option.{option_map};
-ghost use Rattle.std.specs.FinMap as fin;
+ghost use Rattle.std.specs.{Prelude.{◌≡◌, ◌+◌, ◌++◌, ◌∷◌, length, map, Some, OnOk, IfOk}, Fmt.{decimal}, Option.{option_map}};
 ghost use Rattle.t1_bytes.specs.Cipher.{private_cipher};
-ghost use Rattle.t1_font.specs.FontModel.{subrs_view};
-ghost use Rattle.t1_font.specs.Writing.{subr_text, glyph_text, subrs_part, glyphs_part};
+ghost use Rattle.t1_font.specs.{FontModel.{subrs_view}, Writing.{subr_text, glyph_text, subrs_part, glyphs_part}};
 ghost use Rattle.t1_font.specs.Canon.{sealed_body, subr_entry, glyph_entry, subrs_pieces, canon_private};
+ghost use Rattle.std.specs.FinMap as fin;
 
 use crate::font::FontParts;
-use crate::lent::{Named, Numbered};
+use crate::lent::{CharStrings, SparseArray};
 use crate::sealing::Sealing;
 use crate::shell::{KeptSubrs, Shell};
 use std::alloc::{AllocError, Global};
@@ -76,7 +73,7 @@ fn put_subrs(
     out: &mut Sealing,
     kept: &KeptSubrs,
     len_iv: u8,
-    subrs: &Numbered<'_>,
+    subrs: &SparseArray<'_>,
 ) -> Result<(), AllocError>
     ensures { OnOk result (out.new
         ≡ out.old
@@ -95,7 +92,7 @@ fn put_subrs(
 }
 
 /// Writes the table of Subrs, if there is one.
-fn put_table(out: &mut Sealing, shell: &Shell, subrs: &Numbered<'_>) -> Result<(), AllocError>
+fn put_table(out: &mut Sealing, shell: &Shell, subrs: &SparseArray<'_>) -> Result<(), AllocError>
     ensures { OnOk result (out.new
         ≡ out.old
         ++ subrs_part
@@ -130,7 +127,7 @@ fn put_glyph(out: &mut Sealing, shell: &Shell, name: &[u8], plain: &[u8]) -> Res
 }
 
 /// Writes the table of glyphs.
-fn put_glyphs(out: &mut Sealing, shell: &Shell, glyphs: &Named<'_>) -> Result<(), AllocError>
+fn put_glyphs(out: &mut Sealing, shell: &Shell, glyphs: &CharStrings<'_>) -> Result<(), AllocError>
     ensures { OnOk result (out.new
         ≡ out.old ++ glyphs_part (map (glyph_entry shell.now) (fin.entries glyphs.now))) }
 {
@@ -159,7 +156,7 @@ fn put_private(out: &mut Sealing, parts: &FontParts<'_>) -> Result<(), AllocErro
 }
 
 /// How many bytes the entries of Subrs have at most.
-fn subrs_room(shell: &Shell, subrs: &Numbered<'_>) -> usize {
+fn subrs_room(shell: &Shell, subrs: &SparseArray<'_>) -> usize {
     let mut around = AROUND.saturating_add(shell.len_iv as usize);
     if let Some(kept) = &shell.subrs {
         around = around
@@ -174,7 +171,7 @@ fn subrs_room(shell: &Shell, subrs: &Numbered<'_>) -> usize {
 }
 
 /// How many bytes the entries of glyphs have at most.
-fn glyphs_room(shell: &Shell, glyphs: &Named<'_>) -> usize {
+fn glyphs_room(shell: &Shell, glyphs: &CharStrings<'_>) -> usize {
     let around = AROUND
         .saturating_add(shell.len_iv as usize)
         .saturating_add(shell.glyphs_rd.len())

@@ -1,13 +1,8 @@
 //! The shell of what was read.
 
-ghost use Rattle.std.specs.Prelude.{◌≡◌, ◌≤◌, [], Option, unwrap_or, IfOk};
-ghost use Rattle.std.specs.Option.{option_map};
-ghost use Rattle.t1_font.specs.FontValue.{count_limit};
-ghost use Rattle.t1_font.specs.FontModel.{subrs_view};
-ghost use Rattle.t1_font.specs.Gathering.{Entries};
-ghost use Rattle.t1_font.specs.Views.{words_view};
-ghost use Rattle.t1_font.specs.Pieces.{ClearPieces, SubrsPieces, PrivatePieces};
-ghost use Rattle.t1_font.specs.ReadFont.{subrs_shell, shell_of};
+ghost use Rattle.std.specs.{Prelude.{◌≡◌, ◌≤◌, [], Option, unwrap_or, IfOk}, Option.{option_map}};
+ghost use Rattle.t1_font.specs.{FontValue.{count_limit}, FontModel.{subrs_view}, Gathering.{Entries}, Views.{words_view}};
+ghost use Rattle.t1_font.specs.{Pieces.{ClearPieces, SubrsPieces, PrivatePieces}, ReadFont.{subrs_shell, shell_of}};
 ghost use Rattle.t1_font.specs.Answers.{ShowsClear, ShowsTable, ShowsSubrs, ShowsPrivate, declared_in};
 
 use crate::encoding::ClearParts;

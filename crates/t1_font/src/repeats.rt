@@ -1,13 +1,8 @@
 //! Entries whose keys may be repeated: the last entry of each key stands.
 
-ghost use Rattle.std.specs.Prelude.{◌≡◌, ◌≤◌, [], length, drop, IfOk, OnOk, OnErr};
-ghost use Rattle.std.specs.Cmp.{IsTotalOrder, nat_cmp_total};
-ghost use Rattle.std.specs.Cmp.Lexicographic.{on_texts};
-ghost use Rattle.std.specs.Ordering.{nat_cmp};
-ghost use Rattle.std.specs.declared.cmp.Ordering.{Ordering};
-ghost use Rattle.std.specs.List.Sorted.{IsPermutation, IsStableByKey};
-ghost use Rattle.t1_font.specs.Entries.{comes_again, run_end, run_ends, AreLast, AreSettled};
-ghost use Rattle.t1_font.specs.Ranges.{bytes_at, by_name, front};
+ghost use Rattle.std.specs.{Prelude.{◌≡◌, ◌≤◌, ◌↔◌, [], length, drop, IfOk, OnOk, OnErr, IsTrue}, Cmp.{IsTotalOrder, nat_cmp_total}};
+ghost use Rattle.std.specs.{Cmp.Lexicographic.{on_texts}, Ordering.{nat_cmp}, declared.cmp.Ordering.{Ordering}, List.Sorted.{IsPermutation, IsStableByKey}};
+ghost use Rattle.t1_font.specs.{Entries.{comes_again, run_end, run_ends, KeysRise, AreLast, AreSettled}, Ranges.{bytes_at, by_name, front}};
 
 use crate::ranges::Range;
 use std::alloc::AllocError;
@@ -160,6 +155,18 @@ fn keep_ends<K: Copy + Drop, V: Copy + Drop, O: KeyOrder<K>>(order: O, entries: 
     entries.truncate(kept);
 }
 
+/// Whether each key is below the next.
+fn rises<K, V, O: KeyOrder<K>>(order: O, entries: &[(K, V)]) -> bool
+    ensures { IsTrue result ↔ KeysRise (O.by order) entries.now }
+{
+    'entries: for at in 1..entries.len() {
+        if !order.compare(&entries[at - 1].0, &entries[at].0).is_lt() {
+            return false;
+        }
+    }
+    true
+}
+
 /// The entries upwards by key, with the last of each repeated key.
 pub(crate) fn last_entries<K: Copy + Drop, V: Copy + Drop, O: KeyOrder<K>>(
     entries: Vec<(K, V)>,
@@ -168,6 +175,9 @@ pub(crate) fn last_entries<K: Copy + Drop, V: Copy + Drop, O: KeyOrder<K>>(
     ensures { IfOk result (λ last. AreLast (O.by order) entries.items last.items) }
 {
     let mut last = order.presorted(entries)?;
+    if rises(order, last.as_slice()) {
+        return Ok(last);
+    }
     last.sort_by(|one, other| order.compare(&one.0, &other.0))?;
     keep_ends(order, &mut last);
     Ok(last)

@@ -1,16 +1,12 @@
 //! Texts that are rewritten from left to right: white space is squeezed, lines that number a font go, and names lose their tags.
 
-ghost use Rattle.std.specs.Prelude.{◌≡◌, ◌==◌, not, Some, length, take_while, codes, IfOk};
-ghost use Rattle.std.specs.List.{list_any};
-ghost use Rattle.std.specs.Option.{option_map};
+ghost use Rattle.std.specs.{Prelude.{◌≡◌, ◌==◌, not, Some, length, take_while, codes, IfOk}, List.{list_any}, Option.{option_map}};
 ghost use Rattle.t1_grammar.specs.Grammar.{run};
 ghost use Rattle.t1_bytes.specs.Eexec.{is_blank};
-ghost use Rattle.t1_font.specs.Words.{is_regular};
-ghost use Rattle.t1_font.specs.Rewriting.{rewritten, parted};
+ghost use Rattle.t1_font.specs.{Words.{is_regular}, Rewriting.{rewritten}};
 ghost use Rattle.t1_font.specs.Squeezing.{ends_line, one_space, is_solid, squeezed_piece, stays, staying, squeezed};
-ghost use Rattle.t1_font.specs.Identity.{is_digit_or_blank, one_blank, unique_id, extended_id, access, defining, goes_on, identity_line};
-ghost use Rattle.t1_font.specs.Identity.{is_in_line, first_line, unnumbered_piece, unnumbered, unique_begins, extended_begins};
-ghost use Rattle.t1_font.specs.Tags.{renamed, untagged_piece};
+ghost use Rattle.t1_font.specs.Identity.{is_digit_or_blank, one_blank, unique_id, extended_id, access, defining, goes_on, identity_line, is_in_line};
+ghost use Rattle.t1_font.specs.{Identity.{first_line, unnumbered_piece, unnumbered, unique_begins, extended_begins}, Tags.{renamed, untagged_piece}};
 ghost use Rattle.t1_font.specs.Steps.{piece_of};
 
 use crate::font_test::blank_comes;
@@ -300,7 +296,7 @@ impl Marker for ExtendedId {
 }
 
 /// A text without the lines that number its font.
-#[tactic(auto, using(crate::proofs::even_fonts::RewritingLemmas::no_numbers))]
+#[tactic(auto, using(crate::proofs::normal_fonts::RewritingLemmas::no_numbers))]
 pub(crate) fn unnumbered(alloc: Global, text: &[u8]) -> Result<Vec<u8>, AllocError>
     ensures { IfOk result (λ v. v.items ≡ unnumbered text.now) }
 {

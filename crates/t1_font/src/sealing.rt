@@ -1,9 +1,7 @@
 //! A private text while it is written, and its cipher.
 
-ghost use Rattle.std.specs.Prelude.{◌≡◌, ◌++◌, ◌≤◌, [], length, take, drop, OnOk, IfOk};
-ghost use Rattle.std.specs.Fmt.{decimal};
-ghost use Rattle.t1_bytes.specs.Cipher.{encrypted};
-ghost use Rattle.t1_bytes.specs.Keys.{key_behind};
+ghost use Rattle.std.specs.{Prelude.{◌≡◌, ◌++◌, ◌≤◌, [], length, take, drop, OnOk, IfOk}, Fmt.{decimal}};
+ghost use Rattle.t1_bytes.specs.{Cipher.{encrypted}, Keys.{key_behind}};
 ghost use Rattle.t1_font.specs.Canon.{sealed_body};
 
 use itoa::Buffer;
@@ -50,8 +48,7 @@ fn encrypt_rest(bytes: &mut Vec<u8>, from: usize, key: u16)
 
 impl Model for Sealing {
     ghost use Rattle.std.specs.Prelude.{ℕ, List};
-    ghost use Rattle.t1_font.specs.Codes.{bytes_code};
-    ghost use Rattle.t1_font.specs.Sealing.{IsSealing, sealing_text};
+    ghost use Rattle.t1_font.specs.{Codes.{bytes_code}, Sealing.{IsSealing, sealing_text}};
 
     ghost Value = { List ℕ };
 

@@ -1,8 +1,7 @@
 //! The shell of a font: its kept texts, and the words of its tables.
 
 ghost use Rattle.std.specs.Prelude.{◌≡◌, is_some};
-ghost use Rattle.t1_font.specs.FontValue.{declared_count, texts_weight};
-ghost use Rattle.t1_font.specs.FontModel.{clamp, part_of, of_subrs};
+ghost use Rattle.t1_font.specs.{FontValue.{declared_count, texts_weight}, FontModel.{clamp, part_of, of_subrs}};
 
 use std::marker::Model;
 
@@ -56,8 +55,7 @@ pub struct Shell {
 }
 
 impl Model for Shell {
-    ghost use Rattle.t1_font.specs.FontValue.{Shell as ShellValue};
-    ghost use Rattle.t1_font.specs.FontModel.{shell_code, shell_view};
+    ghost use Rattle.t1_font.specs.{FontValue.{Shell as ShellValue}, FontModel.{shell_code, shell_view}};
 
     ghost Value = { ShellValue };
 

@@ -1,19 +1,13 @@
 //! A font that owns its bytes.
 
-ghost use Rattle.std.specs.Prelude.{◌≡◌, ◌+◌, ◌++◌, ◌∷◌, [], map, filter, IfOk, OnOk};
-ghost use Rattle.std.specs.Ordering.{nat_cmp};
-ghost use Rattle.std.specs.FinMap.{from_sorted, entries, len};
+ghost use Rattle.std.specs.{Prelude.{◌≡◌, ◌+◌, map, filter, IfOk}, Ordering.{nat_cmp}, FinMap.{from_sorted, entries, len}};
 ghost use Rattle.t1_join.specs.TableMeaning.{Rises};
-ghost use Rattle.t1_font.specs.Entries.{has_name};
-ghost use Rattle.t1_font.specs.FontModel.{clamp, encoding_of};
-ghost use Rattle.t1_font.specs.FontValue.{total, weight};
-ghost use Rattle.t1_font.specs.Gathering.{gathered_codes};
-ghost use Rattle.t1_font.specs.Ranges.{subr_at_weight, glyph_at_weight};
-ghost use Rattle.t1_font.specs.Sources.{kept_name};
+ghost use Rattle.t1_font.specs.{Entries.{has_name}, FontModel.{clamp, encoding_of}, FontValue.{total, weight}, Gathering.{gathered_codes}};
+ghost use Rattle.t1_font.specs.{Ranges.{subr_at_weight, glyph_at_weight}, Sources.{kept_name}};
 
 use crate::font::{Font, FontParts, LentEncoding};
 use crate::glyphs::is_notdef;
-use crate::lent::{Named, Numbered, glyph_weight, subr_weight};
+use crate::lent::{CharStrings, SparseArray, glyph_weight, subr_weight};
 use crate::ranges::Range;
 use crate::repeats::{ByNumber, last_entries};
 use crate::shell::Shell;
@@ -41,9 +35,7 @@ pub(crate) struct SourceParts {
 }
 
 impl Model for SourceParts {
-    ghost use Rattle.t1_font.specs.FontValue.{FontValue};
-    ghost use Rattle.t1_font.specs.FontModel.{font_code};
-    ghost use Rattle.t1_font.specs.Sources.{source_value, IsSource};
+    ghost use Rattle.t1_font.specs.{FontValue.{FontValue}, FontModel.{font_code}, Sources.{source_value, IsSource}};
 
     ghost Value = { FontValue };
 
@@ -63,9 +55,7 @@ pub struct Source {
 }
 
 impl Model for Source {
-    ghost use Rattle.t1_font.specs.FontValue.{FontValue};
-    ghost use Rattle.t1_font.specs.FontModel.{font_code};
-    ghost use Rattle.t1_font.specs.IsFont.{IsFont};
+    ghost use Rattle.t1_font.specs.{FontValue.{FontValue}, FontModel.{font_code}, IsFont.{IsFont}};
 
     ghost Value = { FontValue };
 
@@ -92,18 +82,8 @@ impl Source {
     }
 }
 
-/// One more source.
-pub(crate) fn keep(sources: &mut Vec<Source>, source: Source) -> Result<(), AllocError>
-    ensures { OnOk result (sources.new.items ≡ sources.old.items ++ source ∷ []) }
-{
-    match sources.push(source) {
-        Ok(_) => Ok(()),
-        Err(_) => Err(AllocError),
-    }
-}
-
 /// The names of codes, borrowed.
-fn lent_codes(alloc: Global, codes: &[(u16, Vec<u8>)]) -> Result<Numbered<'_>, AllocError>
+fn lent_codes(alloc: Global, codes: &[(u16, Vec<u8>)]) -> Result<SparseArray<'_>, AllocError>
     requires rises { Rises nat_cmp (map kept_name codes.now) }
     ensures { IfOk result (λ m. m ≡ from_sorted (map kept_name codes.now)) }
 {
@@ -111,7 +91,7 @@ fn lent_codes(alloc: Global, codes: &[(u16, Vec<u8>)]) -> Result<Numbered<'_>, A
     'codes: for (code, name) in codes {
         lent.push((*code, name.as_slice()))?;
     }
-    Ok(Numbered::made(lent))
+    Ok(SparseArray::made(lent))
 }
 
 /// `before` plus the weight of Subrs in these ranges, in a font with this lenIV, as far as 64 bits hold it.
@@ -170,8 +150,8 @@ impl SourceParts {
         Ok(FontParts {
             shell: &self.shell,
             encoding: self.encoding(alloc)?,
-            subrs: Numbered::stored(StoredSubrs::new(&self.buffer, &self.subrs, &self.likely)),
-            glyphs: Named::stored(&self.buffer, &self.glyphs),
+            subrs: SparseArray::stored(StoredSubrs::new(&self.buffer, &self.subrs, &self.likely)),
+            glyphs: CharStrings::stored(&self.buffer, &self.glyphs),
         })
     }
 }

@@ -1,14 +1,9 @@
 //! The Subrs of a source, by index.
 
-ghost use Rattle.std.specs.Prelude.{◌≡◌, ◌<◌, map, unwrap_or, IfSome};
-ghost use Rattle.std.specs.List.{slice_get};
-ghost use Rattle.std.specs.Option.{option_map, option_and_then};
-ghost use Rattle.std.specs.Ordering.{nat_cmp};
-ghost use Rattle.std.specs.FinMap as fin;
+ghost use Rattle.std.specs.{Prelude.{◌≡◌, ◌<◌, map, unwrap_or, IfSome}, List.{slice_get}, Option.{option_map, option_and_then}, Ordering.{nat_cmp}};
 ghost use Rattle.t1_join.specs.TableMeaning.{Rises};
-ghost use Rattle.t1_font.specs.Cut.{stub};
-ghost use Rattle.t1_font.specs.Lent.{lent_number};
-ghost use Rattle.t1_font.specs.Ranges.{numbered_at};
+ghost use Rattle.t1_font.specs.{Cut.{stub}, Lent.{lent_number}, Ranges.{numbered_at}};
+ghost use Rattle.std.specs.FinMap as fin;
 
 use crate::ranges::Range;
 use crate::stub::STUB;
@@ -24,8 +19,15 @@ pub(crate) struct StoredSubrs<'a> {
     likely: &'a [u16],
 }
 
+/// How many indices there may be for each entry.
+const INDICES: usize = 8;
+
+/// As many entries are counted at least, so a font of some hundred Subrs has a place for each index, whichever Subrs are left.
+const FEW: usize = 128;
+
 /// Where the entry of each index up to the last one stands, so that a look-up needs no search; an index without an entry has any
-/// place. There are none where each entry's place is its index. Whoever takes a place looks whether the index stands there.
+/// place. There are none where each entry's place is its index, and none where few entries have places among very many, so that a
+/// small file takes little room. Whoever takes a place looks whether the index stands there.
 pub(crate) fn likely_places(
     alloc: Global,
     entries: &[(u16, Range)],
@@ -35,7 +37,7 @@ pub(crate) fn likely_places(
         return Ok(likely);
     };
     let count = *last as usize + 1;
-    if count == entries.len() {
+    if count == entries.len() || count / INDICES > entries.len().max(FEW) {
         return Ok(likely);
     }
     likely.resize(count, 0)?;
@@ -50,15 +52,11 @@ pub(crate) fn likely_places(
 }
 
 impl<'a> Model for StoredSubrs<'a> {
-    ghost use Rattle.std.specs.Prelude.{map};
-    ghost use Rattle.std.specs.Ordering.{nat_cmp};
-    ghost use Rattle.std.specs.FinMap.{from_sorted};
+    ghost use Rattle.std.specs.{Prelude.{map}, Ordering.{nat_cmp}, FinMap.{from_sorted}};
     ghost use Rattle.t1_join.specs.TableMeaning.{Rises};
-    ghost use Rattle.t1_font.specs.FontValue.{Numbered as NumberedValue};
-    ghost use Rattle.t1_font.specs.Codes.{numbered_code};
-    ghost use Rattle.t1_font.specs.Ranges.{numbered_at};
+    ghost use Rattle.t1_font.specs.{FontValue.{SparseArray as SparseArrayValue}, Codes.{numbered_code}, Ranges.{numbered_at}};
 
-    ghost Value = { NumberedValue };
+    ghost Value = { SparseArrayValue };
 
     ghost coded = { numbered_code };
 

@@ -1,16 +1,9 @@
 //! The table of subroutines.
 
-ghost use Rattle.std.specs.Prelude.{◌≡◌, ◌<◌, ◌≤◌, ◌+◌, OnOk, IfSome, length};
-ghost use Rattle.std.specs.Option.{option_map};
+ghost use Rattle.std.specs.{Prelude.{◌≡◌, ◌<◌, ◌≤◌, ◌+◌, OnOk, IfSome, length}, Option.{option_map}};
+ghost use Rattle.t1_font.specs.{Answers.{ShowsTable}, Gathering.{SubrsAlone}, Held.{HoldsSubrs, TableHeld}, Subrs.{subr, subr_key, subrs_end, subrs_at}};
+ghost use Rattle.t1_font.specs.{FontValue.{count_limit}, Charstrings.{plain_of}, Places.{StandsIn, ending, bytes_at_place}, Views.{entry_view, phrase_view}};
 ghost use Rattle.std.specs.FinMap as fin;
-ghost use Rattle.t1_font.specs.Answers.{ShowsTable};
-ghost use Rattle.t1_font.specs.Gathering.{SubrsAlone};
-ghost use Rattle.t1_font.specs.Held.{HoldsSubrs, TableHeld};
-ghost use Rattle.t1_font.specs.Subrs.{subr, subr_key, subrs_end, subrs_at};
-ghost use Rattle.t1_font.specs.FontValue.{count_limit};
-ghost use Rattle.t1_font.specs.Charstrings.{plain_of};
-ghost use Rattle.t1_font.specs.Places.{StandsIn, ending, bytes_at_place};
-ghost use Rattle.t1_font.specs.Views.{entry_view, phrase_view};
 
 use crate::dialect::Spacing;
 use crate::entry::{Body, body_at};

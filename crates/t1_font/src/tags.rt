@@ -1,8 +1,6 @@
 //! Tags of subsets: six capitals and `+`, which programs put before the name of a font that they cut (ISO 32000-1, 9.6.4).
 
-ghost use Rattle.std.specs.Prelude.{◌≡◌, ℕ, List, codes};
-ghost use Rattle.std.specs.List.{list_all};
-ghost use Rattle.std.specs.Option.{option_map};
+ghost use Rattle.std.specs.{Prelude.{◌≡◌, ℕ, List, codes}, List.{list_all}, Option.{option_map}};
 ghost use Rattle.t1_font.specs.FontNames.{around_name};
 ghost use Rattle.t1_font.specs.Tags.{is_capital, tag, name_marker, name_begins, untagged, name_in, font_name, is_tagged, tagged_name};
 

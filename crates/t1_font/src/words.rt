@@ -1,11 +1,9 @@
 //! Words of font text.
 
-ghost use Rattle.std.specs.Prelude.{◌≡◌, ◌<◌, true, length, take_while, unwrap_or, IfOk, IfSome, Some};
-ghost use Rattle.std.specs.Option.{option_map};
+ghost use Rattle.std.specs.{Prelude.{◌≡◌, ◌<◌, true, length, take_while, unwrap_or, IfOk, IfSome, Some}, Option.{option_map}};
 ghost use Rattle.t1_grammar.specs.Grammar.{run, that};
-ghost use Rattle.t1_font.specs.Words.{is_regular, one_white, word, keyword, all_regular, regular_comes, first_digit, decimal, name, next_name, is_access, phrase_of, passes};
-ghost use Rattle.t1_font.specs.declared.dialect.Spacing.TheVariants.{White};
-ghost use Rattle.t1_font.specs.Views.{phrase_view, words_view};
+ghost use Rattle.t1_font.specs.Words.{is_regular, one_white, word, keyword, all_regular, regular_comes, first_digit, decimal, name, next_name, is_access};
+ghost use Rattle.t1_font.specs.{Words.{phrase_of, passes}, declared.dialect.Spacing.TheVariants.{White}, Views.{phrase_view, words_view}};
 
 use crate::limits::{NAME_LIMIT, WORD_LIMIT};
 use std::alloc::{AllocError, Global};

@@ -1,17 +1,13 @@
 //! The canonical file of a font.
 
-ghost use Rattle.std.specs.Prelude.{◌≡◌, ◌≤◌, ◌++◌, length, Ok, OnOk, IfOk};
-ghost use Rattle.std.specs.Fmt.{decimal};
-ghost use Rattle.std.specs.FinMap as fin;
-ghost use Rattle.t1_bytes.specs.Cipher.{private_cipher};
-ghost use Rattle.t1_bytes.specs.Limits.{file_limit};
-ghost use Rattle.t1_font.specs.FontModel.{encoding_of};
-ghost use Rattle.t1_font.specs.ReadFont.{read_font};
-ghost use Rattle.t1_font.specs.Writing.{puts_text, encoding_text};
+ghost use Rattle.std.specs.{Prelude.{◌≡◌, ◌≤◌, ◌++◌, length, Ok, OnOk, IfOk}, Fmt.{decimal}};
+ghost use Rattle.t1_bytes.specs.{Cipher.{private_cipher}, Limits.{file_limit}};
+ghost use Rattle.t1_font.specs.{FontModel.{encoding_of}, ReadFont.{read_font}, Writing.{puts_text, encoding_text}};
 ghost use Rattle.t1_font.specs.Canon.{encoding_pieces, canon_clear, canon_private, canon, Fits};
+ghost use Rattle.std.specs.FinMap as fin;
 
 use crate::font::{Font, FontParts, LentEncoding};
-use crate::lent::Numbered;
+use crate::lent::SparseArray;
 use crate::private_writing::{MARKERS, private_cipher};
 use itoa::Buffer;
 use std::alloc::{AllocError, Global};
@@ -30,7 +26,7 @@ fn put_number(out: &mut Vec<u8>, number: usize) -> Result<(), AllocError>
 }
 
 /// Writes the names of codes, and what closes them.
-fn put_codes(out: &mut Vec<u8>, names: &Numbered<'_>) -> Result<(), AllocError>
+fn put_codes(out: &mut Vec<u8>, names: &SparseArray<'_>) -> Result<(), AllocError>
     ensures { OnOk result (out.new.items ≡ out.old.items ++ puts_text (fin.entries names.now)) }
 {
     'codes: for (code, name) in names.entries() {

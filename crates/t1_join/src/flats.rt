@@ -1,5 +1,4 @@
 //! A value or nothing, where nothing joins with every value.
-ghost use Rattle.std.specs.Prelude.{IsTrue, ◌↔◌};
 ghost use Rattle.t1_join.specs.Join.{State, StatesAgree, StatesJoin};
 
 use crate::keys::Kept;
@@ -14,10 +13,7 @@ pub enum Flat<V> {
 }
 
 impl<V: Kept> Join for Flat<V> {
-    ghost use Rattle.std.specs.Prelude.{◌≡◌};
-    ghost use Rattle.t1_join.specs.Join.{State, StatesAgree, StatesJoin};
-    ghost use Rattle.t1_join.specs.FlatMeaning.{flat_meaning};
-    ghost use Rattle.t1_join.specs.StateLaws.{state_laws};
+    ghost use Rattle.t1_join.specs.{Join.{State, StatesAgree, StatesJoin}, FlatMeaning.{flat_meaning}, StateLaws.{state_laws}};
 
     ghost Meaning = { State };
 

@@ -1,8 +1,5 @@
 //! Bytes as they stand in the text of a listing.
-ghost use Rattle.std.specs.Prelude.{◌≡◌, ◌++◌, ◌≤◌, length, take, drop, map, IfOk, OnOk, is_some, Some, None, if◌then◌else◌};
-ghost use Rattle.std.specs.Char.{to_ascii_lowercase};
-ghost use Rattle.std.specs.List.{list_all};
-ghost use Rattle.std.specs.Option.{option_map};
+ghost use Rattle.std.specs.{Prelude.{◌≡◌, ◌++◌, ◌≤◌, length, take, drop, map, IfOk, OnOk, is_some, Some, None}, Char.{to_ascii_lowercase}, List.{list_all}};
 ghost use Rattle.hex.specs.Hex.{encode_lower, is_hex_digit};
 ghost use Rattle.t1_join.specs.ListingText.{bytes_of};
 
@@ -19,9 +16,7 @@ pub struct Hex<'a> {
 
 impl<'a> Model for Hex<'a> {
     ghost use Rattle.std.specs.Prelude.{◌≡◌, is_some, true};
-    ghost use Rattle.t1_join.specs.Meaning.{Meaning};
-    ghost use Rattle.t1_join.specs.TableMeaning.{meaning_code};
-    ghost use Rattle.t1_join.specs.ListingText.{bytes_of, spelled};
+    ghost use Rattle.t1_join.specs.{Meaning.{Meaning}, TableMeaning.{meaning_code}, ListingText.{bytes_of, spelled}};
 
     ghost Value = { Meaning };
 

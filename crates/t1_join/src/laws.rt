@@ -1,11 +1,7 @@
 //! The laws of each partial join, and of listings, over what their values mean.
 ghost use Rattle.std.specs.Prelude.{◌≡◌};
-ghost use Rattle.t1_join.specs.declared.listing.JoinFault.{JoinFault};
-ghost use Rattle.t1_join.specs.declared.listing.JoinFault.TheVariants.{Memory};
-ghost use Rattle.t1_join.specs.Meaning.{Meaning};
-ghost use Rattle.t1_join.specs.TableMeaning.{TableMeaning, IsFirstConflict};
-ghost use Rattle.t1_join.specs.ListingMeaning.{ListingMeaning};
-ghost use Rattle.t1_join.specs.ListingText.{listing_of, text_of};
+ghost use Rattle.t1_join.specs.{declared.listing.JoinFault.{JoinFault}, declared.listing.JoinFault.TheVariants.{Memory}, Meaning.{Meaning}};
+ghost use Rattle.t1_join.specs.{TableMeaning.{TableMeaning, IsFirstConflict}, ListingMeaning.{ListingMeaning}, ListingText.{listing_of, text_of}};
 ghost use Rattle.t1_join.specs.ListingJoin.{IsJoined, IsJoinFault};
 
 use crate::listing::Listing;

@@ -1,9 +1,6 @@
 //! The lines of a listing's text.
-ghost use Rattle.std.specs.Prelude.{◌≡◌, ◌==◌, ◌≤◌, length, position, option_and_then, not};
-ghost use Rattle.std.specs.List.{list_all};
-ghost use Rattle.std.specs.Option.{option_map};
-ghost use Rattle.t1_join.specs.ListingMeaning.{ends_name, is_listed_name};
-ghost use Rattle.t1_join.specs.ListingText.{split_at, listed_index, subr_of, glyph_of, listed_entry};
+ghost use Rattle.std.specs.{Prelude.{◌≡◌, ◌==◌, position, option_and_then, not}, List.{list_all}, Option.{option_map}};
+ghost use Rattle.t1_join.specs.{ListingMeaning.{ends_name, is_listed_name}, ListingText.{split_at, listed_index, subr_of, glyph_of, listed_entry}};
 ghost use Rattle.t1_join.specs.LineMeaning.{line_entry, slice_pair};
 
 use crate::hexadecimal::Hex;
@@ -47,7 +44,8 @@ fn index(word: &[u8]) -> Option<u16>
     if n <= 65534 { Some(n as u16) } else { None }
 }
 
-fn ends_name(byte: u8) -> bool
+/// Whether a byte can't stand in a name that is written without quotes: white space, NUL, or a byte that parts words.
+pub fn ends_name(byte: u8) -> bool
     ensures { result ≡ ends_name byte }
 {
     matches!(

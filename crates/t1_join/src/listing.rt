@@ -1,18 +1,16 @@
 //! Listings: texts of Subrs by index and glyphs by name, and their join.
 ghost use Rattle.std.specs.Prelude.{◌≡◌, ◌⊎◌, ◌∷◌, ◌++◌, [], OnOk, MatchResult, MatchOption, MatchBool, IfOk, IsErr, IsTrue};
-ghost use Rattle.std.specs.FinMap as fin;
 ghost use Rattle.hex.specs.Hex.{encode_lower};
-ghost use Rattle.t1_join.specs.ListingMeaning.{IsListing};
-ghost use Rattle.t1_join.specs.ListingJoin.{ListingsAgree, IsJoined, IsJoinFault, IsJoinedText, joined_listing};
-ghost use Rattle.t1_join.specs.ListingText.{listing_of, text_of, subr_line, glyph_line};
-ghost use Rattle.t1_join.specs.Meaning.{of_number};
+ghost use Rattle.t1_join.specs.{ListingMeaning.{IsListing}, ListingJoin.{ListingsAgree, IsJoined, IsJoinFault, IsJoinedText, joined_listing}};
+ghost use Rattle.t1_join.specs.{ListingText.{listing_of, text_of, subr_line, glyph_line}, Meaning.{of_number}};
 ghost use Rattle.t1_join.specs.LineMeaning.{line_entry, has_entry, IsEntry, IsAdded};
+ghost use Rattle.std.specs.FinMap as fin;
 
-use crate::gathered::Gathered;
 use crate::hexadecimal::Hex;
 use crate::lines::{Line, read_line, split_at_byte};
 use crate::partial::Join;
 use crate::shown::Shown;
+use crate::table_builder::TableBuilder;
 use crate::tables::Table;
 use crate::unsorted::Unsorted;
 use std::alloc::{AllocError, Global};
@@ -145,8 +143,8 @@ impl<'a> Listing<'a> {
 /// The entries of the lines that were read.
 #[derive(Drop)]
 struct Lines<'a> {
-    subrs: Gathered<u16, Hex<'a>>,
-    glyphs: Gathered<&'a [u8], Hex<'a>>,
+    subrs: TableBuilder<u16, Hex<'a>>,
+    glyphs: TableBuilder<&'a [u8], Hex<'a>>,
 }
 
 impl<'a> Model for Lines<'a> {
@@ -167,8 +165,8 @@ impl<'a> Lines<'a> {
         ensures { result ≡ record { subrs = fin.empty; glyphs = fin.empty } }
     {
         Lines {
-            subrs: Gathered::new(alloc),
-            glyphs: Gathered::new(alloc),
+            subrs: TableBuilder::new(alloc),
+            glyphs: TableBuilder::new(alloc),
         }
     }
 

@@ -1,12 +1,7 @@
 //! One pass over two tables in the order of their keys.
-ghost use Rattle.std.specs.Prelude.{◌≡◌, ◌++◌, ◌∷◌, ◌<◌, [], map, IfSome, MatchOption, OnOk};
-ghost use Rattle.std.specs.declared.cmp.Ordering.{Ordering};
-ghost use Rattle.std.specs.List.{slice_get};
-ghost use Rattle.std.specs.Option.{option_map, option_and_then};
-ghost use Rattle.std.specs.FinMap.{FinMap, entries};
-ghost use Rattle.t1_join.specs.Meaning.{Meaning, same_meaning};
-ghost use Rattle.t1_join.specs.Entries.{entries_by};
-ghost use Rattle.t1_join.specs.Passes.{merge, first_met, merged_from};
+ghost use Rattle.std.specs.{Prelude.{◌≡◌, ◌++◌, ◌∷◌, ◌<◌, [], map, IfSome, MatchOption, OnOk}, declared.cmp.Ordering.{Ordering}, List.{slice_get}};
+ghost use Rattle.std.specs.{Option.{option_map, option_and_then}, FinMap.{FinMap, entries}};
+ghost use Rattle.t1_join.specs.{Meaning.{Meaning, same_meaning}, Entries.{entries_by}, Passes.{merge, first_met, merged_from}};
 
 use std::alloc::AllocError;
 use std::cmp::Ordering;
@@ -77,9 +72,7 @@ pub struct Both<T: SortedTable> {
 
 impl<T: SortedTable> Model for Both<T> {
     ghost use Rattle.std.specs.Prelude.{List};
-    ghost use Rattle.t1_join.specs.Meaning.{Meaning};
-    ghost use Rattle.t1_join.specs.Entries.{entries_by};
-    ghost use Rattle.t1_join.specs.Passes.{merged_from};
+    ghost use Rattle.t1_join.specs.{Meaning.{Meaning}, Entries.{entries_by}, Passes.{merged_from}};
 
     ghost Value = { List (Meaning × Meaning) };
 
@@ -90,9 +83,7 @@ impl<T: SortedTable> Model for Both<T> {
 impl<T: SortedTable> Iterator for Both<T> {
     type Item = T::Entry;
 
-    ghost use Rattle.std.specs.Prelude.{length};
-    ghost use Rattle.std.specs.Iterator.{at_most};
-    ghost use Rattle.std.specs.Map.Iter.{TakesFirst};
+    ghost use Rattle.std.specs.{Prelude.{length}, Iterator.{at_most}, Map.Iter.{TakesFirst}};
     ghost use Rattle.t1_join.specs.Entries.{entry_by};
 
     ghost next_gives = { TakesFirst (λ e. entry_by T.meaning (λ v. v) (T.entry e)) };

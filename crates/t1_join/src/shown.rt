@@ -1,7 +1,5 @@
 //! Names as they are printed.
-ghost use Rattle.std.specs.Prelude.{◌≡◌, ◌<◌, Some};
-ghost use Rattle.std.specs.Fmt.{WritesOnOk};
-ghost use Rattle.std.specs.List.{list_all};
+ghost use Rattle.std.specs.{Prelude.{◌≡◌, ◌<◌, Some}, Fmt.{WritesOnOk}, List.{list_all}};
 ghost use Rattle.t1_join.specs.Shown.{hex_digit, is_plain, escaped, shown};
 
 use std::fmt;

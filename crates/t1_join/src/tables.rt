@@ -1,12 +1,9 @@
 //! Tables: finite maps, joined key by key.
-ghost use Rattle.std.specs.Prelude.{◌≡◌, ◌≤◌, ◌↔◌, length, IsTrue, OnOk, OnErr, IfOk, MatchOption};
-ghost use Rattle.std.specs.Option.{option_map, option_copied};
-ghost use Rattle.std.specs.List.{insert};
-ghost use Rattle.std.specs.List.Sorted.{IsStrictlySortedBy, IsBinarySearchResult, IsSearchInRange};
-ghost use Rattle.std.specs.Map.{keys_of};
-ghost use Rattle.std.specs.FinMap as fin;
+ghost use Rattle.std.specs.{Prelude.{◌≡◌, ◌≤◌, ◌↔◌, length, IsTrue, OnOk, OnErr, IfOk, MatchOption}, Option.{option_map, option_copied}, List.{insert}};
+ghost use Rattle.std.specs.{List.Sorted.{IsStrictlySortedBy, IsBinarySearchResult, IsSearchInRange}, Map.{keys_of}};
 ghost use Rattle.t1_join.specs.TableMeaning.{TablesAgree, IsFirstConflict, joined_table, entry_meanings, first_meanings, pair_meaning};
 ghost use Rattle.t1_join.specs.Unsorted.{KeysDiffer, IsTableOf};
+ghost use Rattle.std.specs.FinMap as fin;
 
 use crate::keys::{Kept, Key};
 use crate::partial::Join;
@@ -24,8 +21,7 @@ pub struct Table<K: Key, V: Kept> {
 }
 
 impl<K: Key, V: Kept> Model for Table<K, V> {
-    ghost use Rattle.t1_join.specs.Meaning.{meaning_cmp};
-    ghost use Rattle.t1_join.specs.TableMeaning.{TableMeaning, table_code, meaning_of_entries, entry_meanings, Rises};
+    ghost use Rattle.t1_join.specs.{Meaning.{meaning_cmp}, TableMeaning.{TableMeaning, table_code, meaning_of_entries, entry_meanings, Rises}};
 
     ghost Value = { TableMeaning };
 
@@ -132,8 +128,7 @@ impl<K: Key + Drop, V: Kept + Drop> Table<K, V> {
 }
 
 impl<'t, K: Key, V: Kept> SortedTable for &'t Table<K, V> {
-    ghost use Rattle.t1_join.specs.Meaning.{Meaning, meaning_cmp};
-    ghost use Rattle.t1_join.specs.TableMeaning.{pair_meaning};
+    ghost use Rattle.t1_join.specs.{Meaning.{Meaning, meaning_cmp}, TableMeaning.{pair_meaning}};
 
     ghost Key = { Meaning };
 
@@ -233,8 +228,7 @@ fn copy_both<K: Key + Drop, V: Kept + Drop>(
 }
 
 impl<K: Key + Drop, V: Kept + Drop> Join for Table<K, V> {
-    ghost use Rattle.t1_join.specs.TableMeaning.{TableMeaning, TablesAgree, TablesJoin};
-    ghost use Rattle.t1_join.specs.TableLaws.{table_laws};
+    ghost use Rattle.t1_join.specs.{TableMeaning.{TableMeaning, TablesAgree, TablesJoin}, TableLaws.{table_laws}};
 
     ghost Meaning = { TableMeaning };
 
@@ -264,10 +258,8 @@ pub struct Entries<'a, K: Key, V: Kept> {
 }
 
 impl<'a, K: Key, V: Kept> Model for Entries<'a, K, V> {
-    ghost use Rattle.std.specs.Prelude.{List};
-    ghost use Rattle.std.specs.Slice.Iter.{iter_rest};
-    ghost use Rattle.t1_join.specs.Meaning.{Meaning};
-    ghost use Rattle.t1_join.specs.TableMeaning.{entry_meanings};
+    ghost use Rattle.std.specs.{Prelude.{List}, Slice.Iter.{iter_rest}};
+    ghost use Rattle.t1_join.specs.{Meaning.{Meaning}, TableMeaning.{entry_meanings}};
 
     ghost Value = { List (Meaning × Meaning) };
 
@@ -277,9 +269,7 @@ impl<'a, K: Key, V: Kept> Model for Entries<'a, K, V> {
 impl<'a, K: Key, V: Kept> Iterator for Entries<'a, K, V> {
     type Item = (&'a K, &'a V);
 
-    ghost use Rattle.std.specs.Prelude.{length};
-    ghost use Rattle.std.specs.Iterator.{at_most};
-    ghost use Rattle.std.specs.Map.Iter.{TakesFirst};
+    ghost use Rattle.std.specs.{Prelude.{length}, Iterator.{at_most}, Map.Iter.{TakesFirst}};
     ghost use Rattle.t1_join.specs.TableMeaning.{lent_meanings};
 
     ghost next_gives = { TakesFirst (lent_meanings K.meaning V.meaning) };

@@ -1,7 +1,6 @@
 //! The entries of a listing in the order of its lines; they are sorted once, after all lines have been read.
 ghost use Rattle.std.specs.Prelude.{◌≡◌, [], OnOk, MatchOption};
-ghost use Rattle.t1_join.specs.LineMeaning.{line_entry};
-ghost use Rattle.t1_join.specs.Unsorted.{with_line, AllKeysDiffer, AreTablesOf};
+ghost use Rattle.t1_join.specs.{LineMeaning.{line_entry}, Unsorted.{with_line, AllKeysDiffer, AreTablesOf}};
 
 use crate::hexadecimal::Hex;
 use crate::lines::Line;
@@ -17,9 +16,7 @@ pub(crate) struct Unsorted<'a> {
 }
 
 impl<'a> Model for Unsorted<'a> {
-    ghost use Rattle.t1_join.specs.Meaning.{of_number};
-    ghost use Rattle.t1_join.specs.TableMeaning.{entry_meanings};
-    ghost use Rattle.t1_join.specs.Unsorted.{Unsorted};
+    ghost use Rattle.t1_join.specs.{Meaning.{of_number}, TableMeaning.{entry_meanings}, Unsorted.{Unsorted}};
 
     ghost Value = { Unsorted };
 

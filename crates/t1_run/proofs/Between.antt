@@ -1,7 +1,7 @@
 -- Turns of a machine: what it does with a token, whatever marks were made before, is a turn of the run after the marks that were.
 use Rattle.std.proofs.Common.{◌≡◌, refl, sym, ap, subst, ◌∙◌, ℕ, zero, suc, ◌+◌, ◌-◌, ◌<◌, ◌≤◌, ◌==◌, cond, Bool, true, List, [], ◌∷◌, ◌++◌, length, ℤ, Option, Some, arith}
 use Rattle.t1_char.specs.{declared.token.Token.{Token}, Tokens.{tokens}}
-use Rattle.t1_run.specs.{declared.frames.Frame.{Frame}, declared.machine.Machine.{Machine}, declared.machine.Flow.{Flow}, declared.run.Halt.{Halt}, declared.answer.Mark.{Mark}}
+use Rattle.t1_run.specs.{declared.frames.Frame.{Frame}, declared.machine.Machine.{Machine}, declared.machine.Flow.{Flow}, declared.answer.Halt.{Halt}, declared.answer.Mark.{Mark}}
 use Rattle.t1_run.specs.{declared.answer.Fault.{Fault}, declared.answer.Fault.TheVariants.{Unended, TooLong}, declared.answer.Hints.{Hints}, declared.answer.Hints.TheVariants.{Kept}}
 use Rattle.t1_run.specs.{State.{State, Ending, Back, Failed, start, token_limit}, Rules.{Step, Goes, Ends, fails}, declared.budget.Allowance.{Allowance}, Budgets.{tokens_by}}
 use Rattle.t1_run.specs.Run.{Subrs, Outcome, ends, index_taken, index_of, charstring_at, then_run, level_limit, call, with_indices, run_glyph, at_top, marks_after, spend, step}
@@ -9,7 +9,7 @@ use Rattle.t1_run.specs.{Machine.{state_of, step_of, is_one, left_of, Spent, Spe
 use Rattle.t1_run.proofs.{Limits.{start_within}, Turns.{Turns, Turn, Ended, begins, turn, runs_out, length_push, on_more, on_goes, on_back, on_last, on_end, on_fault, on_call}}
 use Rattle.t1_run.proofs.Mirrors.{Mirror, MirrorTurn, mirror_begins, mirror_turn, mirror_out, mirror_goes, mirror_back, mirror_last, mirror_end, mirror_fault, mirror_call}
 use Rattle.t1_run.specs.declared.machine.Flow.TheVariants as flow
-use Rattle.t1_run.specs.declared.run.Halt.TheVariants as halt
+use Rattle.t1_run.specs.declared.answer.Halt.TheVariants as halt
 
 -- Between two turns: what is left of the frames, from the state of the machine after the marks so far, which were drawn; what the budget withholds is as it was
 -- before the first.
@@ -286,10 +286,10 @@ module _ {P : Type 0} {subrs : Subrs} {hints : Hints} {c old : List ℕ} {one : 
           (λ h. (h, spent.one refl inv.marks)) is refl room fault (λ h. failed h state_now)
 
       -- the Subr is on top
-      pub calls : (mid c' : List ℕ) (g : Frame) (callers frames' : List Frame) → mid ≡ with_indices now (index_taken index) →
-          (0 < levels) × (charstring_at subrs index ≡ Some c') → frame_left g ≡ tokens c' → callers ≡ rest ++ top' ∷ [] → frames' ≡ callers ++ g ∷ [] →
+      pub calls : (mid c' : List ℕ) (g : Frame) (call_stack frames' : List Frame) → mid ≡ with_indices now (index_taken index) →
+          (0 < levels) × (charstring_at subrs index ≡ Some c') → frame_left g ≡ tokens c' → call_stack ≡ rest ++ top' ∷ [] → frames' ≡ call_stack ++ g ∷ [] →
           Between subrs hints c old one Drawn frames' m' mid first a'
-      calls mid c' g callers frames' took enters all pushed entered =
+      calls mid c' g call_stack frames' took enters all pushed entered =
           let frames_are : frames' ≡ (rest ++ top' ∷ []) ++ g ∷ [] = entered ∙ ap (λ (fs : List Frame). fs ++ g ∷ []) pushed in
           record {
             marks = inv.marks;

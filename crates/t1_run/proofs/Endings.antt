@@ -1,9 +1,9 @@
 -- What is asked of how a charstring ended: its answer, and the parts that it names.
 use Rattle.std.proofs.Common.{◌≡◌, refl, sym, ap, subst, ◌∙◌, ℕ, List, []}
-use Rattle.t1_run.specs.{declared.run.Halt.{Halt}, declared.answer.Mark.{Mark}, State.{Ending}, Run.{Outcome, at_top}, Machine.{ending_of, Runs}, Limits.{EndsWithinLimits}}
+use Rattle.t1_run.specs.{declared.answer.Halt.{Halt}, declared.answer.Mark.{Mark}, State.{Ending}, Run.{Outcome, at_top}, Machine.{ending_of, Runs}, Limits.{EndsWithinLimits}}
 use Rattle.t1_run.specs.{Pens.{drawn_on, Draws, with_mark}, Drawings.{parts_of}}
 use Rattle.t1_run.proofs.Pages.{kept_marks}
-use Rattle.t1_run.specs.declared.run.Halt.TheVariants as halt
+use Rattle.t1_run.specs.declared.answer.Halt.TheVariants as halt
 
 -- where marks were kept, it answers with these
 module _ (outcome : Outcome) (h : Halt) (before kept : List Mark) (none : before ≡ []) (old new : List ℕ)

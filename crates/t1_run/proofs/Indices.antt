@@ -3,7 +3,7 @@ use Rattle.std.proofs.Common.{◌≡◌, refl, sym, ap, subst, ◌∙◌, ℕ, L
 use Rattle.std.proofs.{lemmas.List.{append-nil}, lemmas.List.Sums.{sum_by-cons}}
 use Rattle.std.specs.{declared.cmp.Ordering.{Ordering}, declared.cmp.Ordering.TheVariants.{Less, Equal, Greater}, Cmp.{ranked}, BTreeSet.{insert_key}}
 use Rattle.std.specs.Ordering.{nat_cmp, match_ordering, MatchOrdering}
-use Rattle.t1_run.specs.{Run.{with_indices, AddsFirst}, Called.{is_in, times, AreListed}}
+use Rattle.t1_run.specs.{Run.{with_indices, AddsFirst}, SubrSet.{is_in, times, AreListed}}
 
 -- indices are put into a set one list after the other
 pub with_indices-append : (set is js : List ℕ) → with_indices set (is ++ js) ≡ with_indices (with_indices set is) js

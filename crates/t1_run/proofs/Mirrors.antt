@@ -113,47 +113,49 @@ module _ {whole whole' : Outcome} {subrs : Subrs} {hints other : Hints} {one : B
       ∙ ap (visiting (seen (lists_of rest) s (Ends end))) (stops (run_frames subrs h (suc in_turn.levels) (lists_of rest)))) is_one refl
 
   -- it calls, where so many levels are left above its frame
-  module _ (s' : State) (i : ℤ) (index : Option ℕ) (callers : List Frame) (levels : ℕ)
+  module _ (s' : State) (i : ℤ) (index : Option ℕ) (call_stack : List Frame) (levels : ℕ)
       (e : Calls i s' ≡ spend hints t s) (stays : Stays other one one' t s (Calls i s')) (is : index ≡ index_of i)
-      (pushed : callers ≡ rest ++ f ∷ []) (room : levels + length callers ≡ suc level_limit) where
+      (pushed : call_stack ≡ rest ++ f ∷ []) (room : levels + length call_stack ≡ suc level_limit) where
     abbrev visits : List Visit
     visits = seen (lists_of rest) s (Calls i s')
 
     same_levels : in_turn.levels ≡ levels
-    same_levels = omega (arith, in_turn.depth, room, length_push callers rest f pushed)
+    same_levels = omega (arith, in_turn.depth, room, length_push call_stack rest f pushed)
 
     calls_by : (h : Hints) → Calls i s' ≡ spend h t s →
-        lists_by h ≡ visiting visits (after (index_taken index) (call_on subrs h levels (lists_of callers) index s'))
+        lists_by h ≡ visiting visits (after (index_taken index) (call_on subrs h levels (lists_of call_stack) index s'))
     calls_by h e =
         token_calls subrs h in_turn.levels (lists_of rest) t (frame_left f) s s' i e
         ∙ ap (λ (index : Option ℕ). visiting visits (after (index_taken index) (call_on subrs h in_turn.levels (frame_left f ∷ lists_of rest) index s')))
         (sym is)
         ∙ ap (λ (lists : List (List Token)). visiting visits (after (index_taken index) (call_on subrs h in_turn.levels lists index s')))
-        (sym (lists_push callers rest f pushed))
-        ∙ ap (λ n. visiting visits (after (index_taken index) (call_on subrs h n (lists_of callers) index s'))) same_levels
+        (sym (lists_push call_stack rest f pushed))
+        ∙ ap (λ n. visiting visits (after (index_taken index) (call_on subrs h n (lists_of call_stack) index s'))) same_levels
 
     -- the call fails
     pub mirror_fault : (fault : Fault) → ((h : Hints) → call subrs h levels index s' ≡ ends (Failed fault)) → one' ≡ true → whole' ≡ whole
     mirror_fault fault failed is_one =
         mirrored (λ o. visiting visits (after (index_taken index) o)) (λ h. ends (Failed fault)) (Calls i s') e stays
         (λ h at. calls_by h at
-        ∙ ap (λ o. visiting visits (after (index_taken index) o)) (call_fails subrs h (lists_of callers) index s' levels fault (failed h))) is_one refl
+        ∙ ap (λ o. visiting visits (after (index_taken index) o)) (call_fails subrs h (lists_of call_stack) index s' levels fault (failed h))) is_one refl
 
   -- a Subr is called: its frame is on top
-  pub mirror_call : (s' : State) (i : ℤ) (index : Option ℕ) (callers frames : List Frame) (levels : ℕ) (c : List ℕ) (g : Frame) → Calls i s' ≡ spend hints t s →
-      Stays other one one' t s (Calls i s') → index ≡ index_of i → callers ≡ rest ++ f ∷ [] → levels + length callers ≡ suc level_limit →
-      frames ≡ callers ++ g ∷ [] → (0 < levels) × (charstring_at subrs index ≡ Some c) → frame_left g ≡ tokens c →
+  pub mirror_call : (s' : State) (i : ℤ) (index : Option ℕ) (call_stack frames : List Frame) (levels : ℕ) (c : List ℕ) (g : Frame) →
+      Calls i s' ≡ spend hints t s →
+      Stays other one one' t s (Calls i s') → index ≡ index_of i → call_stack ≡ rest ++ f ∷ [] → levels + length call_stack ≡ suc level_limit →
+      frames ≡ call_stack ++ g ∷ [] → (0 < levels) × (charstring_at subrs index ≡ Some c) → frame_left g ≡ tokens c →
       Mirror whole whole' subrs hints other one' frames s'
-  mirror_call s' i index callers frames zero c g e stays is pushed room entered enters all = absurd (omega (arith, enters.0))
-  mirror_call s' i index callers frames (suc levels) c g e stays is pushed room entered enters all =
-      let lists : lists_of frames ≡ tokens c ∷ lists_of callers = lists_push frames callers g entered ∙ ap (λ (ts : List Token). ts ∷ lists_of callers) all in
+  mirror_call s' i index call_stack frames zero c g e stays is pushed room entered enters all = absurd (omega (arith, enters.0))
+  mirror_call s' i index call_stack frames (suc levels) c g e stays is pushed room entered enters all =
+      let lists : lists_of frames ≡ tokens c ∷ lists_of call_stack =
+      lists_push frames call_stack g entered ∙ ap (λ (ts : List Token). ts ∷ lists_of call_stack) all in
       record {
         levels = levels;
-        depth = omega (arith, room, length_push frames callers g entered);
-        mirrors = mirrored (λ o. visiting (visits s' i index callers (suc levels) e stays is pushed room) (after (index_taken index) o))
+        depth = omega (arith, room, length_push frames call_stack g entered);
+        mirrors = mirrored (λ o. visiting (visits s' i index call_stack (suc levels) e stays is pushed room) (after (index_taken index) o))
             (λ h. run_frames subrs h levels (lists_of frames) s') (Calls i s') e stays
-            (λ h at. calls_by s' i index callers (suc levels) e stays is pushed room h at
-            ∙ ap (λ o. visiting (visits s' i index callers (suc levels) e stays is pushed room) (after (index_taken index) o))
-            (call_enters subrs h (lists_of callers) index s' levels c enters.1
+            (λ h at. calls_by s' i index call_stack (suc levels) e stays is pushed room h at
+            ∙ ap (λ o. visiting (visits s' i index call_stack (suc levels) e stays is pushed room) (after (index_taken index) o))
+            (call_enters subrs h (lists_of call_stack) index s' levels c enters.1
             ∙ ap (λ (lists : List (List Token)). run_frames subrs h levels lists s') (sym lists)));
       }

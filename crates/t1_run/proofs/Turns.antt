@@ -295,47 +295,49 @@ module _ {whole : Outcome} {old : List ℕ} {subrs : Subrs} {hints : Hints} {res
       (takes (Ends end) left e fewer) in_turn.left)
 
   -- it calls, where so many levels are left above its frame
-  module _ (s' : State) (i : ℤ) (index : Option ℕ) (callers : List Frame) (levels : ℕ) (mid : List ℕ)
-      (e : Calls i s' ≡ spend hints t s) (fewer : s'.allowed ≡ s.allowed - 1) (is : index ≡ index_of i) (pushed : callers ≡ rest ++ f ∷ [])
-      (room : levels + length callers ≡ suc level_limit) (took : mid ≡ with_indices now (index_taken index)) where
-    called : Leaves whole old (call_on subrs hints levels (lists_of callers) index s') mid s'.marks s'.allowed
+  module _ (s' : State) (i : ℤ) (index : Option ℕ) (call_stack : List Frame) (levels : ℕ) (mid : List ℕ)
+      (e : Calls i s' ≡ spend hints t s) (fewer : s'.allowed ≡ s.allowed - 1) (is : index ≡ index_of i) (pushed : call_stack ≡ rest ++ f ∷ [])
+      (room : levels + length call_stack ≡ suc level_limit) (took : mid ≡ with_indices now (index_taken index)) where
+    called : Leaves whole old (call_on subrs hints levels (lists_of call_stack) index s') mid s'.marks s'.allowed
     called =
         let visits : List Visit = seen (lists_of rest) s (Calls i s') in
-        let same : in_turn.levels ≡ levels = omega (arith, in_turn.depth, room, length_push callers rest f pushed) in
-        let goes : lists_now ≡ visiting visits (after (index_taken index) (call_on subrs hints levels (lists_of callers) index s')) =
+        let same : in_turn.levels ≡ levels = omega (arith, in_turn.depth, room, length_push call_stack rest f pushed) in
+        let goes : lists_now ≡ visiting visits (after (index_taken index) (call_on subrs hints levels (lists_of call_stack) index s')) =
         token_calls subrs hints in_turn.levels (lists_of rest) t (frame_left f) s s' i e
         ∙ ap (λ (index : Option ℕ). visiting visits (after (index_taken index) (call_on subrs hints in_turn.levels (frame_left f ∷ lists_of rest) index s')))
         (sym is)
         ∙ ap (λ (lists : List (List Token)). visiting visits (after (index_taken index) (call_on subrs hints in_turn.levels lists index s')))
-        (sym (lists_push callers rest f pushed))
-        ∙ ap (λ n. visiting visits (after (index_taken index) (call_on subrs hints n (lists_of callers) index s'))) same
+        (sym (lists_push call_stack rest f pushed))
+        ∙ ap (λ n. visiting visits (after (index_taken index) (call_on subrs hints n (lists_of call_stack) index s'))) same
         in
-        left_after visits (index_taken index) lists_now (call_on subrs hints levels (lists_of callers) index s') now mid s.marks s'.marks
+        left_after visits (index_taken index) lists_now (call_on subrs hints levels (lists_of call_stack) index s') now mid s.marks s'.marks
         s.allowed s'.allowed goes took (seen_marks (lists_of rest) s (Calls i s')) (takes (Calls i s') s'.allowed e fewer) in_turn.left
 
     -- the call fails
     pub on_fault : (fault : Fault) → call subrs hints levels index s' ≡ ends (Failed fault) → Ended whole (Failed fault) old mid s'.marks s'.allowed
-    on_fault fault failed = left_ends (Failed fault) (call_on subrs hints levels (lists_of callers) index s') mid s'.marks s'.allowed
-        (call_fails subrs hints (lists_of callers) index s' levels fault failed) called
+    on_fault fault failed = left_ends (Failed fault) (call_on subrs hints levels (lists_of call_stack) index s') mid s'.marks s'.allowed
+        (call_fails subrs hints (lists_of call_stack) index s' levels fault failed) called
 
   -- a Subr is called: its frame is on top
-  pub on_call : (s' : State) (i : ℤ) (index : Option ℕ) (callers frames : List Frame) (levels : ℕ) (mid c : List ℕ) (g : Frame) → Calls i s' ≡ spend hints t s →
+  pub on_call : (s' : State) (i : ℤ) (index : Option ℕ) (call_stack frames : List Frame) (levels : ℕ) (mid c : List ℕ) (g : Frame) →
+      Calls i s' ≡ spend hints t s →
       s'.allowed ≡ s.allowed - 1 →
-      index ≡ index_of i → callers ≡ rest ++ f ∷ [] → levels + length callers ≡ suc level_limit → mid ≡ with_indices now (index_taken index) →
-      frames ≡ callers ++ g ∷ [] → (0 < levels) × (charstring_at subrs index ≡ Some c) → frame_left g ≡ tokens c → IsWithinLimits s' →
+      index ≡ index_of i → call_stack ≡ rest ++ f ∷ [] → levels + length call_stack ≡ suc level_limit → mid ≡ with_indices now (index_taken index) →
+      frames ≡ call_stack ++ g ∷ [] → (0 < levels) × (charstring_at subrs index ≡ Some c) → frame_left g ≡ tokens c → IsWithinLimits s' →
       Turns whole old subrs hints frames s' mid
-  on_call s' i index callers frames zero mid c g e fewer is pushed room took entered enters all within = absurd (omega (arith, enters.0))
-  on_call s' i index callers frames (suc levels) mid c g e fewer is pushed room took entered enters all within =
-      let lists : lists_of frames ≡ tokens c ∷ lists_of callers = lists_push frames callers g entered ∙ ap (λ (ts : List Token). ts ∷ lists_of callers) all in
-      let goes : call_on subrs hints (suc levels) (lists_of callers) index s' ≡ run_frames subrs hints levels (lists_of frames) s' =
-      call_enters subrs hints (lists_of callers) index s' levels c enters.1
+  on_call s' i index call_stack frames zero mid c g e fewer is pushed room took entered enters all within = absurd (omega (arith, enters.0))
+  on_call s' i index call_stack frames (suc levels) mid c g e fewer is pushed room took entered enters all within =
+      let lists : lists_of frames ≡ tokens c ∷ lists_of call_stack =
+      lists_push frames call_stack g entered ∙ ap (λ (ts : List Token). ts ∷ lists_of call_stack) all in
+      let goes : call_on subrs hints (suc levels) (lists_of call_stack) index s' ≡ run_frames subrs hints levels (lists_of frames) s' =
+      call_enters subrs hints (lists_of call_stack) index s' levels c enters.1
       ∙ ap (λ (lists : List (List Token)). run_frames subrs hints levels lists s') (sym lists)
       in
       record {
         levels = levels;
-        depth = omega (arith, room, length_push frames callers g entered);
-        left = left_as (call_on subrs hints (suc levels) (lists_of callers) index s')
+        depth = omega (arith, room, length_push frames call_stack g entered);
+        left = left_as (call_on subrs hints (suc levels) (lists_of call_stack) index s')
             (run_frames subrs hints levels (lists_of frames) s') mid s'.marks s'.allowed goes
-            (called s' i index callers (suc levels) mid e fewer is pushed room took);
+            (called s' i index call_stack (suc levels) mid e fewer is pushed room took);
         within = within;
       }

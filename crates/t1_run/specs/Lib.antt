@@ -1,7 +1,7 @@
 pub mod State
 pub mod Rules
 pub mod Run
-pub mod Called
+pub mod SubrSet
 pub mod Frames
 pub mod Pens
 pub mod Budgets
@@ -13,5 +13,4 @@ pub mod Standard
 pub mod Drawings
 pub mod Pictures
 pub mod Composed
-pub mod Layouts
 pub mod FaultNames

@@ -1,15 +1,11 @@
 //! Budgets of tokens: how many more runs may execute.
 
 ghost use Rattle.std.specs.Prelude.{◌≡◌, Some, IfOk, IfErr, OnErr};
-ghost use Rattle.t1_run.specs.declared.budget.Stop.TheVariants.{TooManyTokens};
-ghost use Rattle.t1_run.specs.Budgets.{allowed_by, less};
-ghost use Rattle.t1_run.specs.State.{token_limit};
-ghost use Rattle.t1_run.specs.Frames.{frame_left};
+ghost use Rattle.t1_run.specs.{declared.budget.Stop.TheVariants.{TooManyTokens}, Budgets.{allowed_by, less}, State.{token_limit}, Frames.{frame_left}};
 ghost use Rattle.t1_run.specs.Machine.{left_of, EndsAtLimit, Withheld};
 
-use crate::answer::Fault;
+use crate::answer::{Fault, Halt};
 use crate::frames::Frame;
-use crate::run::Halt;
 use std::alloc::AllocError;
 use std::fmt;
 

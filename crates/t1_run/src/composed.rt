@@ -1,22 +1,18 @@
 //! Glyphs made of their parts: a plain glyph is one part, an accented glyph a base and an accent (Adobe Type 1 Font
 //! Format 1.1, chapter 6).
 
-ghost use Rattle.std.specs.Prelude.{◌≡◌, ◌+ℤ◌, ◌-ℤ◌, ℕ, List, [], IfOk, IfSome, map, option_map};
-ghost use Rattle.std.specs.Borrow.{Bor};
-ghost use Rattle.t1_run.specs.declared.answer.Hints.{Hints};
-ghost use Rattle.t1_run.specs.declared.answer.Mark.{Mark};
-ghost use Rattle.t1_run.specs.State.{Seac};
-ghost use Rattle.t1_run.specs.Run.{Subrs, direct_by};
-ghost use Rattle.t1_run.specs.Limits.{EndsWithinLimits, IsAccentWithin, IsWithin};
-ghost use Rattle.t1_run.specs.Machine.{ending_of};
-ghost use Rattle.t1_run.specs.Drawings.{outcome_at, accent_offset, accented_picture, of_two, parts_of, draw_by, marks_of, IsPlain};
-ghost use Rattle.t1_run.specs.Composed.{own_ending, IsPlainOwn, composed_picture, EachPart};
+ghost use Rattle.std.specs.Prelude.{◌≡◌, ◌+ℤ◌, ◌-ℤ◌, List, [], IfOk, IfSome, map, option_map};
+ghost use Rattle.t1_run.specs.{declared.answer.Hints.{Hints}, declared.answer.Mark.{Mark}, State.{Seac}, Run.{Subrs, direct_by}};
+ghost use Rattle.t1_run.specs.{Limits.{EndsWithinLimits, IsAccentWithin, IsWithin}, Machine.{ending_of}};
+ghost use Rattle.t1_run.specs.Drawings.{outcome_at, accent_offset, accented_picture, of_two, parts_of, draw_by, draw, draw3, marks_of, IsPlain};
+ghost use Rattle.t1_run.specs.{Composed.{own_ending, IsPlainOwn}, Pictures.{picture_of, EachPart}};
 
-use crate::answer::{Accent, DrawFault, Hints, Mark, Metrics, Point};
-use crate::called::Called;
+use crate::answer::{Accent, DrawFault, Halt, Hints, Mark, Metrics, Point};
+use crate::drawings::{Drawing, DrawnPart};
 use crate::parts::name_of_code;
 use crate::pens::Blank;
-use crate::run::{Halt, run_freely};
+use crate::run::run_freely;
+use crate::subr_set::SubrSet;
 use crate::subroutines::{Glyphs, Subroutines};
 use std::alloc::{AllocError, Global};
 
@@ -51,7 +47,7 @@ impl<'f> Outline<'f> for Vec<Mark> {
         charstring: &'f [u8],
     ) -> Result<(Halt, Vec<Mark>), AllocError> {
         let mut marks = Vec::new(alloc);
-        let mut called = Called::new(alloc);
+        let mut called = SubrSet::new(alloc);
         let (halt, _) = run_freely(subrs, hints, charstring, &mut marks, &mut called)?;
         Ok((halt, marks))
     }
@@ -68,18 +64,10 @@ impl<'f> Outline<'f> for &'f [u8] {
         hints: Hints,
         charstring: &'f [u8],
     ) -> Result<(Halt, &'f [u8]), AllocError> {
-        let mut called = Called::new(alloc);
+        let mut called = SubrSet::new(alloc);
         let (halt, _) = run_freely(subrs, hints, charstring, &mut Blank, &mut called)?;
         Ok((halt, charstring))
     }
-}
-
-/// A glyph, by what is kept of its parts: its metrics, its only part or its base, and the offset of its accent.
-#[derive(Drop)]
-pub(crate) enum Composed<T> {
-    Plain(Metrics, T),
-    Accented(Metrics, T, Point, T),
-    Failed(DrawFault),
 }
 
 /// The run of the glyph of a name, if the font has it.
@@ -124,29 +112,55 @@ fn accent_offset(accent: Accent) -> Point
     }
 }
 
+/// A part at this offset.
+fn place<T>(offset: Point, marks: T) -> DrawnPart<T>
+    ensures { result ≡ record { dx = offset.x; dy = offset.y; marks = marks } }
+{
+    DrawnPart {
+        dx: offset.x,
+        dy: offset.y,
+        marks,
+    }
+}
+
+/// A glyph of these metrics and parts.
+fn drawn<T>(metrics: Metrics, parts: Vec<DrawnPart<T>>) -> Drawing<T>
+    ensures { result ≡ Drawing.Drawn metrics.width metrics.bearing parts }
+{
+    Drawing::Drawn {
+        width: metrics.width,
+        sb: metrics.bearing,
+        parts,
+    }
+}
+
 /// An accented glyph, by the runs of its base and its accent.
 fn of_two<'f, T: Outline<'f>>(
+    alloc: Global,
     glyph: Accent,
     base: Option<(Halt, T)>,
     accent: Option<(Halt, T)>,
-) -> Composed<T>
+) -> Result<Drawing<T>, AllocError>
     requires { IsAccentWithin glyph }
-    ensures picture { (marks : T → List Mark) → composed_picture marks result
-        ≡ of_two glyph (option_map (own_ending marks) base) (option_map (own_ending marks) accent) }
-    ensures plain { (hints : Hints) (subrs : Subrs)
+    ensures picture { IfOk result (λ d. (marks : T → List Mark) → picture_of marks d
+        ≡ of_two glyph (option_map (own_ending marks) base) (option_map (own_ending marks) accent)) }
+    ensures plain { IfOk result (λ d. (hints : Hints) (subrs : Subrs)
         → IfSome base (IsPlainOwn (T.IsOfPlain hints subrs))
         → IfSome accent (IsPlainOwn (T.IsOfPlain hints subrs))
-        → EachPart (T.IsOfPlain hints subrs) result }
+        → EachPart (T.IsOfPlain hints subrs) d) }
 {
     match (base, accent) {
         (Some((Halt::Plain(_), base)), Some((Halt::Plain(_), accent))) => {
-            Composed::Accented(glyph.metrics, base, accent_offset(glyph), accent)
+            let mut parts = Vec::new(alloc);
+            parts.push(place(Point::default(), base))?;
+            parts.push(place(accent_offset(glyph), accent))?;
+            Ok(drawn(glyph.metrics, parts))
         }
-        (None, _) | (_, None) => Composed::Failed(DrawFault::MissingPart),
+        (None, _) | (_, None) => Ok(Drawing::Failed(DrawFault::MissingPart)),
         (Some((Halt::Seac(_), _)), _) | (_, Some((Halt::Seac(_), _))) => {
-            Composed::Failed(DrawFault::NestedSeac)
+            Ok(Drawing::Failed(DrawFault::NestedSeac))
         }
-        _ => Composed::Failed(DrawFault::PartFault),
+        _ => Ok(Drawing::Failed(DrawFault::PartFault)),
     }
 }
 
@@ -156,36 +170,60 @@ fn accented<'f, F: Glyphs, T: Outline<'f>>(
     font: &'f F,
     hints: Hints,
     glyph: Accent,
-) -> Result<Composed<T>, AllocError>
+) -> Result<Drawing<T>, AllocError>
     requires { IsAccentWithin glyph }
-    ensures picture { IfOk result (λ c. composed_picture (T.marks hints (F.subrs font.now)) c
+    ensures picture { IfOk result (λ d. picture_of (T.marks hints (F.subrs font.now)) d
         ≡ accented_picture glyph
         (map (outcome_at hints (F.subrs font.now) (F.glyphs font.now)) (parts_of (Seac glyph)))) }
     ensures plain { IfOk result (EachPart (T.IsOfPlain hints (F.subrs font.now))) }
 {
     let (Some(base), Some(accent)) = (name_of_code(glyph.base), name_of_code(glyph.accent)) else {
-        return Ok(Composed::Failed(DrawFault::NoPart));
+        return Ok(Drawing::Failed(DrawFault::NoPart));
     };
     let base = outcome(alloc, font, hints, base.as_bytes())?;
     let accent = outcome(alloc, font, hints, accent.as_bytes())?;
-    Ok(of_two(glyph, base, accent))
+    of_two(alloc, glyph, base, accent)
 }
 
-/// The glyph of a name, by what is kept of its parts. Each glyph is run once.
+/// What the glyph of a name draws, by what is kept of its parts. Each glyph is run once.
 pub(crate) fn compose<'f, F: Glyphs, T: Outline<'f>>(
     alloc: Global,
     font: &'f F,
     hints: Hints,
     name: &[u8],
-) -> Result<Composed<T>, AllocError>
-    ensures picture { IfOk result (λ c. composed_picture (T.marks hints (F.subrs font.now)) c
+) -> Result<Drawing<T>, AllocError>
+    ensures picture { IfOk result (λ d. picture_of (T.marks hints (F.subrs font.now)) d
         ≡ draw_by hints (F.subrs font.now) (F.glyphs font.now) name.now) }
     ensures plain { IfOk result (EachPart (T.IsOfPlain hints (F.subrs font.now))) }
 {
     match outcome(alloc, font, hints, name)? {
-        None => Ok(Composed::Failed(DrawFault::NoGlyph)),
-        Some((Halt::Plain(metrics), own)) => Ok(Composed::Plain(metrics, own)),
+        None => Ok(Drawing::Failed(DrawFault::NoGlyph)),
+        Some((Halt::Plain(metrics), own)) => {
+            let mut parts = Vec::new(alloc);
+            parts.push(place(Point::default(), own))?;
+            Ok(drawn(metrics, parts))
+        }
         Some((Halt::Seac(glyph), _)) => accented(alloc, font, hints, glyph),
-        Some((Halt::Failed(fault), _)) => Ok(Composed::Failed(DrawFault::Run(fault))),
+        Some((Halt::Failed(fault), _)) => Ok(Drawing::Failed(DrawFault::Run(fault))),
     }
+}
+
+/// What the glyph of a name, without its `/`, draws in a font (Adobe Type 1 Font Format 1.1, chapter 6). An accented
+/// glyph has a width and a side bearing of its own; its accent is offset by sbx + adx - asb and ady. Its parts are found by
+/// StandardEncoding, never by the font's own encoding. If several faults apply to its parts, the first in the order of
+/// [`DrawFault`] is answered. It fails only for want of memory: that a glyph can't be drawn is an answer.
+pub fn draw<F: Glyphs>(alloc: Global, font: &F, name: &[u8]) -> Result<Drawing, AllocError>
+    ensures picture { IfOk result (λ d. picture_of (λ marks. marks.items) d
+        ≡ draw (F.subrs font.now) (F.glyphs font.now) name.now) }
+{
+    compose(alloc, font, Hints::Replaced, name)
+}
+
+/// The same as [`draw`] for an interpreter that keeps hints: a glyph and its parts are run as by
+/// [`direct3`](crate::direct3).
+pub fn draw3<F: Glyphs>(alloc: Global, font: &F, name: &[u8]) -> Result<Drawing, AllocError>
+    ensures picture { IfOk result (λ d. picture_of (λ marks. marks.items) d
+        ≡ draw3 (F.subrs font.now) (F.glyphs font.now) name.now) }
+{
+    compose(alloc, font, Hints::Kept, name)
 }

@@ -1,7 +1,6 @@
 //! The charstrings that are being run at one time: a glyph, and Subrs that are each called by the charstring before.
 
-ghost use Rattle.std.specs.Prelude.{◌≡◌};
-ghost use Rattle.std.specs.Iterator.{YieldsFirst};
+ghost use Rattle.std.specs.{Prelude.{◌≡◌}, Iterator.{YieldsFirst}};
 ghost use Rattle.t1_char.specs.Tokens.{tokens};
 
 use t1_char::{Token, Tokens};

@@ -1,8 +1,7 @@
 //! What takes the marks of a run.
 
 ghost use Rattle.std.specs.Prelude.{◌≡◌, List, OnOk};
-ghost use Rattle.t1_run.specs.declared.answer.Mark.{Mark};
-ghost use Rattle.t1_run.specs.Pens.{with_mark};
+ghost use Rattle.t1_run.specs.{declared.answer.Mark.{Mark}, Pens.{with_mark}};
 
 use crate::answer::Mark;
 use std::alloc::AllocError;

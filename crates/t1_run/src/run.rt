@@ -1,35 +1,23 @@
 //! Runs of charstrings.
 
-ghost use Rattle.std.specs.Prelude.{◌≡◌, ◌≤◌, ◌+◌, IfOk, IfErr, OnOk, OnErr, MatchResult, ◌<◌, List, length, [], ◌∷◌, ◌++◌, Some, true};
-ghost use Rattle.std.specs.Option.{option_copied};
+ghost use Rattle.std.specs.Prelude.{◌≡◌, ◌≤◌, ◌+◌, IfOk, IfErr, OnOk, OnErr, ◌<◌, [], ◌∷◌, Some, true};
 ghost use Rattle.t1_run.specs.Limits.{EndsWithinLimits};
-ghost use Rattle.t1_run.specs.Run.{run_glyph, direct_by, direct, direct3, exec, calls_of, with_indices, AddsFirst, index_of, index_taken, charstring_at, call};
-ghost use Rattle.t1_run.specs.Machine.{ending_of, value_of, left_of, Runs, IsEntered};
-ghost use Rattle.t1_run.specs.Budgets.{tokens_by, HasFewer, Takes};
-ghost use Rattle.t1_run.specs.State.{token_limit};
-ghost use Rattle.t1_run.specs.declared.budget.Stop.TheVariants.{TooManyTokens};
-ghost use Rattle.t1_run.specs.Pens.{Draws};
+ghost use Rattle.t1_run.specs.Run.{run_glyph, direct_by, direct, direct3, calls_of, with_indices, AddsFirst, index_of, index_taken};
+ghost use Rattle.t1_run.specs.{Machine.{ending_of, value_of, left_of, Runs, IsEntered}, Budgets.{tokens_by, HasFewer, Takes}, State.{token_limit}};
+ghost use Rattle.t1_run.specs.{declared.budget.Stop.TheVariants.{TooManyTokens}, Pens.{Draws}};
 
-use crate::answer::{Accent, Curve, Direct, Fault, Hints, Mark, Metrics};
+use crate::answer::{Curve, Direct, Fault, Halt, Hints, Mark};
 use crate::budget::{Allowance, Budget, Stop};
-use crate::called::Called;
 use crate::frames::Frame;
 use crate::machine::{Flow, Machine};
 use crate::pens::Pen;
+use crate::subr_set::SubrSet;
 use crate::subroutines::Subroutines;
 use arrayvec::ArrayVec;
 use std::alloc::{AllocError, Global};
 
 /// How deep calls may be: this project's limit.
 const LEVELS: usize = 10;
-
-/// How a charstring ends.
-#[derive(Clone, Copy)]
-pub(crate) enum Halt {
-    Plain(Metrics),
-    Seac(Accent),
-    Failed(Fault),
-}
 
 /// The index of a Subr is below this number: a font declares no more Subrs.
 const SUBR_LIMIT: i64 = 65535;
@@ -62,7 +50,7 @@ fn enter<S: Subroutines>(subrs: &S, levels: usize, index: Option<u16>) -> Result
 }
 
 /// The indices with the one that a call took. If memory is refused, nothing changes.
-fn take(called: &mut Called, index: Option<u16>) -> Result<(), AllocError>
+fn take(called: &mut SubrSet, index: Option<u16>) -> Result<(), AllocError>
     ensures added { OnOk result (called.new ≡ with_indices called.old (index_taken index)) }
     ensures unchanged { OnErr result (called.new ≡ called.old) }
 {
@@ -95,7 +83,7 @@ fn take_turns<'s, S: Subroutines, P: Pen>(
     hints: Hints,
     charstring: &'s [u8],
     pen: &mut P,
-    called: &mut Called,
+    called: &mut SubrSet,
     allowance: &mut Allowance,
 ) -> Result<(Halt, bool), Stop>
     requires { left_of allowance.now ≡ token_limit }
@@ -117,7 +105,7 @@ fn take_turns<'s, S: Subroutines, P: Pen>(
         × (allowance.old.allowed < tokens_by hints (S.subrs subrs.now) charstring.now)) }
 {
     let mut machine = Machine::<P>::new();
-    let mut callers: ArrayVec<Frame<'s>, LEVELS> = ArrayVec::new();
+    let mut call_stack: ArrayVec<Frame<'s>, LEVELS> = ArrayVec::new();
     let mut top = Frame::new(charstring);
     let mut is_one = true;
     'turns: loop {
@@ -135,7 +123,7 @@ fn take_turns<'s, S: Subroutines, P: Pen>(
                 pen.mark(Mark::Replace)?;
                 is_one = false;
             }
-            Flow::Back => match callers.pop() {
+            Flow::Back => match call_stack.pop() {
                 Some(caller) => top = caller,
                 None => return Ok((Halt::Failed(Fault::Unended), is_one)),
             },
@@ -145,9 +133,9 @@ fn take_turns<'s, S: Subroutines, P: Pen>(
             Flow::Call(i) => {
                 let index = index_of(i);
                 take(called, index)?;
-                match enter(subrs, callers.remaining_capacity(), index) {
+                match enter(subrs, call_stack.remaining_capacity(), index) {
                     Ok(charstring) => {
-                        callers.push(top);
+                        call_stack.push(top);
                         top = Frame::new(charstring);
                     }
                     Err(fault) => return Ok((Halt::Failed(fault), is_one)),
@@ -165,7 +153,7 @@ pub(crate) fn run<'s, S: Subroutines, P: Pen>(
     hints: Hints,
     charstring: &'s [u8],
     pen: &mut P,
-    called: &mut Called,
+    called: &mut SubrSet,
     budget: &mut Budget,
 ) -> Result<(Halt, bool), Stop>
     ensures runs { IfOk result
@@ -196,7 +184,7 @@ pub(crate) fn run_freely<'s, S: Subroutines, P: Pen>(
     hints: Hints,
     charstring: &'s [u8],
     pen: &mut P,
-    called: &mut Called,
+    called: &mut SubrSet,
 ) -> Result<(Halt, bool), AllocError>
     ensures runs { IfOk result
         (λ r. Runs (run_glyph (S.subrs subrs.now) hints charstring.now) r.0
@@ -249,7 +237,7 @@ fn direct_by<S: Subroutines>(
     ensures within { IfOk result (λ d. EndsWithinLimits (value_of d)) }
 {
     let mut marks = Vec::new(alloc);
-    let mut called = Called::new(alloc);
+    let mut called = SubrSet::new(alloc);
     let (halt, _) = run_freely(subrs, hints, charstring, &mut marks, &mut called)?;
     Ok(answer_of(halt, marks))
 }

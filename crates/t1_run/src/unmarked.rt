@@ -2,17 +2,15 @@
 
 ghost use Rattle.std.specs.Prelude.{◌≡◌, ◌++◌, IfOk, IfErr, OnOk, OnErr, map, [], true};
 ghost use Rattle.t1_run.specs.Run.{run_glyph, calls_of, calls, calls3, exec, with_executed, with_indices, AddsFirst};
-ghost use Rattle.t1_run.specs.Budgets.{tokens_by, tokens_of_longer, tokens_of_both, HasFewer, Takes};
-ghost use Rattle.t1_run.specs.declared.budget.Stop.TheVariants.{TooManyTokens};
-ghost use Rattle.t1_run.specs.Machine.{ending_of};
-ghost use Rattle.t1_run.specs.Drawings.{parts, parts_by, parts_of};
+ghost use Rattle.t1_run.specs.{Budgets.{tokens_by, tokens_of_longer, tokens_of_both, HasFewer, Takes}, declared.budget.Stop.TheVariants.{TooManyTokens}};
+ghost use Rattle.t1_run.specs.{Machine.{ending_of}, Drawings.{parts, parts_by, parts_of}};
 
-use crate::answer::Hints;
+use crate::answer::{Halt, Hints};
 use crate::budget::{Budget, Stop};
-use crate::called::Called;
 use crate::parts::parts_of;
 use crate::pens::Blank;
-use crate::run::{Halt, run};
+use crate::run::run;
+use crate::subr_set::SubrSet;
 use crate::subroutines::Subroutines;
 use std::alloc::{AllocError, Global};
 use std::collections::BTreeSet;
@@ -23,7 +21,7 @@ fn halt_of<S: Subroutines>(
     subrs: &S,
     hints: Hints,
     charstring: &[u8],
-    called: &mut Called,
+    called: &mut SubrSet,
     budget: &mut Budget,
 ) -> Result<(Halt, bool), Stop>
     ensures parts { IfOk result (λ r. parts_of (ending_of r.0 [])
@@ -50,7 +48,7 @@ fn halt_of<S: Subroutines>(
 fn both_halts<S: Subroutines>(
     subrs: &S,
     charstring: &[u8],
-    called: &mut Called,
+    called: &mut SubrSet,
     budget: &mut Budget,
 ) -> Result<(Halt, Halt), Stop>
     ensures replaced { IfOk result (λ r. parts_of (ending_of r.0 [])
@@ -88,7 +86,7 @@ pub fn parts_and_executed_within<S: Subroutines>(
     alloc: Global,
     subrs: &S,
     charstring: &[u8],
-    called: &mut Called,
+    called: &mut SubrSet,
     budget: &mut Budget,
 ) -> Result<Vec<&'static str>, Stop>
     ensures names { IfOk result (λ names. map (λ s. s.now) names.items
@@ -120,7 +118,7 @@ pub fn parts_and_executed<S: Subroutines>(
     alloc: Global,
     subrs: &S,
     charstring: &[u8],
-    called: &mut Called,
+    called: &mut SubrSet,
 ) -> Result<Vec<&'static str>, AllocError>
     ensures names { IfOk result (λ names. map (λ s. s.now) names.items
         ≡ parts (S.subrs subrs.now) charstring.now) }
@@ -142,7 +140,7 @@ pub fn parts_and_executed<S: Subroutines>(
 fn run_both<S: Subroutines>(
     subrs: &S,
     charstring: &[u8],
-    called: &mut Called,
+    called: &mut SubrSet,
 ) -> Result<(), AllocError>
     ensures { OnOk result (called.new
         ≡ with_executed called.old (S.subrs subrs.now) charstring.now) }
@@ -163,7 +161,7 @@ pub fn executed<S: Subroutines>(
 ) -> Result<BTreeSet<u16>, AllocError>
     ensures indices { IfOk result (λ set. set.keys ≡ exec (S.subrs subrs.now) charstring.now) }
 {
-    let mut called = Called::new(alloc);
+    let mut called = SubrSet::new(alloc);
     run_both(subrs, charstring, &mut called)?;
     called.to_set(alloc)
 }

@@ -1,5 +1,7 @@
 mod closing
 mod Tokens
+mod LastRuns
+mod Trying
 mod Plain
 pub mod state_tables
 pub mod Telling

@@ -1,8 +1,8 @@
--- Fonts that are filled have the callers and the states that they had.
-use Rattle.std.proofs.{Common.{◌≡◌, ◌<◌, ◌≤◌, ◌+◌, ℕ, zero, suc, arith, List, [], ◌∷◌, map, drop, length, get_or, refl, ap, sym, ◌∙◌, None}, lemmas.List.{drop_more, drop_all}}
-use Rattle.t1_font.specs.{FontValue.{FontValue}, Evening.{filled, indices_of_all}}
+-- Fonts that are filled have the references and the states that they had.
+use Rattle.std.proofs.{Common.{◌≡◌, ◌<◌, ◌≤◌, ◌+◌, ℕ, zero, suc, arith, List, [], ◌∷◌, map, drop, length, get_or, refl, ap, sym, ◌∙◌, inl, inr, None}, lemmas.List.{drop_more, drop_all}}
+use Rattle.t1_font.specs.{FontValue.{FontValue}, Normalizing.{filled, indices_of_all}, Filling.{AreLight, AnyHeavy}}
 use Rattle.t1_algebra.{specs.{Lacks.{Lack, lack_in, lack_among, first_lack}, Searches.{found}}, proofs.rejoining.FilledStates.{states_same, user_same, seeker_same, unlacking_quiet}}
-use Rattle.t1_subset.specs.{declared.fault.RejoinFault.{RejoinFault}, declared.fault.RejoinFault.TheVariants.{Lacks, Merge}, Callers.{RunAlike}, Rejoins.{TellsLack}}
+use Rattle.t1_subset.specs.{declared.fault.RejoinFault.{RejoinFault}, declared.fault.RejoinFault.TheVariants.{Lacks, Merge}, References.{RunAlike}, Rejoins.{TellsLack}}
 
 -- a font that lacks nothing runs alike once it is filled
 pub filled_alike : (fs : List FontValue) (f : FontValue) → lack_in fs f ≡ None → RunAlike f (filled (indices_of_all fs) f)
@@ -44,3 +44,9 @@ module _ (fs : List FontValue) (i : ℕ) (x : FontValue) (room : i < length fs) 
 -- behind all fonts none lacks anything
 pub no_lack_behind : (fs : List FontValue) (i : ℕ) → length fs ≤ i → lack_among fs (drop i fs) ≡ first_lack fs → first_lack fs ≡ None
 no_lack_behind fs i past far = sym far ∙ ap (lack_among fs) (drop_all i fs past)
+
+-- fonts of which each is light are not heavy
+pub light_or_heavy : (fs : List FontValue) → AreLight fs → AnyHeavy fs → ⊥
+light_or_heavy [] l h = h
+light_or_heavy (f ∷ fs) l (inl h) = omega (arith, l.0, h)
+light_or_heavy (f ∷ fs) l (inr h) = light_or_heavy fs l.1 h

@@ -1,7 +1,8 @@
 -- Refusals that are added to a list, one for each conflict of a walk.
-use Rattle.std.proofs.{Common.{◌≡◌, Bool, true, false, cond, List, [], ◌∷◌, ◌++◌, map, filter, refl, sym, ◌∙◌, ap, subst, append_assoc, Some}, lemmas.List.{append-nil}}
+use Rattle.std.proofs.{Common.{◌≡◌, Bool, true, false, cond, List, [], ◌∷◌, ◌++◌, map, filter, refl, sym, ◌∙◌, ap, subst, append_assoc, Some, None}, lemmas.List.{append-nil}}
 use Rattle.t1_algebra.specs.Conflicts.{Conflict, OverLimit}
-use Rattle.t1_subset.specs.{declared.conflict.Conflict.{Conflict as Refusal}, declared.conflict.Conflict.TheVariants.{Memory, Limit}, Refusals.{Tells, TellEach, Adds, AddsOne}}
+use Rattle.t1_subset.specs.{declared.conflict.Conflict.{Conflict as Refusal}, Refusals.{Tells, TellEach, Adds, AddsOne}}
+use Rattle.t1_subset.specs.declared.conflict.Conflict.TheVariants.{Memory, Empty, Limit, Shell, Code, Glyph, Part, Subr}
 
 -- a refusal that tells a conflict, behind those that tell others
 pub told_last : (es : List Refusal) (e : Refusal) (cs : List Conflict) (c : Conflict) →
@@ -79,3 +80,14 @@ module _ {X : Type 0} (p : X → Bool) (f : X → Conflict) where
         ∙ (ap (λ (cs : List Conflict). h.done ++ cs) (told_before x xs ∙ sym (ap each_told is)) ∙ h.both);
     added = adds_both old new more h.done (cond (p x) (f x ∷ []) []) h.added k;
   }
+
+-- a refusal that tells no conflict is want of memory
+pub tells_no_conflict : (e : Refusal) → Tells e None → e ≡ Memory
+tells_no_conflict Memory h = refl
+tells_no_conflict (Shell p) h = absurd cc
+tells_no_conflict (Code n) h = absurd cc
+tells_no_conflict (Glyph n) h = absurd cc
+tells_no_conflict (Part g p) h = absurd cc
+tells_no_conflict (Subr i g) h = absurd cc
+tells_no_conflict Limit h = absurd cc
+tells_no_conflict Empty h = absurd h

@@ -10,10 +10,10 @@ use Rattle.std.specs.Cmp.Lexicographic.{nat_list_cmp_total}
 use Rattle.std.specs.{declared.cmp.Ordering.TheVariants.{Less, Equal, Greater}, Ordering.{is_lt}, FinMap.Entries.{below_all, is_sorted}, Prelude.{T}}
 use Rattle.t1_run.specs.{Budgets.{tokens_of_longer, tokens_of_both, HasFewer, Takes}, Run.{Subrs}}
 use Rattle.t1_run.proofs.Taken.{takes_wider, takes_twice, takes_nothing, fewer_before, fewer_than_more}
-use Rattle.t1_font.{specs.{FontValue.{FontValue, Named, name_cmp, names_in}, FontModel.{subr_at}, IsFont.{IsFont}}, proofs.FontReaders.{all_seen}}
+use Rattle.t1_font.{specs.{FontValue.{FontValue, CharStrings, name_cmp, names_in}, FontModel.{subr_at}, IsFont.{IsFont}}, proofs.FontReaders.{all_seen}}
 use Rattle.t1_algebra.{specs.{Interpreter.{same_bytes, Names}, Keep.{charstring, keep}, Profile.{profile}}, proofs.{Sets.{in_list, tied, name_same, any_filter, any_filtered}, Kept.{keep_from}}}
 use Rattle.t1_subset.specs.{Budgets.{longer_tokens, glyph_tokens, font_tokens, fonts_tokens, least_of, font_least, fonts_least, kept_names, kept_longer, kept_tokens, IsEnough}}
-use Rattle.t1_subset.specs.{Callers.{same_charstring}}
+use Rattle.t1_subset.specs.{References.{same_charstring}}
 use Rattle.t1_subset.{proofs.closing.Closures.{ClosureSoFar, closure_end, all_front}}
 use Rattle.t1_subset.specs.ClosureNames.{push_all}
 use Rattle.std.specs.FinMap as maps
@@ -203,7 +203,7 @@ rising [] h = tt
 rising (e ∷ es) h = let two = both _ _ h in (below_keys e.0 es two.0, rising es two.1)
 
 -- the names of a table are without repeats
-names_apart : (m : Named) → IsDistinct same_bytes (names_in m)
+names_apart : (m : CharStrings) → IsDistinct same_bytes (names_in m)
 names_apart m = IsDistinct-from_sorted name_cmp (names_in m) (rising (maps.entries m) (maps.entries_sorted m))
 
 all_left : (p : List ℕ → Bool) (x : List ℕ) (xs : List (List ℕ)) → AllByRecursion (λ y. same_bytes x y ≡ false) xs →

@@ -1,6 +1,6 @@
 pub mod ByNumber
 pub mod Conflicts
-pub mod FontCallers
+pub mod FontReferences
 pub mod FontUsers
 pub mod LowestKeys
 pub mod PassingKeys

@@ -1,10 +1,11 @@
 -- The tokens that the glyphs of fonts execute, and what calls within a budget of tokens answer.
 use Rattle.std.specs.{Prelude.{◌≡◌, ◌⊎◌, ◌+◌, ◌≤◌, ℕ, List, [], ◌∷◌, cond, filter, Option, Some, None, Result, Ok, Err, MatchResult}, List.{sum_by, AllByRecursion}}
 use Rattle.t1_run.specs.{declared.budget.Stop.{Stop}, Budgets.{tokens_of_longer, tokens_of_both}}
-use Rattle.t1_font.specs.{FontValue.{FontValue, names_in}, IsFont.{IsFont}}
+use Rattle.t1_font.specs.{FontValue.{FontValue, names_in}, IsFont.{IsFont}, Normalizing.{filled_all}, Filling.{AreLight}}
 use Rattle.t1_algebra.specs.{Interpreter.{Names}, Keep.{charstring, keep}, Profile.{profile}, Merges.{ComesTo}}
 use Rattle.t1_subset.specs.{declared.budgets.BudgetFault.{BudgetFault}, declared.budgets.BudgetFault.TheVariants.{TooManyTokens, Plain}}
-use Rattle.t1_subset.specs.{declared.conflict.Conflict.{Conflict}, declared.conflict.Conflict.TheVariants.{Memory}, Merger.{NotMerged}, Callers.{same_charstring}}
+use Rattle.t1_subset.specs.{declared.fault.RejoinFault.{RejoinFault}, declared.fault.RejoinFault.TheVariants.{Lacks, Merge}}
+use Rattle.t1_subset.specs.{declared.conflict.Conflict.{Conflict}, declared.conflict.Conflict.TheVariants.{Memory}, Merger.{NotMerged, FirstShare}, References.{same_charstring}}
 use Rattle.t1_run.specs.declared.budget.Stop.TheVariants as stop
 use Rattle.std.specs.FinMap as maps
 use Rattle.std.specs.FinSet as sets
@@ -65,6 +66,17 @@ OnPlain (Err TooManyTokens) P = Unit {0}
 abbrev pub stopped : {E : Type 0} → Stop → E → BudgetFault E
 stopped stop.TooManyTokens memory = TooManyTokens
 stopped stop.Memory memory = Plain memory
+
+-- Fonts that don't merge, though the first two share what they have to, had the longer runs of their glyphs executed, which were allowed; or memory was
+-- refused.
+abbrev pub TriesWithin : Option ℕ → List FontValue → Conflict → Type 0
+TriesWithin left fs e = FirstShare fs → (e ≡ Memory) ⊎ IsEnough left (fonts_least fs)
+
+-- The same of fonts that are filled with stubs, whose glyphs are run before. A lack of a Subr is told by the runs up to it, and a font that is too heavy
+-- with its stubs may be told without a run.
+abbrev pub RejoinTriesWithin : Option ℕ → List FontValue → RejoinFault → Type 0
+RejoinTriesWithin left fs (Lacks glyph index) = Unit {0}
+RejoinTriesWithin left fs (Merge e) = AreLight (filled_all fs) → (e ≡ Memory) ⊎ IsEnough left (fonts_least fs)
 
 -- What one or more fonts come to, or why they don't merge.
 abbrev pub IsMergerOf : List FontValue → Result FontValue Conflict → Type 0

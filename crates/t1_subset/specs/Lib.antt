@@ -3,11 +3,12 @@ pub mod NameSets
 pub mod ClosureNames
 pub mod Calls
 pub mod Users
-pub mod Callers
+pub mod References
 pub mod Clashes
 pub mod Refusals
 pub mod Lacks
 pub mod Merger
 pub mod Budgets
+pub mod LastRuns
 pub mod FaultTexts
 pub mod Rejoins

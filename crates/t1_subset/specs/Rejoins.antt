@@ -1,6 +1,6 @@
 -- What fonts rejoin to: each is filled with stubs where it lacks a Subr that another has, and they merge.
 use Rattle.std.specs.{Prelude.{◌≡◌, ◌⊎◌, List, Option, Some, None}, Option.{option_map, unwrap_or}}
-use Rattle.t1_font.specs.{FontValue.{FontValue}, Evening.{filled_all}, Filling.{AreLight, AnyHeavy}}
+use Rattle.t1_font.specs.{FontValue.{FontValue}, Normalizing.{filled_all}, Filling.{AreLight, AnyHeavy}}
 use Rattle.t1_algebra.specs.{Conflicts.{Conflict as FontConflict, ShellDiffers, OverLimit, shells_conflict}, Lacks.{Lack, first_lack}, Merges.{ComesTo}}
 use Rattle.t1_subset.specs.{declared.conflict.Conflict.{Conflict}, declared.conflict.Conflict.TheVariants.{Memory}, declared.fault.RejoinFault.{RejoinFault}}
 use Rattle.t1_subset.specs.{declared.fault.RejoinFault.TheVariants.{Lacks, Merge}, Refusals.{Tells}, Merger.{NotMerged}}

@@ -1,12 +1,10 @@
 //! Why a call within a budget of tokens has no answer.
 
 ghost use Rattle.std.specs.Prelude.{◌≡◌};
-ghost use Rattle.t1_subset.specs.Budgets.{stopped};
-ghost use Rattle.t1_subset.specs.FaultTexts.{text_within};
+ghost use Rattle.t1_subset.specs.{Budgets.{stopped}, FaultTexts.{text_within}, declared.fault.RejoinFault.TheVariants.{Merge}};
+ghost use Rattle.t1_subset.specs.declared.budgets.BudgetFault.TheVariants.{Plain};
 ghost use Rattle.t1_subset.specs.declared.conflict.Conflict.TheVariants as conflict;
 ghost use Rattle.t1_subset.specs.declared.fault.SubsetFault.TheVariants as subset;
-ghost use Rattle.t1_subset.specs.declared.fault.RejoinFault.TheVariants.{Merge};
-ghost use Rattle.t1_subset.specs.declared.budgets.BudgetFault.TheVariants.{Plain};
 
 use crate::conflict::Conflict;
 use crate::fault::{RejoinFault, SubsetFault};

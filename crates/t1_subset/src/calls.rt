@@ -1,17 +1,15 @@
 //! What the run of a glyph comes to: the Subrs that it executes, and the components that it names.
 
 ghost use Rattle.std.specs.Prelude.{◌≡◌, ℕ, List, Some, IfOk, IfErr, OnOk, ◌∷◌, [], map};
+ghost use Rattle.t1_algebra.specs.{Profile.{profile, set_of}, Keep.{components, charstring}};
+ghost use Rattle.t1_run.specs.{Budgets.{Takes, HasFewer}, declared.budget.Stop.TheVariants.{TooManyTokens}};
+ghost use Rattle.t1_subset.specs.Budgets.{longer_tokens, glyph_tokens};
 ghost use Rattle.std.specs.FinMap as maps;
 ghost use Rattle.std.specs.FinSet as sets;
-ghost use Rattle.t1_algebra.specs.Profile.{profile, set_of};
-ghost use Rattle.t1_algebra.specs.Keep.{components, charstring};
-ghost use Rattle.t1_run.specs.Budgets.{Takes, HasFewer};
-ghost use Rattle.t1_run.specs.declared.budget.Stop.TheVariants.{TooManyTokens};
-ghost use Rattle.t1_subset.specs.Budgets.{longer_tokens, glyph_tokens};
 
 use std::alloc::{AllocError, Global};
 use t1_font::Font;
-use t1_run::{Budget, Called, Glyphs, Stop, parts_and_executed_within};
+use t1_run::{Budget, Glyphs, Stop, SubrSet, parts_and_executed_within};
 
 /// The components that the runs of a charstring name, within a budget. The Subrs that the runs execute are added to `calls`. Each glyph
 /// that has the charstring names and executes these.
@@ -19,7 +17,7 @@ fn run(
     alloc: Global,
     font: &Font<'_>,
     body: &[u8],
-    calls: &mut Called,
+    calls: &mut SubrSet,
     budget: &mut Budget,
 ) -> Result<Vec<&'static str>, Stop>
     ensures components { IfOk result (λ names. (n : List ℕ)
@@ -47,7 +45,7 @@ pub(crate) fn run_of(
     alloc: Global,
     font: &Font<'_>,
     name: &[u8],
-    calls: &mut Called,
+    calls: &mut SubrSet,
     budget: &mut Budget,
 ) -> Result<Vec<&'static str>, Stop>
     ensures components { IfOk result (λ names. map (λ s. s.now) names.items
@@ -72,7 +70,7 @@ pub(crate) fn run_alone(
     alloc: Global,
     font: &Font<'_>,
     body: &[u8],
-    calls: &mut Called,
+    calls: &mut SubrSet,
     budget: &mut Budget,
 ) -> Result<Vec<&'static str>, Stop>
     ensures components { IfOk result (λ names. (n : List ℕ)
@@ -95,10 +93,10 @@ pub(crate) fn run_alone(
 
 /// The indices 0 to 3, which stand in for the PostScript of flex and hint replacement and are always kept
 /// (Adobe Type 1 Font Format 1.1, chapter 8).
-pub(crate) fn first_four(alloc: Global) -> Result<Called, AllocError>
+pub(crate) fn first_four(alloc: Global) -> Result<SubrSet, AllocError>
     ensures { IfOk result (λ calls. calls ≡ 0 ∷ 1 ∷ 2 ∷ 3 ∷ []) }
 {
-    let mut calls = Called::new(alloc);
+    let mut calls = SubrSet::new(alloc);
     calls.insert(0)?;
     calls.insert(1)?;
     calls.insert(2)?;

@@ -1,10 +1,8 @@
 //! The names of a closure in the order in which they were met: its work list.
 
-ghost use Rattle.std.specs.Prelude.{◌≡◌, OnOk, List, ℕ, [], map, filter, slice_get};
-ghost use Rattle.std.specs.Option.{option_map};
+ghost use Rattle.std.specs.{Prelude.{◌≡◌, OnOk, List, ℕ, [], map, filter, slice_get}, Option.{option_map}};
 ghost use Rattle.t1_algebra.specs.Keep.{has};
-ghost use Rattle.t1_subset.specs.ClosureNames.{push_new, push_all};
-ghost use Rattle.t1_subset.specs.NameSets.{lent};
+ghost use Rattle.t1_subset.specs.{ClosureNames.{push_new, push_all}, NameSets.{lent}};
 
 use indexmap::IndexSet;
 use std::alloc::{AllocError, Global};
@@ -21,8 +19,7 @@ pub(crate) struct ClosureNames<'a> {
 
 impl<'a> Model for ClosureNames<'a> {
     ghost use Rattle.std.specs.Prelude.{List, ℕ};
-    ghost use Rattle.t1_subset.specs.ClosureNames.{closure_code};
-    ghost use Rattle.t1_subset.specs.NameSets.{lent};
+    ghost use Rattle.t1_subset.specs.{ClosureNames.{closure_code}, NameSets.{lent}};
 
     ghost Value = { List (List ℕ) };
 

@@ -1,19 +1,12 @@
 //! The closure of a set of names.
 
-ghost use Rattle.std.specs.Prelude.{◌≡◌, IfOk, IfErr, OnOk, None, not};
-ghost use Rattle.std.specs.Option.{option_map};
-ghost use Rattle.std.specs.List.Sorted.{IsStrictlySortedBy};
-ghost use Rattle.std.specs.List.{find};
+ghost use Rattle.std.specs.{Prelude.{◌≡◌, IfOk, IfErr, OnOk, None, not}, Option.{option_map}, List.Sorted.{IsStrictlySortedBy}, List.{find}};
 ghost use Rattle.t1_font.specs.FontValue.{name_cmp};
-ghost use Rattle.t1_algebra.specs.Profile.{profile};
-ghost use Rattle.t1_algebra.specs.Keep.{has, keep, kept, IsOf};
-ghost use Rattle.t1_subset.specs.Calls.{number_set};
-ghost use Rattle.t1_subset.specs.NameSets.{listed_names, lent, asked, set_by};
-ghost use Rattle.t1_subset.specs.Refusals.{Absent};
+ghost use Rattle.t1_algebra.specs.{Profile.{profile}, Keep.{has, keep, kept, IsOf}};
+ghost use Rattle.t1_subset.specs.{Calls.{number_set}, NameSets.{listed_names, lent, asked, set_by}, Refusals.{Absent}};
+ghost use Rattle.t1_subset.specs.{declared.budgets.BudgetFault.TheVariants.{TooManyTokens}, Budgets.{kept_longer, kept_tokens, IsEnough, OnPlain}};
 ghost use Rattle.t1_run.specs.Budgets.{HasFewer};
 ghost use Rattle.t1_run.specs.declared.budget.Stop.TheVariants as stop;
-ghost use Rattle.t1_subset.specs.declared.budgets.BudgetFault.TheVariants.{TooManyTokens};
-ghost use Rattle.t1_subset.specs.Budgets.{kept_longer, kept_tokens, IsEnough, OnPlain};
 
 use crate::budgets::BudgetFault;
 use crate::closure_names::has_glyph;

@@ -1,27 +1,18 @@
 //! All conflicts of two fonts.
 
-ghost use Rattle.std.specs.Prelude.{◌≡◌, ◌↔◌, [], ◌∷◌, ◌++◌, ◌||◌, not, cond, map, filter, IfOk, IfErr, OnOk, IsTrue};
-ghost use Rattle.std.specs.Option.{option_map};
-ghost use Rattle.std.specs.FinMap as maps;
+ghost use Rattle.std.specs.{Prelude.{◌≡◌, ◌↔◌, [], ◌∷◌, ◌||◌, not, cond, map, filter, IfOk, IfErr, OnOk, IsTrue}, Option.{option_map}};
 ghost use Rattle.t1_join.specs.Meaning.{of_number};
-ghost use Rattle.t1_join.specs.TableMeaning.{TableMeaning};
-ghost use Rattle.t1_algebra.specs.Profile.{profile};
-ghost use Rattle.t1_algebra.specs.Searches.{passing};
-ghost use Rattle.t1_algebra.specs.Shared.{same_part};
-ghost use Rattle.t1_algebra.specs.Keep.{has};
-ghost use Rattle.t1_algebra.specs.States.{Join};
-ghost use Rattle.t1_algebra.specs.Conflicts.{ShellDiffers, CodeDiffers, GlyphDiffers, agrees, codes_of_both, keys_of_both, code_clashes, glyph_clashes, glyphs_of_both};
-ghost use Rattle.t1_algebra.specs.Conflicts.{component_clashes, subr_clashes, lacks_component, subr_differs, states_conflicts, conflicts};
-ghost use Rattle.t1_run.specs.Budgets.{Takes, HasFewer};
-ghost use Rattle.t1_run.specs.declared.budget.Stop.TheVariants.{TooManyTokens};
-ghost use Rattle.t1_subset.specs.Budgets.{font_least, font_tokens, fonts_least, fonts_tokens, IsEnough};
-ghost use Rattle.t1_subset.specs.Differences.{shell_part};
-ghost use Rattle.t1_subset.specs.Callers.{IsNoted};
+ghost use Rattle.t1_algebra.specs.{Profile.{profile}, Searches.{passing}, Shared.{same_part}, Keep.{has}, States.{Join}};
+ghost use Rattle.t1_algebra.specs.Conflicts.{ShellDiffers, CodeDiffers, GlyphDiffers, agrees, codes_of_both, keys_of_both, code_clashes, glyph_clashes};
+ghost use Rattle.t1_algebra.specs.Conflicts.{glyphs_of_both, component_clashes, subr_clashes, lacks_component, subr_differs, states_conflicts, conflicts};
+ghost use Rattle.t1_run.specs.{Budgets.{Takes, HasFewer}, declared.budget.Stop.TheVariants.{TooManyTokens}};
+ghost use Rattle.t1_subset.specs.{Budgets.{font_least, font_tokens, fonts_least, fonts_tokens, IsEnough}, Differences.{shell_part}, References.{IsNoted}};
 ghost use Rattle.t1_subset.specs.Refusals.{Adds, AddsOne, TellEach};
+ghost use Rattle.std.specs.FinMap as maps;
 
-use crate::callers::{Callers, seeker_in, smaller};
 use crate::closure_names::has_glyph;
 use crate::conflict::{Conflict, ShellPart};
+use crate::references::{References, seeker_in, smaller};
 use crate::searches::{glyph_differs, lacks_component, subr_differs};
 use crate::shared::{PARTS, Shared, same_bytes, same_part};
 use crate::state_making::note_font;
@@ -29,41 +20,31 @@ use crate::state_value::States;
 use crate::users::user_in;
 use std::alloc::{AllocError, Global};
 use t1_font::Font;
-use t1_join::{Join, Table};
+use t1_join::{Join, Table, push_item};
 use t1_run::{Budget, Stop};
 
-/// A font's callers and states.
+/// A font's references and states.
 #[derive(Drop)]
 struct Side<'t, 'a> {
-    callers: Callers<'t, 'a>,
+    references: References<'t, 'a>,
     states: States<'a>,
 }
 
-/// The callers and the states of a font, within a budget. Each glyph of the font is run once.
+/// The references and the states of a font, within a budget. Each glyph of the font is run once.
 fn side_of<'t, 'a>(
     alloc: Global,
     font: &'t Font<'a>,
     budget: &mut Budget,
 ) -> Result<Side<'t, 'a>, Stop>
-    ensures font { IfOk result (λ side. side.callers.font.now ≡ font.now) }
-    ensures noted { IfOk result (λ side. IsNoted side.callers side.states) }
+    ensures font { IfOk result (λ side. side.references.font.now ≡ font.now) }
+    ensures noted { IfOk result (λ side. IsNoted side.references side.states) }
     ensures takes { OnOk result (Takes (font_least font.now) (font_tokens font.now) budget.old.left budget.new.left) }
     ensures refused { IfErr result (λ e. e ≡ TooManyTokens
         → HasFewer budget.old.left (font_tokens font.now)) }
 {
     font.proof_is_font();
-    let (callers, states) = note_font(alloc, font, Shared::of(alloc, font)?, budget)?;
-    Ok(Side { callers, states })
-}
-
-/// One more conflict.
-fn keep(all: &mut Vec<Conflict>, conflict: Conflict) -> Result<(), AllocError>
-    ensures { OnOk result (all.new.items ≡ all.old.items ++ conflict ∷ []) }
-{
-    match all.push(conflict) {
-        Ok(_) => Ok(()),
-        Err(_) => Err(AllocError),
-    }
+    let (references, states) = note_font(alloc, font, Shared::of(alloc, font)?, budget)?;
+    Ok(Side { references, states })
 }
 
 /// Adds a conflict, unless it is want of memory.
@@ -72,7 +53,7 @@ fn add(all: &mut Vec<Conflict>, conflict: Conflict) -> Result<(), AllocError>
 {
     match conflict {
         Conflict::Memory => Err(AllocError),
-        conflict => keep(all, conflict),
+        conflict => push_item(all, conflict),
     }
 }
 
@@ -163,11 +144,11 @@ fn add_codes(
     own: &Side<'_, '_>,
     other: &Side<'_, '_>,
 ) -> Result<(), AllocError>
-    requires own { IsNoted own.now.callers own.now.states }
-    requires other { IsNoted other.now.callers other.now.states }
+    requires own { IsNoted own.now.references own.now.states }
+    requires other { IsNoted other.now.references other.now.states }
     ensures { OnOk result (Adds all.old.items all.new.items
-        (map CodeDiffers (passing (code_clashes own.now.callers.font.now other.now.callers.font.now)
-        (codes_of_both own.now.callers.font.now.encoding other.now.callers.font.now.encoding)))) }
+        (map CodeDiffers (passing (code_clashes own.now.references.font.now other.now.references.font.now)
+        (codes_of_both own.now.references.font.now.encoding other.now.references.font.now.encoding)))) }
 {
     let names = own.states.codes();
     let others = other.states.codes();
@@ -226,18 +207,18 @@ fn add_component(
     other: &Side<'_, '_>,
     component: &[u8],
 ) -> Result<(), AllocError>
-    requires own { IsNoted own.now.callers own.now.states }
-    requires other { IsNoted other.now.callers other.now.states }
+    requires own { IsNoted own.now.references own.now.states }
+    requires other { IsNoted other.now.references other.now.states }
     ensures { OnOk result (Adds all.old.items all.new.items
-        (cond (component_clashes profile own.now.callers.font.now other.now.callers.font.now component.now)
-        (lacks_component profile own.now.callers.font.now other.now.callers.font.now component.now ∷ []) [])) }
+        (cond (component_clashes profile own.now.references.font.now other.now.references.font.now component.now)
+        (lacks_component profile own.now.references.font.now other.now.references.font.now component.now ∷ []) [])) }
 {
-    if !is_in_either(own.callers.font, other.callers.font, component) {
+    if !is_in_either(own.references.font, other.references.font, component) {
         return Ok(());
     }
     let seeker = smaller(
-        seeker_in(&own.callers.seekers, component),
-        seeker_in(&other.callers.seekers, component),
+        seeker_in(&own.references.seekers, component),
+        seeker_in(&other.references.seekers, component),
     );
     match seeker {
         Some(glyph) => add(all, lacks_component(alloc, Some(glyph), component)),
@@ -252,14 +233,17 @@ fn add_components(
     own: &Side<'_, '_>,
     other: &Side<'_, '_>,
 ) -> Result<(), AllocError>
-    requires own { IsNoted own.now.callers own.now.states }
-    requires other { IsNoted other.now.callers other.now.states }
+    requires own { IsNoted own.now.references own.now.states }
+    requires other { IsNoted other.now.references other.now.states }
     ensures { OnOk result (Adds all.old.items all.new.items
-        (map (lacks_component profile own.now.callers.font.now other.now.callers.font.now)
-        (passing (component_clashes profile own.now.callers.font.now other.now.callers.font.now)
-        (glyphs_of_both own.now.callers.font.now other.now.callers.font.now)))) }
+        (map (lacks_component profile own.now.references.font.now other.now.references.font.now)
+        (passing (component_clashes profile own.now.references.font.now other.now.references.font.now)
+        (glyphs_of_both own.now.references.font.now other.now.references.font.now)))) }
 {
-    let sought = own.callers.seekers.entries_with(&other.callers.seekers);
+    let sought = own
+        .references
+        .seekers
+        .entries_with(&other.references.seekers);
     'sought: for (component, _) in sought {
         add_component(alloc, all, own, other, component)?;
     }
@@ -274,18 +258,18 @@ fn add_subr(
     other: &Side<'_, '_>,
     index: u16,
 ) -> Result<(), AllocError>
-    requires own { IsNoted own.now.callers own.now.states }
-    requires other { IsNoted other.now.callers other.now.states }
+    requires own { IsNoted own.now.references own.now.states }
+    requires other { IsNoted other.now.references other.now.states }
     ensures { OnOk result (Adds all.old.items all.new.items
-        (cond (subr_clashes profile own.now.callers.font.now other.now.callers.font.now index)
-        (subr_differs profile own.now.callers.font.now other.now.callers.font.now index ∷ []) [])) }
+        (cond (subr_clashes profile own.now.references.font.now other.now.references.font.now index)
+        (subr_differs profile own.now.references.font.now other.now.references.font.now index ∷ []) [])) }
 {
     if !clash_at(own.states.subrs(), other.states.subrs(), index) {
         return Ok(());
     }
     let user = smaller(
-        user_in(&own.callers.users, index),
-        user_in(&other.callers.users, index),
+        user_in(&own.references.users, index),
+        user_in(&other.references.users, index),
     );
     add(all, subr_differs(alloc, index, user))
 }
@@ -297,14 +281,14 @@ fn add_subrs(
     own: &Side<'_, '_>,
     other: &Side<'_, '_>,
 ) -> Result<(), AllocError>
-    requires own { IsNoted own.now.callers own.now.states }
-    requires other { IsNoted other.now.callers other.now.states }
+    requires own { IsNoted own.now.references own.now.states }
+    requires other { IsNoted other.now.references other.now.states }
     ensures { OnOk result (Adds all.old.items all.new.items
-        (map (subr_differs profile own.now.callers.font.now other.now.callers.font.now)
-        (passing (subr_clashes profile own.now.callers.font.now other.now.callers.font.now)
-        (keys_of_both own.now.callers.font.now.subrs other.now.callers.font.now.subrs)))) }
+        (map (subr_differs profile own.now.references.font.now other.now.references.font.now)
+        (passing (subr_clashes profile own.now.references.font.now other.now.references.font.now)
+        (keys_of_both own.now.references.font.now.subrs other.now.references.font.now.subrs)))) }
 {
-    'indices: for index in own.callers.font.indices() {
+    'indices: for index in own.references.font.indices() {
         add_subr(alloc, all, own, other, index)?;
     }
     Ok(())
@@ -316,15 +300,15 @@ fn states_conflicts(
     own: &Side<'_, '_>,
     other: &Side<'_, '_>,
 ) -> Result<Vec<Conflict>, AllocError>
-    requires own { IsNoted own.now.callers own.now.states }
-    requires other { IsNoted other.now.callers other.now.states }
+    requires own { IsNoted own.now.references own.now.states }
+    requires other { IsNoted other.now.references other.now.states }
     ensures { IfOk result (λ all. TellEach all.items
-        (states_conflicts profile own.now.callers.font.now other.now.callers.font.now)) }
+        (states_conflicts profile own.now.references.font.now other.now.references.font.now)) }
 {
     let mut all = Vec::new(alloc);
     add_parts(&mut all, own.states.shared(), other.states.shared(), &PARTS)?;
     add_codes(&mut all, own, other)?;
-    add_glyphs(alloc, &mut all, own.callers.font, other.callers.font)?;
+    add_glyphs(alloc, &mut all, own.references.font, other.references.font)?;
     add_components(alloc, &mut all, own, other)?;
     add_subrs(alloc, &mut all, own, other)?;
     Ok(all)
@@ -346,10 +330,10 @@ fn all_conflicts(
     own: &Side<'_, '_>,
     other: &Side<'_, '_>,
 ) -> Result<Vec<Conflict>, AllocError>
-    requires own { IsNoted own.now.callers own.now.states }
-    requires other { IsNoted other.now.callers other.now.states }
+    requires own { IsNoted own.now.references own.now.states }
+    requires other { IsNoted other.now.references other.now.states }
     ensures { IfOk result (λ all. TellEach all.items
-        (conflicts profile own.now.callers.font.now other.now.callers.font.now)) }
+        (conflicts profile own.now.references.font.now other.now.references.font.now)) }
 {
     let mut all = states_conflicts(alloc, own, other)?;
     if !is_none(all.as_slice()) {
@@ -358,7 +342,7 @@ fn all_conflicts(
     if own.states.agrees(&other.states) {
         return Ok(all);
     }
-    keep(&mut all, Conflict::Limit)?;
+    push_item(&mut all, Conflict::Limit)?;
     Ok(all)
 }
 

@@ -57,8 +57,7 @@ impl std::error::Error for RejoinFault {}
 
 impl From<AllocError> for RejoinFault {
     ghost use Rattle.std.specs.Prelude.{◌≡◌};
-    ghost use Rattle.t1_subset.specs.declared.conflict.Conflict.TheVariants.{Memory};
-    ghost use Rattle.t1_subset.specs.declared.fault.RejoinFault.TheVariants.{Merge};
+    ghost use Rattle.t1_subset.specs.{declared.conflict.Conflict.TheVariants.{Memory}, declared.fault.RejoinFault.TheVariants.{Merge}};
 
     ghost from_gives = { λ _ e. e ≡ Merge Memory };
 

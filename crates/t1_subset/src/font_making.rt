@@ -2,20 +2,18 @@
 
 ghost use Rattle.std.specs.Prelude.{◌≡◌, IfOk};
 ghost use Rattle.t1_font.specs.Maps.{map_values};
-ghost use Rattle.t1_algebra.specs.Profile.{profile};
-ghost use Rattle.t1_algebra.specs.StateTables.{numbered, state_or_stub, states_of};
-ghost use Rattle.t1_algebra.specs.Merges.{AreOfFont};
+ghost use Rattle.t1_algebra.specs.{Profile.{profile}, StateTables.{numbered, state_or_stub, states_of}, Merges.{AreOfFont}};
 
 use crate::state_value::States;
 use std::alloc::{AllocError, Global};
-use t1_font::{Font, Numbered, STUB};
+use t1_font::{Font, STUB, SparseArray};
 use t1_join::Table;
 
 /// The same table, as the tables of fonts are.
-fn by_number<'a>(table: Table<u16, &'a [u8]>) -> Numbered<'a>
+fn by_number<'a>(table: Table<u16, &'a [u8]>) -> SparseArray<'a>
     ensures { numbered result ≡ table.entry }
 {
-    Numbered::made(table.into_entries())
+    SparseArray::made(table.into_entries())
 }
 
 /// The state of a Subr, or a stub if it has none.
@@ -31,16 +29,16 @@ fn state_or_stub<'a>(states: &Table<u16, &'a [u8]>, index: u16) -> &'a [u8]
 /// The Subrs at the indices of a table: their states, and stubs for those that have none.
 fn with_stubs<'a>(
     alloc: Global,
-    present: &Numbered<'_>,
+    present: &SparseArray<'_>,
     states: &Table<u16, &'a [u8]>,
-) -> Result<Numbered<'a>, AllocError>
+) -> Result<SparseArray<'a>, AllocError>
     ensures { IfOk result (λ m. m ≡ map_values (λ i c. state_or_stub states.now i) present.now) }
 {
     let mut all = Vec::with_capacity(alloc, present.len())?;
     'present: for (index, _) in present.entries() {
         all.push((index, state_or_stub(states, index)))?;
     }
-    Ok(Numbered::made(all))
+    Ok(SparseArray::made(all))
 }
 
 impl<'a> States<'a> {

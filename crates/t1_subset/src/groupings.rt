@@ -1,22 +1,14 @@
 //! Many fonts at once: whether the first two share what they have to, and what is noted of each.
 
-ghost use Rattle.std.specs.Prelude.{◌≡◌, ◌++◌, ◌∷◌, [], IfOk, IfErr, OnOk, None, map};
-ghost use Rattle.std.specs.List.{AllByRecursion};
+ghost use Rattle.std.specs.{Prelude.{◌≡◌, ◌++◌, ◌∷◌, [], IfOk, IfErr, OnOk, None, map}, List.{AllByRecursion}, Option.{option_map}};
 ghost use Rattle.t1_font.specs.IsFont.{IsFont};
-ghost use Rattle.t1_algebra.specs.Profile.{profile};
-ghost use Rattle.std.specs.Option.{option_map};
-ghost use Rattle.t1_algebra.specs.Conflicts.{shell_conflict, conflict, shell_conflict_among, shells_conflict};
-ghost use Rattle.t1_subset.specs.Differences.{shell_part};
-ghost use Rattle.t1_algebra.specs.StateTables.{states_of};
-ghost use Rattle.t1_subset.specs.Callers.{AreNoted, fonts_of};
-ghost use Rattle.t1_subset.specs.Merger.{NotMerged, FirstShare};
-ghost use Rattle.t1_subset.specs.Refusals.{Tells};
-ghost use Rattle.t1_run.specs.Budgets.{Takes, HasFewer};
-ghost use Rattle.t1_run.specs.declared.budget.Stop.TheVariants.{TooManyTokens};
-ghost use Rattle.t1_subset.specs.Budgets.{fonts_least, fonts_tokens};
+ghost use Rattle.t1_algebra.specs.{Profile.{profile}, Conflicts.{shell_conflict, conflict, shell_conflict_among, shells_conflict}, StateTables.{states_of}};
+ghost use Rattle.t1_subset.specs.{Differences.{shell_part}, References.{AreNoted, fonts_of}, Merger.{NotMerged, FirstShare}, Refusals.{Tells}};
+ghost use Rattle.t1_subset.specs.{declared.conflict.Conflict.TheVariants.{Memory}, Budgets.{fonts_least, fonts_tokens}};
+ghost use Rattle.t1_run.specs.{Budgets.{Takes, HasFewer}, declared.budget.Stop.TheVariants.{TooManyTokens}};
 
-use crate::callers::Callers;
 use crate::conflict::{Conflict, ShellPart};
+use crate::references::References;
 use crate::searches::one_shell;
 use crate::shared::Shared;
 use crate::state_making::note_font;
@@ -60,6 +52,7 @@ pub(crate) fn both_lent<'t, 'a>(
 fn share(alloc: Global, left: &Font<'_>, right: &Font<'_>) -> Result<(), Conflict>
     ensures ok { IfOk result (λ _. shell_conflict left.now right.now ≡ None) }
     ensures err { IfErr result (λ e. Tells e (conflict profile left.now right.now)) }
+    ensures memory { IfErr result (λ e. shell_conflict left.now right.now ≡ None → e ≡ Memory) }
 {
     let own = Shared::of(alloc, left)?;
     let other = Shared::of(alloc, right)?;
@@ -70,6 +63,7 @@ fn share(alloc: Global, left: &Font<'_>, right: &Font<'_>) -> Result<(), Conflic
 pub(crate) fn first_share(alloc: Global, fonts: &[&Font<'_>]) -> Result<(), Conflict>
     ensures ok { IfOk result (λ _. FirstShare (map (λ f. f.now) fonts.now)) }
     ensures err { IfErr result (λ e. NotMerged (map (λ f. f.now) fonts.now) e) }
+    ensures memory { IfErr result (λ e. FirstShare (map (λ f. f.now) fonts.now) → e ≡ Memory) }
 {
     match fonts {
         [first, second, ..] => share(alloc, first, second),
@@ -92,7 +86,7 @@ fn shells_differ(alloc: Global, own: &Font<'_>, fonts: &[Font<'_>]) -> Option<Sh
 
 /// The first part in which the first of the fonts whose shell differs from that of the first font differs from it, whichever
 /// Subrs are present. No glyph is run.
-pub fn shells_conflict(alloc: Global, fonts: &[Font<'_>]) -> Option<ShellPart>
+pub(crate) fn shells_conflict(alloc: Global, fonts: &[Font<'_>]) -> Option<ShellPart>
     ensures { option_map shell_part result ≡ shells_conflict fonts.now }
 {
     match fonts {
@@ -101,27 +95,27 @@ pub fn shells_conflict(alloc: Global, fonts: &[Font<'_>]) -> Option<ShellPart>
     }
 }
 
-/// Adds the callers and the states of one more font.
+/// Adds the references and the states of one more font.
 pub(crate) fn keep<'t, 'a>(
-    callers: &mut Vec<Callers<'t, 'a>>,
+    references: &mut Vec<References<'t, 'a>>,
     states: &mut Vec<States<'a>>,
-    own: Callers<'t, 'a>,
+    own: References<'t, 'a>,
     state: States<'a>,
 ) -> Result<(), AllocError>
-    ensures callers { OnOk result (callers.new.items ≡ callers.old.items ++ own.entry ∷ []) }
+    ensures references { OnOk result (references.new.items ≡ references.old.items ++ own.entry ∷ []) }
     ensures states { OnOk result (states.new.items ≡ states.old.items ++ state.entry ∷ []) }
 {
-    callers.push(own)?;
+    references.push(own)?;
     states.push(state)?;
     Ok(())
 }
 
-/// The callers of each of the fonts, and its states, within a budget.
+/// The references of each of the fonts, and its states, within a budget.
 pub(crate) fn note_fonts<'t, 'a>(
     alloc: Global,
     fonts: &[&'t Font<'a>],
     budget: &mut Budget,
-) -> Result<(Vec<Callers<'t, 'a>>, Vec<States<'a>>), Stop>
+) -> Result<(Vec<References<'t, 'a>>, Vec<States<'a>>), Stop>
     ensures fonts { IfOk result (λ n. fonts_of n.0.items ≡ map (λ f. f.now) fonts.now) }
     ensures noted { IfOk result (λ n. AreNoted n.0.items) }
     ensures states { IfOk result (λ n. n.1.items ≡ map (states_of profile) (fonts_of n.0.items)) }
@@ -130,12 +124,12 @@ pub(crate) fn note_fonts<'t, 'a>(
     ensures refused { IfErr result (λ e. e ≡ TooManyTokens
         → HasFewer budget.old.left (fonts_tokens (map (λ f. f.now) fonts.now))) }
 {
-    let mut callers = Vec::with_capacity(alloc, fonts.len())?;
+    let mut references = Vec::with_capacity(alloc, fonts.len())?;
     let mut states = Vec::with_capacity(alloc, fonts.len())?;
     'fonts: for font in fonts {
         font.proof_is_font();
         let (own, state) = note_font(alloc, font, Shared::of(alloc, font)?, budget)?;
-        keep(&mut callers, &mut states, own, state)?;
+        keep(&mut references, &mut states, own, state)?;
     }
-    Ok((callers, states))
+    Ok((references, states))
 }

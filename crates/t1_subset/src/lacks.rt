@@ -1,28 +1,24 @@
 //! Glyphs that execute a Subr that their font lacks and that another font of a list has.
 
-ghost use Rattle.std.specs.Prelude.{◌≡◌, ◌<◌, ℕ, IfOk, IfErr, OnOk};
-ghost use Rattle.std.specs.Option.{option_map};
+ghost use Rattle.std.specs.{Prelude.{◌≡◌, ◌<◌, ℕ, IfOk, IfErr, OnOk}, Option.{option_map}};
 ghost use Rattle.t1_font.specs.FontValue.{declared_count};
 ghost use Rattle.t1_algebra.specs.Lacks.{user_of, is_had, lack_at, lack_in, first_lack};
-ghost use Rattle.t1_subset.specs.Lacks.{lack_view, have_same_subrs};
-ghost use Rattle.t1_subset.specs.Users.{noted_at};
-ghost use Rattle.t1_run.specs.Budgets.{Takes, HasFewer};
-ghost use Rattle.t1_run.specs.declared.budget.Stop.TheVariants.{TooManyTokens};
-ghost use Rattle.t1_subset.specs.Budgets.{font_least, font_tokens, fonts_tokens};
+ghost use Rattle.t1_subset.specs.{Lacks.{lack_view, have_same_subrs}, Users.{user_at}, Budgets.{font_least, font_tokens, fonts_tokens}};
+ghost use Rattle.t1_run.specs.{Budgets.{Takes, HasFewer}, declared.budget.Stop.TheVariants.{TooManyTokens}};
 
 use crate::state_making::uses_of;
-use crate::users::{Noted, noted_below, noted_user};
-use std::alloc::{AllocError, Global};
+use crate::users::{UserArray, places_below, user_of_array};
+use std::alloc::Global;
 use t1_font::Font;
 use t1_run::{Budget, Stop, Subroutines};
 
 /// A Subr that a glyph executes, that its font declares and lacks, and that another font has.
 #[derive(Clone, Copy, PartialEq, Eq, Debug)]
-pub struct Lack<'a> {
+pub(crate) struct Lack<'a> {
     /// The index of the Subr.
-    pub index: u16,
+    pub(crate) index: u16,
     /// The name of the glyph.
-    pub glyph: &'a [u8],
+    pub(crate) glyph: &'a [u8],
 }
 
 /// Whether one of the fonts has a Subr at the index.
@@ -71,15 +67,15 @@ fn lack_at<'a>(
 pub(crate) fn lack_by<'a>(
     fonts: &[Font<'a>],
     font: &Font<'a>,
-    users: &Noted<'a>,
+    users: &UserArray<'a>,
 ) -> Option<Lack<'a>>
     requires { (i : ℕ)
         → i < declared_count font.now.shell.subrs
-        → noted_at users.now.items i ≡ user_of font.now i }
+        → user_at users.now.items i ≡ user_of font.now i }
     ensures { option_map lack_view result ≡ lack_in fonts.now font.now }
 {
-    'indices: for index in 0..noted_below(users, font.count()) {
-        let lack = lack_at(fonts, font, noted_user(users, index), index);
+    'indices: for index in 0..places_below(users, font.count()) {
+        let lack = lack_at(fonts, font, user_of_array(users, index), index);
         if lack.is_some() {
             return lack;
         }
@@ -104,8 +100,11 @@ fn lack_in<'a>(
     Ok(lack_by(fonts, font, &uses.users))
 }
 
-/// The first lack of a Subr, as [`first_lack`] says, within a budget.
-pub(crate) fn first_lack_within<'a>(
+/// The first of the fonts that has a glyph that executes a Subr that the font declares and lacks and that another of the fonts has:
+/// the smallest such index, and the smallest such glyph. If a stub stood there, the glyph would draw something else.
+///
+/// If all fonts have Subrs at the same indices, none lacks any, and no glyph is run.
+pub(crate) fn first_lack<'a>(
     alloc: Global,
     fonts: &[Font<'a>],
     budget: Budget,
@@ -126,21 +125,4 @@ pub(crate) fn first_lack_within<'a>(
         }
     }
     Ok(None)
-}
-
-/// The first of the fonts that has a glyph that executes a Subr that the font declares and lacks and that another of the fonts has:
-/// the smallest such index, and the smallest such glyph. If a stub stood there, the glyph would draw something else.
-///
-/// If all fonts have Subrs at the same indices, none lacks any, and no glyph is run.
-///
-/// # Errors
-///
-/// A growth was refused.
-pub fn first_lack<'a>(alloc: Global, fonts: &[Font<'a>]) -> Result<Option<Lack<'a>>, AllocError>
-    ensures { IfOk result (λ lack. option_map lack_view lack ≡ first_lack fonts.now) }
-{
-    match first_lack_within(alloc, fonts, Budget { left: None }) {
-        Ok(lack) => Ok(lack),
-        Err(_) => Err(AllocError),
-    }
 }

@@ -1,12 +1,10 @@
 //! Laws of subsets and mergers. They speak of the definitions alone and depend on no code.
 
-ghost use Rattle.t1_algebra.specs.Laws.{KeepIsLeast, KeepIsMonotone, Distribution, SubsetIsFont, SubsetOfSubset, Bottom, SubsetsDraw, TwoSubsets};
-ghost use Rattle.t1_algebra.specs.Laws.{ManySubsets, JoinedIsFont, JoinIsSymmetric, JoinIsIdempotent, StatesOfJoin, JoinsDraw, AnyOrder};
-ghost use Rattle.t1_algebra.specs.Laws.{AcceptedByPairs, JoinWhereStatesAgree, NoConflictIsJoin, ConflictIsSymmetric, ConflictsAreAll, JoinHasEntries, CallsDrawAlike};
-ghost use Rattle.t1_algebra.specs.Profile.{profile};
-ghost use Rattle.t1_algebra.specs.Headline.{Headline};
-ghost use Rattle.t1_algebra.specs.Evened.{EvenedDraw};
-ghost use Rattle.t1_algebra.specs.Rejoins.{TruncatedSubsetsRejoin, MergingFontsAreEven};
+ghost use Rattle.t1_algebra.specs.Laws.{KeepIsLeast, KeepIsMonotone, Distribution, SubsetIsFont, SubsetOfSubset, Bottom, SubsetsDraw, TwoSubsets, ManySubsets};
+ghost use Rattle.t1_algebra.specs.Laws.{JoinedIsFont, JoinIsSymmetric, JoinIsIdempotent, StatesOfJoin, JoinsDraw, AnyOrder, AcceptedByPairs};
+ghost use Rattle.t1_algebra.specs.Laws.{JoinWhereStatesAgree, NoConflictIsJoin, ConflictIsSymmetric, ConflictsAreAll, JoinHasEntries, CallsDrawAlike};
+ghost use Rattle.t1_algebra.specs.{Profile.{profile}, Headline.{Headline}, Normalized.{NormalizedDraw}};
+ghost use Rattle.t1_algebra.specs.Rejoins.{TruncatedSubsetsRejoin, MergingFontsAreNormal};
 ghost use Rattle.t1_algebra.specs.Untested.{UntestedDraws, UntestedSubsets, UntestedJoins, UntestedGroupings};
 
 /// For every input that spells a font F and all sets A and B of its glyph names, reading the written subsets over A
@@ -142,28 +140,28 @@ pub fn calls_draw_alike()
     ensures { CallsDrawAlike }
 {}
 
-/// A glyph that is drawn in a font is drawn the same after the font is made even: with even texts, with more Subrs
+/// A glyph that is drawn in a font is drawn the same after the font is normalized: with normalized texts, with more Subrs
 /// declared and with stubs for some that it lacks. What its charstring answers without a fault, it answers there, too.
 /// This holds where hints are replaced and where they are kept, each by itself, over the maps of both fonts and as calls
 /// see them.
-#[tactic(auto, using(t1_algebra::proofs::rejoining::Evened::evened_draw))]
-pub fn evened_draw()
-    ensures { EvenedDraw }
+#[tactic(auto, using(t1_algebra::proofs::rejoining::Normalized::normalized_draw))]
+pub fn normalized_draw()
+    ensures { NormalizedDraw }
 {}
 
-/// Subsets of one font that other programs cut merge once they are made even. Their texts may differ in white space, in lines
+/// Subsets of one font that other programs cut merge once they are normalized. Their texts may differ in white space, in lines
 /// that number the font and in tags, and each may have only the font's first Subrs, as long as those that it keeps are among
 /// them. In every order and grouping they merge to the subset over all the names, cut to the largest of the counts and with
-/// even texts, and to nothing else, so to the same bytes. Each glyph that is kept draws in it as in the font.
+/// normalized texts, and to nothing else, so to the same bytes. Each glyph that is kept draws in it as in the font.
 pub fn truncated_subsets_rejoin()
     ensures { TruncatedSubsetsRejoin }
 {}
 
-/// Of fonts that merge in some order and grouping only the texts are made even, and then they merge in it to what they merged
-/// to, with even texts.
-#[tactic(auto, using(t1_algebra::proofs::rejoining::Evened::merging_fonts_are_even))]
-pub fn merging_fonts_are_even()
-    ensures { MergingFontsAreEven }
+/// Of fonts that merge in some order and grouping only the texts are normalized, and then they merge in it to what they merged
+/// to, with normalized texts.
+#[tactic(auto, using(t1_algebra::proofs::rejoining::Normalized::merging_fonts_are_normal))]
+pub fn merging_fonts_are_normal()
+    ensures { MergingFontsAreNormal }
 {}
 
 /// Each glyph of a font draws, runs and executes as before when the font's head has lost the test whether the font was

@@ -16,7 +16,6 @@
 #![tactic(auto)]
 
 mod budgets;
-mod callers;
 mod calls;
 mod closure_names;
 mod closures;
@@ -27,11 +26,13 @@ mod font_making;
 mod groupings;
 mod in_turn;
 mod lacks;
+mod last_runs;
 pub mod laws;
 mod merger;
 mod name_sets;
 mod name_states;
 mod needed;
+mod references;
 mod rejoins;
 mod searches;
 mod shared;
@@ -47,8 +48,6 @@ pub use closures::closure;
 pub use conflict::{Conflict, ShellPart};
 pub use differences::{conflicts, conflicts_within};
 pub use fault::{RejoinFault, SubsetFault};
-pub use groupings::shells_conflict;
-pub use lacks::{Lack, first_lack};
 pub use merger::{merge, merge_all, merge_all_within};
 pub use needed::Closure;
 pub use rejoins::{fonts_of, rejoin, rejoin_within};

@@ -1,55 +1,50 @@
 //! The join of two fonts, or their lowest conflict.
 
 ghost use Rattle.std.specs.Prelude.{◌≡◌, ◌<◌, length, map, OnOk, IfOk, IfErr};
-ghost use Rattle.t1_algebra.specs.Profile.{profile};
-ghost use Rattle.t1_algebra.specs.States.{Join, joined_font};
-ghost use Rattle.t1_algebra.specs.Conflicts.{conflict};
-ghost use Rattle.t1_subset.specs.Refusals.{Tells};
-ghost use Rattle.t1_subset.specs.declared.conflict.Conflict.TheVariants.{Empty};
-ghost use Rattle.t1_subset.specs.Callers.{AreNoted, fonts_of};
-ghost use Rattle.t1_algebra.specs.StateTables.{states_of};
-ghost use Rattle.t1_run.specs.Budgets.{HasFewer};
-ghost use Rattle.t1_subset.specs.declared.budgets.BudgetFault.TheVariants.{TooManyTokens};
-ghost use Rattle.t1_subset.specs.Budgets.{fonts_least, fonts_tokens, IsEnough, OnPlain, IsMergerOf, IsMergerOfFonts};
-ghost use Rattle.t1_subset.specs.Merger.{IsMerger, MergesItself, NotMerged, AcceptsAllJoin, MergesInAnyOrder, MergesSubsets, MergesAllSubsets};
+ghost use Rattle.t1_algebra.specs.{Profile.{profile}, States.{Join, joined_font}, Conflicts.{conflict}, StateTables.{states_of}};
 ghost use Rattle.t1_algebra.specs.Merges.{DrawsBoth, DrawsAll, ComesTo};
+ghost use Rattle.t1_subset.specs.{Refusals.{Tells}, declared.conflict.Conflict.TheVariants.{Empty}, References.{AreNoted, fonts_of}};
+ghost use Rattle.t1_subset.specs.declared.budgets.BudgetFault.TheVariants.{TooManyTokens};
+ghost use Rattle.t1_subset.specs.Budgets.{fonts_least, fonts_tokens, IsEnough, OnPlain, IsMergerOf, IsMergerOfFonts, TriesWithin};
+ghost use Rattle.t1_subset.specs.Merger.{IsMerger, MergesItself, NotMerged, AcceptsAllJoin, MergesInAnyOrder, MergesSubsets, MergesAllSubsets};
+ghost use Rattle.t1_run.specs.Budgets.{HasFewer};
 
 use crate::budgets::BudgetFault;
-use crate::callers::Callers;
 use crate::conflict::Conflict;
 use crate::groupings::{both_lent, first_share, lent_fonts, note_fonts};
 use crate::in_turn::all_join;
+use crate::references::References;
 use crate::state_value::States;
 use std::alloc::Global;
 use t1_font::Font;
 use t1_run::{Budget, Stop};
 
-/// The join of one or more fonts, by the callers of each and its states, which are let go before the font is made of the joined
+/// The join of one or more fonts, by the references of each and its states, which are let go before the font is made of the joined
 /// states.
 #[tactic(auto, using(std::proofs::lemmas::Result::err_from_is_err_and))]
 pub(crate) fn merge_noted<'a>(
     alloc: Global,
-    callers: Vec<Callers<'_, '_>>,
+    references: Vec<References<'_, '_>>,
     states: Vec<States<'a>>,
 ) -> Result<Font<'a>, Conflict>
-    requires some { 0 < length callers.items }
-    requires noted { AreNoted callers.items }
-    requires states { states.items ≡ map (states_of profile) (fonts_of callers.items) }
-    ensures ok { IfOk result (λ j. ComesTo (fonts_of callers.entry.items) j) }
-    ensures err { IfErr result (λ e. NotMerged (fonts_of callers.entry.items) e) }
+    requires some { 0 < length references.items }
+    requires noted { AreNoted references.items }
+    requires states { states.items ≡ map (states_of profile) (fonts_of references.items) }
+    ensures ok { IfOk result (λ j. ComesTo (fonts_of references.entry.items) j) }
+    ensures err { IfErr result (λ e. NotMerged (fonts_of references.entry.items) e) }
 {
-    let joined = match all_join(alloc, callers.as_slice(), states.as_slice()) {
+    let joined = match all_join(alloc, references.as_slice(), states.as_slice()) {
         Ok(joined) => joined,
         Err(conflict) => return Err(conflict),
     };
     drop(states);
-    drop(callers);
+    drop(references);
     Ok(joined.into_font(alloc)?)
 }
 
 /// The join of one or more fonts, or the first conflict from left to right, within a budget. If the first two don't share what they
 /// have to, no glyph is run.
-#[tactic(auto, using(crate::proofs::Plain::no_memory))]
+#[tactic(auto, using(crate::proofs::Plain::no_memory, crate::proofs::Tokens::takes_enough))]
 fn merge_lent<'a>(
     alloc: Global,
     fonts: &[&Font<'a>],
@@ -57,6 +52,7 @@ fn merge_lent<'a>(
 ) -> Result<Font<'a>, BudgetFault<Conflict>>
     requires { 0 < length fonts.now }
     ensures merges { OnPlain result (IsMergerOf (map (λ f. f.now) fonts.now)) }
+    ensures tried { OnPlain result (λ r. IfErr r (TriesWithin budget.left (map (λ f. f.now) fonts.now))) }
     ensures enough { OnOk result (IsEnough budget.left (fonts_least (map (λ f. f.now) fonts.now))) }
     ensures refused { IfErr result (λ e. e ≡ TooManyTokens
         → HasFewer budget.left (fonts_tokens (map (λ f. f.now) fonts.now))) }
@@ -65,12 +61,12 @@ fn merge_lent<'a>(
         return Err(BudgetFault::Plain(conflict));
     }
     let mut budget = budget;
-    let (callers, states) = match note_fonts(alloc, fonts, &mut budget) {
+    let (references, states) = match note_fonts(alloc, fonts, &mut budget) {
         Ok(noted) => noted,
         Err(Stop::TooManyTokens) => return Err(BudgetFault::TooManyTokens),
         Err(Stop::Memory) => return Err(BudgetFault::Plain(Conflict::Memory)),
     };
-    match merge_noted(alloc, callers, states) {
+    match merge_noted(alloc, references, states) {
         Ok(font) => Ok(font),
         Err(conflict) => Err(BudgetFault::Plain(conflict)),
     }
@@ -128,6 +124,7 @@ fn merge_list<'a>(
     budget: Budget,
 ) -> Result<Font<'a>, BudgetFault<Conflict>>
     ensures merges { OnPlain result (IsMergerOfFonts fonts.now) }
+    ensures tried { OnPlain result (λ r. IfErr r (TriesWithin budget.left fonts.now)) }
     ensures enough { OnOk result (IsEnough budget.left (fonts_least fonts.now)) }
     ensures refused { IfErr result (λ e. e ≡ TooManyTokens
         → HasFewer budget.left (fonts_tokens fonts.now)) }
@@ -156,6 +153,7 @@ pub fn merge_all_within<'a>(
     ensures any_order { OnPlain result (MergesInAnyOrder fonts.now) }
     ensures draws { IfOk result (λ j. DrawsAll fonts.now j) }
     ensures subsets { OnPlain result (MergesAllSubsets fonts.now) }
+    ensures tried { OnPlain result (λ r. IfErr r (TriesWithin budget.left fonts.now)) }
     ensures enough { OnOk result (IsEnough budget.left (fonts_least fonts.now)) }
     ensures refused { IfErr result (λ e. e ≡ TooManyTokens
         → HasFewer budget.left (fonts_tokens fonts.now)) }

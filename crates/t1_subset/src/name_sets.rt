@@ -1,10 +1,9 @@
 //! Sets of names.
 
-ghost use Rattle.std.specs.Prelude.{◌≡◌, IfOk, OnOk, OnErr};
-ghost use Rattle.std.specs.FinSet as sets;
-ghost use Rattle.std.specs.List.Sorted.{IsStrictlySortedBy};
+ghost use Rattle.std.specs.{Prelude.{◌≡◌, IfOk, OnOk, OnErr}, List.Sorted.{IsStrictlySortedBy}};
 ghost use Rattle.t1_font.specs.FontValue.{name_cmp};
 ghost use Rattle.t1_subset.specs.NameSets.{listed_names, set_by};
+ghost use Rattle.std.specs.FinSet as sets;
 
 use std::alloc::{AllocError, Global};
 use std::collections::BTreeSet;

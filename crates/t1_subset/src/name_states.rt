@@ -1,23 +1,17 @@
 //! The states of names: the glyphs of a font, which are lent, and the components that its glyphs seek.
 
-ghost use Rattle.std.specs.Prelude.{◌≡◌, ◌↔◌, ◌+◌, ℕ, List, IfOk, IsTrue, MatchOption, Some, None, is_some, [], cond};
-ghost use Rattle.std.specs.Option.{option_map};
+ghost use Rattle.std.specs.{Prelude.{◌≡◌, ◌↔◌, ◌+◌, ℕ, List, IfOk, IsTrue, MatchOption, Some, None, is_some, [], cond}, Option.{option_map}, List.{find}};
+ghost use Rattle.t1_font.specs.{FontValue.{name_cmp, total}, FontModel.{clamp}};
+ghost use Rattle.t1_join.specs.{Meaning.{Meaning}, TableMeaning.{TablesAgree, TablesJoin, joined_table}};
+ghost use Rattle.t1_algebra.specs.{Profile.{profile}, StateTables.{name_states, AreNameStates, behind_mark, name_adds, name_counts}};
+ghost use Rattle.t1_algebra.specs.{NameStates.{is_sought_in, charstrings_differ, lacks, one_lacks, lacks_in}, Searches.{IsLowest}};
+ghost use Rattle.t1_subset.specs.References.{seeker_of};
 ghost use Rattle.std.specs.FinMap as maps;
-ghost use Rattle.std.specs.List.{find};
-ghost use Rattle.t1_font.specs.FontValue.{name_cmp, total};
-ghost use Rattle.t1_font.specs.FontModel.{clamp};
-ghost use Rattle.t1_join.specs.Meaning.{Meaning};
-ghost use Rattle.t1_join.specs.TableMeaning.{TablesAgree, TablesJoin, joined_table};
-ghost use Rattle.t1_algebra.specs.Profile.{profile};
-ghost use Rattle.t1_algebra.specs.StateTables.{name_states, AreNameStates, behind_mark, name_adds, name_counts};
-ghost use Rattle.t1_subset.specs.Callers.{seeker_of};
-ghost use Rattle.t1_algebra.specs.NameStates.{is_sought_in, charstrings_differ, lacks, one_lacks, lacks_in};
-ghost use Rattle.t1_algebra.specs.Searches.{IsLowest};
 
-use crate::callers::{Seekers, smaller};
+use crate::references::{Seekers, smaller};
 use std::alloc::{AllocError, Global};
 use std::marker::Model;
-use t1_font::{Extent, Font, Named, join_same_glyphs};
+use t1_font::{CharStrings, Extent, Font, join_same_glyphs};
 use t1_join::{Join, Kept, Table};
 
 /// That a name is sought. It has nothing else to say.
@@ -41,7 +35,7 @@ impl Kept for Sought {
 /// The states of the names of a font: each glyph's charstring, and the names that glyphs seek and that have no glyph.
 #[derive(Drop)]
 pub(crate) struct NameTable<'a> {
-    glyphs: Named<'a>,
+    glyphs: CharStrings<'a>,
     sought: Table<&'a [u8], Sought>,
 }
 
@@ -120,7 +114,7 @@ impl<'a> NameTable<'a> {
 
     /// The glyphs of the names.
     #[tactic(auto, using(t1_algebra::proofs::Tables::charstring_in))]
-    pub(crate) fn into_glyphs(self) -> Named<'a>
+    pub(crate) fn into_glyphs(self) -> CharStrings<'a>
         ensures { (n : List ℕ) → maps.get result n ≡ behind_mark (maps.get self.entry n) }
     {
         self.glyphs

@@ -1,17 +1,14 @@
 //! What a set of names needs of a font.
 
 ghost use Rattle.std.specs.Prelude.{◌≡◌, IfOk, IfErr, OnOk};
+ghost use Rattle.t1_algebra.specs.{Profile.{profile}, Keep.{keep, kept, IsOf}};
+ghost use Rattle.t1_subset.specs.{Calls.{number_set}, NameSets.{asked}, Budgets.{kept_longer, kept_tokens}};
+ghost use Rattle.t1_run.specs.{Budgets.{Takes, HasFewer}, declared.budget.Stop.TheVariants.{TooManyTokens}};
 ghost use Rattle.std.specs.FinSet as sets;
-ghost use Rattle.t1_algebra.specs.Profile.{profile};
-ghost use Rattle.t1_algebra.specs.Keep.{keep, kept, IsOf};
-ghost use Rattle.t1_subset.specs.Calls.{number_set};
-ghost use Rattle.t1_subset.specs.NameSets.{asked};
-ghost use Rattle.t1_run.specs.Budgets.{Takes, HasFewer};
-ghost use Rattle.t1_run.specs.declared.budget.Stop.TheVariants.{TooManyTokens};
-ghost use Rattle.t1_subset.specs.Budgets.{kept_longer, kept_tokens};
 
-use crate::calls::{first_four, run_of};
+use crate::calls::first_four;
 use crate::closure_names::{ClosureNames, add_components};
+use crate::last_runs::LastRun;
 use std::alloc::Global;
 use std::collections::BTreeSet;
 use t1_font::Font;
@@ -29,7 +26,8 @@ pub struct Closure {
 /// The names that a set of the font's names keeps, in the order in which they are met, and the Subrs that are kept, within a
 /// budget.
 ///
-/// Each glyph that is kept is run once.
+/// Each glyph that is kept is run once, or not at all if the one before it has the same charstring; then what that took is taken once
+/// more.
 #[tactic(auto, using(crate::proofs::closing::Closures::closure_end, crate::proofs::closing::NumberSets::calls_end, crate::proofs::closing::Closures::past))]
 pub(crate) fn needed<'a>(
     alloc: Global,
@@ -51,10 +49,11 @@ pub(crate) fn needed<'a>(
     closure.add(b".notdef")?;
     closure.add_all(names)?;
     let mut calls = first_four(alloc)?;
+    let mut last = LastRun::none(alloc);
     let mut place = 0;
     'closure: while let Some(name) = closure.get(place) {
-        let components = run_of(alloc, font, name, &mut calls, budget)?;
-        add_components(font, &mut closure, components.as_slice())?;
+        last.go_on(alloc, font, name, &mut calls, budget)?;
+        add_components(font, &mut closure, last.components.as_slice())?;
         place += 1;
     }
     let subrs = calls.to_set(alloc)?;

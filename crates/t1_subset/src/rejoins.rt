@@ -1,28 +1,20 @@
 //! Fonts that are rejoined: each is filled with stubs where it lacks a Subr that another has, and they merge.
 
-ghost use Rattle.std.specs.Prelude.{◌≡◌, ◌++◌, ◌∷◌, [], None, Some, IfOk, IfErr, OnOk, map};
-ghost use Rattle.t1_font.specs.Evening.{filled, filled_all, indices_of_all};
-ghost use Rattle.t1_font.specs.Filling.{AnyHeavy, AreLight};
-ghost use Rattle.t1_algebra.specs.Profile.{profile};
-ghost use Rattle.t1_algebra.specs.StateTables.{states_of};
-ghost use Rattle.t1_algebra.specs.Lacks.{lack_in, first_lack};
-ghost use Rattle.t1_algebra.specs.Merges.{ComesTo};
-ghost use Rattle.t1_subset.specs.Callers.{AreCallersOf, AreNoted, fonts_of};
-ghost use Rattle.t1_subset.specs.Lacks.{lack_view};
-ghost use Rattle.t1_subset.specs.Merger.{NotMerged};
-ghost use Rattle.t1_subset.specs.Refusals.{Tells};
-ghost use Rattle.t1_subset.specs.Rejoins.{heavy_conflict, TellsLack, Rejoin, NotRejoined};
+ghost use Rattle.std.specs.Prelude.{◌≡◌, [], None, Some, IfOk, IfErr, OnOk, map};
+ghost use Rattle.t1_font.specs.{Normalizing.{filled, filled_all, indices_of_all}, Filling.{AnyHeavy, AreLight}};
+ghost use Rattle.t1_algebra.specs.{Profile.{profile}, StateTables.{states_of}, Lacks.{lack_in, first_lack}};
+ghost use Rattle.t1_subset.specs.{References.{AreReferencesOf, AreNoted, fonts_of}, Lacks.{lack_view}, Refusals.{Tells}};
+ghost use Rattle.t1_subset.specs.{Rejoins.{heavy_conflict, TellsLack, Rejoin, NotRejoined}, declared.budgets.BudgetFault.TheVariants.{Plain, TooManyTokens}};
+ghost use Rattle.t1_subset.specs.Budgets.{font_least, font_tokens, fonts_least, fonts_tokens, IsEnough, OnPlain, RejoinTriesWithin};
 ghost use Rattle.t1_run.specs.Budgets.{Takes, HasFewer};
-ghost use Rattle.t1_subset.specs.declared.budgets.BudgetFault.TheVariants.{Plain, TooManyTokens};
-ghost use Rattle.t1_subset.specs.Budgets.{font_least, font_tokens, fonts_least, fonts_tokens, IsEnough, OnPlain};
 
 use crate::budgets::BudgetFault;
-use crate::callers::Callers;
 use crate::conflict::Conflict;
 use crate::fault::RejoinFault;
 use crate::groupings::{keep, shells_conflict};
-use crate::lacks::{Lack, first_lack_within, lack_by};
+use crate::lacks::{Lack, first_lack, lack_by};
 use crate::merger::merge_noted;
+use crate::references::References;
 use crate::shared::Shared;
 use crate::state_making::{note_as, uses_of};
 use crate::state_value::States;
@@ -74,14 +66,14 @@ fn too_heavy(alloc: Global, fonts: &[Font<'_>], budget: Budget) -> BudgetFault<R
     ensures told { (e : RejoinFault) → result ≡ Plain e → NotRejoined fonts.now e }
     ensures refused { result ≡ TooManyTokens → HasFewer budget.left (fonts_tokens fonts.now) }
 {
-    match first_lack_within(alloc, fonts, budget) {
+    match first_lack(alloc, fonts, budget) {
         Ok(Some(lack)) => BudgetFault::Plain(lacking(alloc, lack)),
         Ok(None) => BudgetFault::Plain(RejoinFault::Merge(heavy_conflict(alloc, fonts))),
         Err(stop) => BudgetFault::from(stop),
     }
 }
 
-/// The callers and the states of a font that is filled, if no glyph of it executes a Subr that the font lacked and another of the
+/// The references and the states of a font that is filled, if no glyph of it executes a Subr that the font lacked and another of the
 /// fonts has, within a budget. Each glyph of the font is run once.
 fn note_filled<'t, 'a>(
     alloc: Global,
@@ -89,10 +81,10 @@ fn note_filled<'t, 'a>(
     font: &Font<'a>,
     full: &'t Font<'a>,
     budget: &mut Budget,
-) -> Result<(Callers<'t, 'a>, States<'a>), BudgetFault<RejoinFault>>
+) -> Result<(References<'t, 'a>, States<'a>), BudgetFault<RejoinFault>>
     requires { full.now ≡ filled (indices_of_all fonts.now) font.now }
     ensures font { IfOk result (λ n. n.0.font.now ≡ full.now) }
-    ensures callers { IfOk result (λ n. AreCallersOf n.0 full.now) }
+    ensures references { IfOk result (λ n. AreReferencesOf n.0 full.now) }
     ensures states { IfOk result (λ n. n.1 ≡ states_of profile full.now) }
     ensures none { IfOk result (λ _. lack_in fonts.now font.now ≡ None) }
     ensures lack { OnPlain result (λ r. IfErr r (λ e. TellsLack e (lack_in fonts.now font.now))) }
@@ -108,14 +100,14 @@ fn note_filled<'t, 'a>(
     Ok(note_as(alloc, full, shared, font, uses)?)
 }
 
-/// The callers and the states of fonts that are filled, if no glyph executes a Subr that its font lacked and another has, within a
+/// The references and the states of fonts that are filled, if no glyph executes a Subr that its font lacked and another has, within a
 /// budget.
 fn note_each<'t, 'a>(
     alloc: Global,
     fonts: &[Font<'a>],
     full: &'t [Font<'a>],
     budget: Budget,
-) -> Result<(Vec<Callers<'t, 'a>>, Vec<States<'a>>), BudgetFault<RejoinFault>>
+) -> Result<(Vec<References<'t, 'a>>, Vec<States<'a>>), BudgetFault<RejoinFault>>
     requires { full.now ≡ filled_all fonts.now }
     ensures fonts { IfOk result (λ n. fonts_of n.0.items ≡ full.now) }
     ensures noted { IfOk result (λ n. AreNoted n.0.items) }
@@ -127,7 +119,7 @@ fn note_each<'t, 'a>(
         → HasFewer budget.left (fonts_tokens fonts.now)) }
 {
     let mut left = budget;
-    let mut callers = Vec::with_capacity(alloc, full.len())?;
+    let mut references = Vec::with_capacity(alloc, full.len())?;
     let mut states = Vec::with_capacity(alloc, full.len())?;
     'fonts: for place in 0..full.len() {
         let filled = &full[place];
@@ -136,12 +128,13 @@ fn note_each<'t, 'a>(
             Ok(noted) => noted,
             Err(fault) => return Err(fault),
         };
-        keep(&mut callers, &mut states, own, state)?;
+        keep(&mut references, &mut states, own, state)?;
     }
-    Ok((callers, states))
+    Ok((references, states))
 }
 
 /// The join of fonts that are filled, if no glyph executes a Subr that its font lacked and another has, within a budget.
+#[tactic(auto, using(crate::proofs::Trying::lack_tried, crate::proofs::Plain::plain_err))]
 fn merge_filled<'a>(
     alloc: Global,
     fonts: &[Font<'a>],
@@ -153,15 +146,16 @@ fn merge_filled<'a>(
     requires light { AreLight full.now }
     ensures ok { IfOk result (λ j. Rejoin fonts.now j) }
     ensures err { OnPlain result (λ r. IfErr r (λ e. NotRejoined fonts.now e)) }
+    ensures tried { OnPlain result (λ r. IfErr r (RejoinTriesWithin budget.left fonts.now)) }
     ensures enough { OnOk result (IsEnough budget.left (fonts_least fonts.now)) }
     ensures refused { IfErr result (λ e. e ≡ TooManyTokens
         → HasFewer budget.left (fonts_tokens fonts.now)) }
 {
-    let (callers, states) = match note_each(alloc, fonts, full, budget) {
+    let (references, states) = match note_each(alloc, fonts, full, budget) {
         Ok(noted) => noted,
         Err(fault) => return Err(fault),
     };
-    match merge_noted(alloc, callers, states) {
+    match merge_noted(alloc, references, states) {
         Ok(font) => Ok(font),
         Err(conflict) => Err(BudgetFault::Plain(RejoinFault::Merge(conflict))),
     }
@@ -171,6 +165,7 @@ fn merge_filled<'a>(
 /// [`BudgetFault::TooManyTokens`] only if the runs of all glyphs of all fonts, as they are before they are filled, execute more. Each
 /// glyph is run once, or twice if the two answers after OtherSubr 3 lead to different runs, or not at all if the one before it has the
 /// same charstring. Else it answers what [`rejoin`] answers.
+#[tactic(auto, using(crate::proofs::Trying::none_tried, crate::proofs::Rejoining::light_or_heavy))]
 pub fn rejoin_within<'a>(
     alloc: Global,
     sources: &'a [Source],
@@ -179,6 +174,7 @@ pub fn rejoin_within<'a>(
 ) -> Result<Font<'a>, BudgetFault<RejoinFault>>
     ensures ok { IfOk result (λ j. Rejoin sources.now j) }
     ensures err { OnPlain result (λ r. IfErr r (λ e. NotRejoined sources.now e)) }
+    ensures tried { OnPlain result (λ r. IfErr r (RejoinTriesWithin budget.left sources.now)) }
     ensures enough { OnOk result (IsEnough budget.left (fonts_least sources.now)) }
     ensures refused { IfErr result (λ e. e ≡ TooManyTokens
         → HasFewer budget.left (fonts_tokens sources.now)) }
@@ -198,8 +194,8 @@ pub fn rejoin_within<'a>(
 }
 
 /// The font that the fonts of sources come to when each is filled, with [`STUB`](t1_font::STUB) where it lacks a Subr that another
-/// has, and they are merged from left to right. The sources are those of fonts that other programs cut, made even by
-/// [`even_shells`](t1_font::even_shells).
+/// has, and they are merged from left to right. The sources are those of fonts that other programs cut, normalized by
+/// [`normalize_shells`](t1_font::normalize_shells).
 ///
 /// Each glyph of each font is run once.
 ///

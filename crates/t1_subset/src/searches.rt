@@ -1,18 +1,14 @@
-//! The lowest conflict of two fonts, by their states and their callers: one search for each kind.
+//! The lowest conflict of two fonts, by their states and their references: one search for each kind.
 
-ghost use Rattle.std.specs.Prelude.{◌≡◌, ◌<◌, IfOk, IfErr, Some, None, SomeIff, []};
-ghost use Rattle.std.specs.Option.{option_map, unwrap_or};
-ghost use Rattle.t1_font.specs.FontValue.{FontValue};
-ghost use Rattle.t1_font.specs.IsFont.{IsFont};
-ghost use Rattle.t1_algebra.specs.Profile.{profile};
-ghost use Rattle.t1_algebra.specs.StateTables.{numbered, code_states, used_subrs};
-ghost use Rattle.t1_algebra.specs.Conflicts.{ShellDiffers, GlyphDiffers, LacksComponent, SubrDiffers, shell_conflict, code_conflict, subr_conflict, states_conflict};
-ghost use Rattle.t1_subset.specs.Clashes.{AreStatesOf, AreCallers};
-ghost use Rattle.t1_subset.specs.Refusals.{Tells};
-ghost use Rattle.t1_algebra.specs.Shared.{differing_part};
+ghost use Rattle.std.specs.{Prelude.{◌≡◌, ◌<◌, IfOk, IfErr, Some, None, SomeIff, []}, Option.{option_map, unwrap_or}};
+ghost use Rattle.t1_font.specs.{FontValue.{FontValue}, IsFont.{IsFont}};
+ghost use Rattle.t1_algebra.specs.{Profile.{profile}, StateTables.{numbered, code_states, used_subrs}};
+ghost use Rattle.t1_algebra.specs.Conflicts.{ShellDiffers, GlyphDiffers, LacksComponent, SubrDiffers, shell_conflict, code_conflict, subr_conflict};
+ghost use Rattle.t1_algebra.specs.{Conflicts.{states_conflict}, Shared.{differing_part}};
+ghost use Rattle.t1_subset.specs.{Clashes.{AreStatesOf, AreReferences}, Refusals.{Tells}};
 
-use crate::callers::{Callers, seeker, user};
 use crate::conflict::Conflict;
+use crate::references::{References, seeker, user};
 use crate::shared::Shared;
 use crate::state_value::States;
 use std::alloc::Global;
@@ -108,12 +104,12 @@ pub(crate) fn one_shell(left: &Shared<'_>, right: &Shared<'_>) -> Result<(), Con
     }
 }
 
-/// The lowest conflict of the states of two fonts of one shell, or want of memory. The callers are those of both fonts.
+/// The lowest conflict of the states of two fonts of one shell, or want of memory. The references are those of both fonts.
 pub(crate) fn tables_conflict(
     alloc: Global,
     left: &States<'_>,
     right: &States<'_>,
-    callers: &[Callers<'_, '_>],
+    references: &[References<'_, '_>],
 ) -> Result<(), Conflict>
     ensures ok { (f g : FontValue)
         → AreStatesOf left.now right.now f g
@@ -121,7 +117,7 @@ pub(crate) fn tables_conflict(
         → IfOk result (λ _. states_conflict profile f g ≡ None) }
     ensures err { (f g : FontValue)
         → AreStatesOf left.now right.now f g
-        → AreCallers callers.now f g
+        → AreReferences references.now f g
         → shell_conflict f g ≡ None
         → IfErr result (λ e. Tells e (states_conflict profile f g)) }
 {
@@ -132,10 +128,10 @@ pub(crate) fn tables_conflict(
         return Err(glyph_differs(alloc, name));
     }
     if let Some(part) = left.names.component_conflict(&right.names) {
-        return Err(lacks_component(alloc, seeker(callers, part), part));
+        return Err(lacks_component(alloc, seeker(references, part), part));
     }
     match subr_conflict(&left.subrs, &right.subrs) {
-        Some(index) => Err(subr_differs(alloc, index, user(callers, index))),
+        Some(index) => Err(subr_differs(alloc, index, user(references, index))),
         None => Ok(()),
     }
 }

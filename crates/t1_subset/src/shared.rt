@@ -1,19 +1,15 @@
 //! What fonts have to share to join, and the first part in which they differ.
 
-ghost use Rattle.std.specs.Prelude.{◌≡◌, ◌↔◌, IsTrue, IfOk, not, map};
-ghost use Rattle.std.specs.Option.{option_map};
-ghost use Rattle.std.specs.List.{find};
+ghost use Rattle.std.specs.{Prelude.{◌≡◌, ◌↔◌, IsTrue, IfOk, not, map}, Option.{option_map}, List.{find}};
 ghost use Rattle.t1_font.specs.FontModel.{part_of, clamp};
-ghost use Rattle.t1_algebra.specs.Interpreter.{same_bytes};
-ghost use Rattle.t1_algebra.specs.StateTables.{shared_weight};
-ghost use Rattle.t1_algebra.specs.Conflicts.{without_subrs};
+ghost use Rattle.t1_algebra.specs.{Interpreter.{same_bytes}, StateTables.{shared_weight}, Conflicts.{without_subrs}};
 ghost use Rattle.t1_algebra.specs.Shared.{shared_of, same_part, same_word, differing_part};
 ghost use Rattle.t1_subset.specs.Differences.{shell_part};
 
 use crate::conflict::ShellPart;
 use std::alloc::{AllocError, Global};
 use std::marker::Model;
-use t1_font::{Font, Numbered, Part, Shell};
+use t1_font::{Font, Part, Shell, SparseArray};
 
 /// What fonts have to share to join: the shell, the Encoding if it is a word, and which Subrs are present.
 #[derive(Drop)]
@@ -21,12 +17,11 @@ pub(crate) struct Shared<'a> {
     pub(crate) shell: &'a Shell,
     pub(crate) word: Option<&'a [u8]>,
     /// The Subrs. Only their indices count here, and a table of a source is lent.
-    pub(crate) subrs: Numbered<'a>,
+    pub(crate) subrs: SparseArray<'a>,
 }
 
 impl<'a> Model for Shared<'a> {
-    ghost use Rattle.std.specs.Option.{option_map};
-    ghost use Rattle.std.specs.FinMap.{keys};
+    ghost use Rattle.std.specs.{Option.{option_map}, FinMap.{keys}};
     ghost use Rattle.t1_algebra.specs.Shared.{Shared as SharedValue, shared_code};
 
     ghost Value = { SharedValue };
@@ -140,7 +135,7 @@ impl<'a> Shared<'a> {
         Shared {
             shell: font.shell(),
             word: font.encoding_word(),
-            subrs: Numbered::made(Vec::new(alloc)),
+            subrs: SparseArray::made(Vec::new(alloc)),
         }
     }
 

@@ -1,18 +1,17 @@
 //! The join of states.
 
-ghost use Rattle.std.specs.Prelude.{◌≡◌, ◌↔◌, ◌≤◌, ◌+◌, ℕ, List, [], IsTrue};
-ghost use Rattle.std.specs.FinMap as maps;
+ghost use Rattle.std.specs.Prelude.{◌≡◌, ◌↔◌, ◌≤◌, ◌+◌, [], IsTrue};
 ghost use Rattle.t1_join.specs.TableMeaning.{TablesAgree, joined_table};
-ghost use Rattle.t1_font.specs.FontValue.{total, weight_limit, count_limit};
-ghost use Rattle.t1_font.specs.FontModel.{clamp};
-ghost use Rattle.t1_algebra.specs.StateTables.{StatesFit, behind_mark, code_part, name_part, subr_part, subr_adds, states_weight, states_glyphs, joined_states};
+ghost use Rattle.t1_font.specs.{FontValue.{total, weight_limit, count_limit}, FontModel.{clamp}};
+ghost use Rattle.t1_algebra.specs.StateTables.{StatesFit, code_part, name_part, subr_part, subr_adds, states_weight, states_glyphs, joined_states};
 ghost use Rattle.t1_algebra.specs.StateLaws.{PartsAgree};
+ghost use Rattle.std.specs.FinMap as maps;
 
 use crate::name_states::NameTable;
 use crate::shared::Shared;
 use crate::state_value::States;
 use std::alloc::{AllocError, Global};
-use t1_font::{COUNT_LIMIT, Extent, Named, WEIGHT_LIMIT};
+use t1_font::{COUNT_LIMIT, CharStrings, Extent, WEIGHT_LIMIT};
 use t1_join::{Join, Table};
 
 /// How many bytes a Subr has more than a stub.
@@ -132,7 +131,7 @@ impl<'a> States<'a> {
     }
 
     /// States that these states are within the limits. It does nothing when it runs: proofs call it.
-    fn fits(&self)
+    fn proof_fits(&self)
         ensures { StatesFit self.now }
     {
         let _names = &self.names;
@@ -140,8 +139,7 @@ impl<'a> States<'a> {
 }
 
 impl<'a> Join for States<'a> {
-    ghost use Rattle.t1_algebra.specs.StateTables.{StatesValue, FontStatesAgree, FontStatesJoin};
-    ghost use Rattle.t1_algebra.specs.StateLaws.{states_laws};
+    ghost use Rattle.t1_algebra.specs.{StateTables.{StatesValue, FontStatesAgree, FontStatesJoin}, StateLaws.{states_laws}};
 
     ghost Meaning = { StatesValue };
 
@@ -154,7 +152,7 @@ impl<'a> Join for States<'a> {
     ghost laws = { states_laws };
 
     fn agrees(&self, other: &States<'a>) -> bool {
-        self.fits();
+        self.proof_fits();
         self.parts_agree(other) && self.fits_with(other)
     }
 
@@ -170,7 +168,7 @@ impl<'a> Join for States<'a> {
         alloc: Global,
         other: &States<'a>,
     ) -> Result<Option<States<'a>>, AllocError> {
-        self.fits();
+        self.proof_fits();
         if !self.numbers_agree(other) {
             return Ok(None);
         }

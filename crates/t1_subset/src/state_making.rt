@@ -1,41 +1,27 @@
 //! The making of states: one run of each glyph.
 
 ghost use Rattle.std.specs.Prelude.{◌≡◌, Some, IfOk, IfErr, OnOk};
-ghost use Rattle.std.specs.Option.{option_map};
-ghost use Rattle.t1_algebra.specs.Profile.{profile};
-ghost use Rattle.t1_algebra.specs.StateTables.{states_of};
-ghost use Rattle.t1_algebra.specs.Shared.{shared_of};
-ghost use Rattle.t1_run.specs.Budgets.{Takes, HasFewer};
-ghost use Rattle.t1_run.specs.declared.budget.Stop.TheVariants.{TooManyTokens};
-ghost use Rattle.t1_subset.specs.Budgets.{font_least, font_tokens};
-ghost use Rattle.t1_subset.specs.Callers.{AreUsesOf, AreCallersOf, RunAlike, same_charstring};
+ghost use Rattle.t1_algebra.specs.{Profile.{profile}, StateTables.{states_of}, Shared.{shared_of}};
+ghost use Rattle.t1_run.specs.{Budgets.{Takes, HasFewer}, declared.budget.Stop.TheVariants.{TooManyTokens}};
+ghost use Rattle.t1_subset.specs.{Budgets.{font_least, font_tokens}, References.{AreUsesOf, AreReferencesOf, RunAlike}};
 
-use crate::callers::{Callers, Seekers, note_seekers};
 use crate::calls::run_alone;
+use crate::last_runs::is_again;
 use crate::name_states::NameTable;
-use crate::shared::{Shared, same_bytes};
+use crate::references::{References, Seekers, note_seekers};
+use crate::shared::Shared;
 use crate::state_value::States;
 use crate::tables::{code_table, subr_table, used};
-use crate::users::{Noted, nobody, note_users};
+use crate::users::{UserArray, nobody, note_users};
 use std::alloc::{AllocError, Global};
 use t1_font::Font;
-use t1_run::{Budget, Called, Stop};
-
-/// Whether a glyph has the same charstring as the one before it, and so executes and names the same.
-fn is_again(last: Option<&[u8]>, charstring: &[u8]) -> bool
-    ensures { result ≡ same_charstring (option_map (λ b. b.now) last.entry) (Some charstring.now) }
-{
-    match last {
-        Some(last) => same_bytes(last, charstring),
-        None => false,
-    }
-}
+use t1_run::{Budget, Stop, SubrSet};
 
 /// What the glyphs of a font execute and seek: the smallest glyph that executes each Subr, and the smallest that names each
 /// component that the font lacks.
 #[derive(Drop)]
 pub(crate) struct Uses<'a> {
-    pub(crate) users: Noted<'a>,
+    pub(crate) users: UserArray<'a>,
     pub(crate) seekers: Seekers<'a>,
 }
 
@@ -53,10 +39,10 @@ pub(crate) fn uses_of<'a>(
 {
     let mut users = nobody(alloc);
     let mut seekers = Seekers::new(alloc);
-    let mut calls = Called::new(alloc);
+    let mut calls = SubrSet::new(alloc);
     let mut last = None;
     'glyphs: for (name, charstring) in font.glyphs().entries() {
-        if is_again(last, charstring) {
+        if is_again(last, Some(charstring)) {
             continue;
         }
         let components = run_alone(alloc, font, charstring, &mut calls, budget)?;
@@ -91,7 +77,7 @@ fn states_from<'a>(
     })
 }
 
-/// The callers of a font, and its states, by what it shares, and by another font with the same states but for that, whose glyphs
+/// The references of a font, and its states, by what it shares, and by another font with the same states but for that, whose glyphs
 /// execute and seek this. No glyph is run.
 pub(crate) fn note_as<'t, 'a>(
     alloc: Global,
@@ -99,19 +85,19 @@ pub(crate) fn note_as<'t, 'a>(
     shared: Shared<'a>,
     run: &Font<'a>,
     uses: Uses<'a>,
-) -> Result<(Callers<'t, 'a>, States<'a>), AllocError>
+) -> Result<(References<'t, 'a>, States<'a>), AllocError>
     requires shared { shared ≡ shared_of font.now }
     requires uses { AreUsesOf uses run.now }
     requires alike { RunAlike run.now font.now }
     ensures font { IfOk result (λ n. n.0.font.now ≡ font.now) }
-    ensures callers { IfOk result (λ n. AreCallersOf n.0 font.now) }
+    ensures references { IfOk result (λ n. AreReferencesOf n.0 font.now) }
     ensures states { IfOk result (λ n. n.1 ≡ states_of profile font.now) }
 {
     font.proof_is_font();
     let states = states_from(alloc, font, shared, run, &uses)?;
     let users = used(alloc, run, &uses.users)?;
     Ok((
-        Callers {
+        References {
             font,
             users,
             seekers: uses.seekers,
@@ -120,16 +106,16 @@ pub(crate) fn note_as<'t, 'a>(
     ))
 }
 
-/// The callers of a font, and its states, by what it shares, within a budget. Each glyph of the font is run once.
+/// The references of a font, and its states, by what it shares, within a budget. Each glyph of the font is run once.
 pub(crate) fn note_font<'t, 'a>(
     alloc: Global,
     font: &'t Font<'a>,
     shared: Shared<'a>,
     budget: &mut Budget,
-) -> Result<(Callers<'t, 'a>, States<'a>), Stop>
+) -> Result<(References<'t, 'a>, States<'a>), Stop>
     requires { shared ≡ shared_of font.now }
     ensures font { IfOk result (λ n. n.0.font.now ≡ font.now) }
-    ensures callers { IfOk result (λ n. AreCallersOf n.0 font.now) }
+    ensures references { IfOk result (λ n. AreReferencesOf n.0 font.now) }
     ensures states { IfOk result (λ n. n.1 ≡ states_of profile font.now) }
     ensures takes { OnOk result (Takes (font_least font.now) (font_tokens font.now) budget.old.left budget.new.left) }
     ensures refused { IfErr result (λ e. e ≡ TooManyTokens

@@ -1,16 +1,11 @@
 //! Subsets of a font.
 
-ghost use Rattle.std.specs.Prelude.{◌≡◌, IfOk, IfErr, OnOk, None, not, List, ℕ, true};
-ghost use Rattle.std.specs.FinSet as sets;
-ghost use Rattle.std.specs.List.{find};
-ghost use Rattle.t1_algebra.specs.Profile.{profile};
-ghost use Rattle.t1_algebra.specs.Keep.{has, keep, subset};
-ghost use Rattle.t1_algebra.specs.Alike.{DrawsAlike};
-ghost use Rattle.t1_subset.specs.NameSets.{lent, asked};
-ghost use Rattle.t1_subset.specs.Refusals.{Absent};
-ghost use Rattle.t1_run.specs.Budgets.{HasFewer};
-ghost use Rattle.t1_subset.specs.declared.budgets.BudgetFault.TheVariants.{TooManyTokens};
+ghost use Rattle.std.specs.{Prelude.{◌≡◌, IfOk, IfErr, OnOk, None, not, List, ℕ, true}, List.{find}};
+ghost use Rattle.t1_algebra.specs.{Profile.{profile}, Keep.{has, keep, subset}, Alike.{DrawsAlike}};
+ghost use Rattle.t1_subset.specs.{NameSets.{lent, asked}, Refusals.{Absent}, declared.budgets.BudgetFault.TheVariants.{TooManyTokens}};
 ghost use Rattle.t1_subset.specs.Budgets.{kept_longer, kept_tokens, IsEnough, OnPlain};
+ghost use Rattle.t1_run.specs.Budgets.{HasFewer};
+ghost use Rattle.std.specs.FinSet as sets;
 
 use crate::budgets::BudgetFault;
 use crate::closures::closure_within;
@@ -21,7 +16,9 @@ use t1_run::Budget;
 
 /// The same as [`subset`] within a budget: no more tokens are executed in all than are left in it, and it is refused with
 /// [`BudgetFault::TooManyTokens`] only if the runs of the glyphs that are kept execute more. Each glyph that is kept is run once, or
-/// twice if the two answers after OtherSubr 3 lead to different runs. Else it answers what [`subset`] answers.
+/// twice if the two answers after OtherSubr 3 lead to different runs. If it has the charstring of the one before it, in the order in
+/// which they are met, it isn't run, and the tokens that the one before it took are taken once more. Else it answers what [`subset`]
+/// answers.
 pub fn subset_within<'a>(
     alloc: Global,
     font: &Font<'a>,

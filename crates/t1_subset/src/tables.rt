@@ -1,17 +1,13 @@
 //! The states of a font's codes and Subrs, as tables that join key by key, and the table of the glyphs that execute them.
 
-ghost use Rattle.std.specs.Prelude.{◌≡◌, ◌<◌, ℕ, true, IfOk, OnOk};
-ghost use Rattle.std.specs.Option.{option_map};
-ghost use Rattle.std.specs.FinMap as maps;
+ghost use Rattle.std.specs.{Prelude.{◌≡◌, ◌<◌, ℕ, true, IfOk, OnOk}, Option.{option_map}};
 ghost use Rattle.t1_join.specs.Meaning.{of_number};
 ghost use Rattle.t1_font.specs.FontValue.{declared_count};
-ghost use Rattle.t1_algebra.specs.Profile.{profile};
-ghost use Rattle.t1_algebra.specs.StateTables.{numbered, code_states, used_subrs};
-ghost use Rattle.t1_subset.specs.Differences.{with_state, entry_state};
-ghost use Rattle.t1_subset.specs.Users.{noted_at};
-ghost use Rattle.t1_algebra.specs.Lacks.{user_of};
+ghost use Rattle.t1_algebra.specs.{Profile.{profile}, StateTables.{numbered, code_states, used_subrs}, Lacks.{user_of}};
+ghost use Rattle.t1_subset.specs.{Differences.{with_state, entry_state}, Users.{user_at}};
+ghost use Rattle.std.specs.FinMap as maps;
 
-use crate::users::{Noted, Users, noted_below, noted_user};
+use crate::users::{UserArray, Users, places_below, user_of_array};
 use std::alloc::{AllocError, Global};
 use t1_font::{Font, STUB};
 use t1_join::{Kept, Key, Table};
@@ -62,16 +58,16 @@ fn subr_state<'a>(entry: Option<&'a [u8]>, is_called: bool) -> Option<&'a [u8]>
 pub(crate) fn subr_table<'a>(
     alloc: Global,
     font: &Font<'a>,
-    users: &Noted<'_>,
+    users: &UserArray<'_>,
 ) -> Result<Table<u16, &'a [u8]>, AllocError>
     requires { (i : ℕ)
         → maps.contains_key font.now.subrs i ≡ true
-        → noted_at users.now.items i ≡ user_of font.now i }
+        → user_at users.now.items i ≡ user_of font.now i }
     ensures { IfOk result (λ table. table ≡ numbered (used_subrs profile font.now)) }
 {
     let mut table = Table::new(alloc);
     'entries: for (index, body) in font.subrs().entries() {
-        let is_called = noted_user(users, index).is_some();
+        let is_called = user_of_array(users, index).is_some();
         put(&mut table, index, subr_state(Some(body), is_called))?;
     }
     Ok(table)
@@ -81,15 +77,15 @@ pub(crate) fn subr_table<'a>(
 pub(crate) fn used<'a>(
     alloc: Global,
     font: &Font<'_>,
-    users: &Noted<'a>,
+    users: &UserArray<'a>,
 ) -> Result<Users<'a>, AllocError>
     ensures { IfOk result (λ used. (q : ℕ)
         → q < declared_count font.now.shell.subrs
-        → maps.get used (of_number q) ≡ noted_at users.now.items q) }
+        → maps.get used (of_number q) ≡ user_at users.now.items q) }
 {
     let mut used = Table::new(alloc);
-    'indices: for index in 0..noted_below(users, font.count()) {
-        put(&mut used, index, noted_user(users, index))?;
+    'indices: for index in 0..places_below(users, font.count()) {
+        put(&mut used, index, user_of_array(users, index))?;
     }
     Ok(used)
 }

@@ -1,4 +1,4 @@
-//! The words of the program, and their help.
+//! The commands of the program, and their help.
 use clap::error::ErrorKind;
 use clap::{Arg, ArgAction, ArgMatches, Command, Error, value_parser};
 use std::alloc::{AllocError, Global};
@@ -9,6 +9,43 @@ fn word<'a>(alloc: Global, name: &'a str, help: &'a str) -> Arg<'a> {
         .required(true)
         .action(ArgAction::Set)
         .help(help)
+}
+
+/// Words for one input or more.
+fn inputs<'a>(alloc: Global, help: &'a str) -> Arg<'a> {
+    Arg::new(alloc, "IN")
+        .num_args(1..)
+        .required(true)
+        .action(ArgAction::Append)
+        .help(help)
+}
+
+/// An option without a value.
+fn flag<'a>(alloc: Global, name: &'a str, help: &'a str) -> Arg<'a> {
+    Arg::new(alloc, name)
+        .long(name)
+        .action(ArgAction::SetTrue)
+        .help(help)
+}
+
+/// An option with a value.
+fn option<'a>(alloc: Global, name: &'a str, value: &'a str, help: &'a str) -> Arg<'a> {
+    Arg::new(alloc, name)
+        .long(name)
+        .value_name(value)
+        .action(ArgAction::Set)
+        .help(help)
+}
+
+/// The option that writes a PFB.
+fn pfb_option<'a>(alloc: Global) -> Arg<'a> {
+    flag(alloc, "pfb", "Writes a PFB")
+}
+
+/// The option that limits what glyphs' runs execute.
+fn tokens_option<'a>(alloc: Global) -> Arg<'a> {
+    let help = "Refuses if the glyphs' charstrings execute more than N tokens";
+    option(alloc, "tokens", "N", help).value_parser(value_parser!(u64))
 }
 
 const JOIN_HELP: &str = "\
@@ -42,58 +79,11 @@ none is refused. OUT is opened only when the result is complete.
 Examples: t1subset subset font.pfb some.pfa A B Aacute
           t1subset subset --codes 65-90,97 --text 'Hello!' font.pfb some.pfa";
 
-/// The option that names a file of names.
-fn names_option<'a>(alloc: Global) -> Arg<'a> {
-    Arg::new(alloc, "names")
-        .long("names")
-        .value_name("FILE")
-        .action(ArgAction::Set)
-        .help("A file of more names, a name a line; `-` is standard input")
-}
+const NAMES_HELP: &str = "A file of more names, a name a line; `-` is standard input";
 
-/// The option that gives codes as a list.
-fn codes_option<'a>(alloc: Global) -> Arg<'a> {
-    Arg::new(alloc, "codes")
-        .long("codes")
-        .value_name("LIST")
-        .action(ArgAction::Set)
-        .help("Codes of the font's Encoding from 0 to 255, as 65-90,97")
-}
+const CODES_HELP: &str = "Codes of the font's Encoding from 0 to 255, as 65-90,97";
 
-/// The option that gives codes as a text.
-fn text_option<'a>(alloc: Global) -> Arg<'a> {
-    Arg::new(alloc, "text")
-        .long("text")
-        .value_name("STRING")
-        .allow_hyphen_values(true)
-        .action(ArgAction::Set)
-        .help("A text each of whose bytes is a code of the font's Encoding")
-}
-
-/// The option that writes a PFB.
-fn pfb_option<'a>(alloc: Global) -> Arg<'a> {
-    Arg::new(alloc, "pfb")
-        .long("pfb")
-        .action(ArgAction::SetTrue)
-        .help("Writes a PFB")
-}
-
-/// The option that limits what glyphs' runs execute.
-fn tokens_option<'a>(alloc: Global) -> Arg<'a> {
-    Arg::new(alloc, "tokens")
-        .long("tokens")
-        .value_name("N")
-        .value_parser(value_parser!(u64))
-        .action(ArgAction::Set)
-        .help("Refuses if the glyphs' charstrings execute more than N tokens")
-}
-
-fn names_word<'a>(alloc: Global) -> Arg<'a> {
-    Arg::new(alloc, "NAME")
-        .num_args(0..)
-        .action(ArgAction::Append)
-        .help("The names of the glyphs to keep, without their `/`")
-}
+const TEXT_HELP: &str = "A text each of whose bytes is a code of the font's Encoding";
 
 fn subset_command<'a>(alloc: Global) -> Result<Command<'a>, AllocError> {
     Command::new(alloc, "subset")
@@ -101,10 +91,15 @@ fn subset_command<'a>(alloc: Global) -> Result<Command<'a>, AllocError> {
         .after_help(SUBSET_HELP)
         .arg(word(alloc, "IN", "The font"))?
         .arg(word(alloc, "OUT", "The file that is written"))?
-        .arg(names_word(alloc))?
-        .arg(names_option(alloc))?
-        .arg(codes_option(alloc))?
-        .arg(text_option(alloc))?
+        .arg(
+            Arg::new(alloc, "NAME")
+                .num_args(0..)
+                .action(ArgAction::Append)
+                .help("The names of the glyphs to keep, without their `/`"),
+        )?
+        .arg(option(alloc, "names", "FILE", NAMES_HELP))?
+        .arg(option(alloc, "codes", "LIST", CODES_HELP))?
+        .arg(option(alloc, "text", "STRING", TEXT_HELP).allow_hyphen_values(true))?
         .arg(tokens_option(alloc))?
         .arg(pfb_option(alloc))
 }
@@ -127,7 +122,7 @@ OUT comes first: `t1subset rejoin a.pfa b.pfa` overwrites a.pfa.
 Merges subsets that other programs cut, such as dvips and pdfTeX. These write
 white space in their own ways, may put a tag of six capitals and `+` before the
 name of the font, and declare no Subrs after the last one that is used. So
-`rejoin` first makes the fonts even: it takes each as `mend` does, squeezes
+`rejoin` first normalizes the fonts: it takes each as `mend` does, squeezes
 white space, removes lines of UniqueID and XUID and the tags, gives all one
 FontBBox, declares as many Subrs in each table as in the largest, and adds a
 Subr `return` where one font lacks a Subr that another has; if a glyph of that
@@ -137,14 +132,6 @@ still differs. OUT is a PFA, or with --pfb a PFB, and is opened only when the
 result is complete.
 
 Example: t1subset rejoin all.pfa one.pfa two.pfa";
-
-fn fonts_word<'a>(alloc: Global) -> Arg<'a> {
-    Arg::new(alloc, "IN")
-        .num_args(1..)
-        .required(true)
-        .action(ArgAction::Append)
-        .help("The fonts")
-}
 
 fn list_of_fonts_command<'a>(
     alloc: Global,
@@ -156,19 +143,9 @@ fn list_of_fonts_command<'a>(
         .about(about)
         .after_help(help)
         .arg(word(alloc, "OUT", "The file that is written"))?
-        .arg(fonts_word(alloc))?
+        .arg(inputs(alloc, "The fonts"))?
         .arg(tokens_option(alloc))?
         .arg(pfb_option(alloc))
-}
-
-fn merge_command<'a>(alloc: Global) -> Result<Command<'a>, AllocError> {
-    let about = "Merges subsets of a font into one font";
-    list_of_fonts_command(alloc, "merge", about, MERGE_HELP)
-}
-
-fn rejoin_command<'a>(alloc: Global) -> Result<Command<'a>, AllocError> {
-    let about = "Merges subsets of a font that other programs cut";
-    list_of_fonts_command(alloc, "rejoin", about, REJOIN_HELP)
 }
 
 const POOL_HELP: &str = "\
@@ -191,29 +168,15 @@ one: a later place with another such name becomes the line
 Examples: t1subset pool all.ps one.ps two.ps
           t1subset pool --tags all.ps one.ps two.ps";
 
-/// The option that makes names one that are equal without their tags.
-fn tags_option<'a>(alloc: Global) -> Arg<'a> {
-    Arg::new(alloc, "tags")
-        .long("tags")
-        .action(ArgAction::SetTrue)
-        .help("Gives names that are equal without their tags one font")
-}
-
-fn documents_word<'a>(alloc: Global) -> Arg<'a> {
-    Arg::new(alloc, "IN")
-        .num_args(1..)
-        .required(true)
-        .action(ArgAction::Append)
-        .help("The documents")
-}
+const TAGS_HELP: &str = "Gives names that are equal without their tags one font";
 
 fn pool_command<'a>(alloc: Global) -> Result<Command<'a>, AllocError> {
     Command::new(alloc, "pool")
         .about("Writes documents one behind the other with each font once")
         .after_help(POOL_HELP)
         .arg(word(alloc, "OUT", "The file that is written"))?
-        .arg(documents_word(alloc))?
-        .arg(tags_option(alloc))
+        .arg(inputs(alloc, "The documents"))?
+        .arg(flag(alloc, "tags", TAGS_HELP))
 }
 
 const LEVEL_HELP: &str = "\
@@ -226,14 +189,14 @@ stay as they are, and a line on standard error tells why. FOLDER has to be
 there. Two documents of one name, or one that stands in FOLDER, are refused
 before anything is written.
 
-Example: mkdir even && t1subset level even one.ps two.ps";
+Example: mkdir out && t1subset level out one.ps two.ps";
 
 fn level_command<'a>(alloc: Global) -> Result<Command<'a>, AllocError> {
     Command::new(alloc, "level")
         .about("Writes documents again with one font for each name")
         .after_help(LEVEL_HELP)
         .arg(word(alloc, "FOLDER", "The folder that they are written to"))?
-        .arg(documents_word(alloc))
+        .arg(inputs(alloc, "The documents"))
 }
 
 const FONTS_HELP: &str = "\
@@ -250,22 +213,14 @@ complete.
 Examples: t1subset fonts one.ps two.ps
           t1subset fonts --extract CMR10 cmr10.pfa one.ps two.ps";
 
-/// The option that takes a font out.
-fn extract_option<'a>(alloc: Global) -> Arg<'a> {
-    Arg::new(alloc, "extract")
-        .long("extract")
-        .value_name("NAME")
-        .allow_hyphen_values(true)
-        .action(ArgAction::Set)
-        .help("Writes the first font of this name to OUT, which comes first")
-}
+const EXTRACT_HELP: &str = "Writes the first font of this name to OUT, which comes first";
 
 fn fonts_command<'a>(alloc: Global) -> Result<Command<'a>, AllocError> {
     Command::new(alloc, "fonts")
         .about("Lists the fonts of documents, or takes one out")
         .after_help(FONTS_HELP)
-        .arg(documents_word(alloc))?
-        .arg(extract_option(alloc))
+        .arg(inputs(alloc, "The documents"))?
+        .arg(option(alloc, "extract", "NAME", EXTRACT_HELP).allow_hyphen_values(true))
 }
 
 const DIFF_HELP: &str = "\
@@ -347,7 +302,7 @@ fn check_command<'a>(alloc: Global) -> Result<Command<'a>, AllocError> {
     Command::new(alloc, "check")
         .about("Checks that fonts can be read")
         .after_help(CHECK_HELP)
-        .arg(fonts_word(alloc))
+        .arg(inputs(alloc, "The fonts"))
 }
 
 const LIST_HELP: &str = "\
@@ -361,20 +316,14 @@ in charstring units, or `width NAME fault X` if it can't be drawn.
 
 Example: t1subset list font.pfb";
 
-/// The option that lists more.
-fn full_option<'a>(alloc: Global) -> Arg<'a> {
-    Arg::new(alloc, "full")
-        .long("full")
-        .action(ArgAction::SetTrue)
-        .help("Prints the font's name, matrix, box and number, and widths, too")
-}
+const FULL_HELP: &str = "Prints the font's name, matrix, box and number, and widths, too";
 
 fn list_command<'a>(alloc: Global) -> Result<Command<'a>, AllocError> {
     Command::new(alloc, "list")
         .about("Lists a font's codes, Subrs and glyphs")
         .after_help(LIST_HELP)
         .arg(word(alloc, "IN", "The font"))?
-        .arg(full_option(alloc))
+        .arg(flag(alloc, "full", FULL_HELP))
 }
 
 const SHOW_HELP: &str = "\
@@ -421,16 +370,6 @@ fn with<'a>(
     }
 }
 
-fn pfa_command<'a>(alloc: Global) -> Result<Command<'a>, AllocError> {
-    let about = "Writes a font's canonical file as PFA, text and hexadecimal";
-    convert_command(alloc, "pfa", about, PFA_HELP)
-}
-
-fn pfb_command<'a>(alloc: Global) -> Result<Command<'a>, AllocError> {
-    let about = "Writes a font's canonical file as PFB, in binary segments";
-    convert_command(alloc, "pfb", about, PFB_HELP)
-}
-
 /// The program without its commands.
 fn bare_program<'a>(alloc: Global) -> Command<'a> {
     Command::new(alloc, "t1subset")
@@ -441,20 +380,22 @@ fn bare_program<'a>(alloc: Global) -> Command<'a> {
         .arg_required_else_help(true)
 }
 
-/// The option that explains refusals, before a command or behind it.
-fn explain_option<'a>(alloc: Global) -> Arg<'a> {
-    Arg::new(alloc, "explain")
-        .long("explain")
-        .global(true)
-        .action(ArgAction::SetTrue)
-        .help("Says behind a refusal which file is meant, and what to do")
-}
+/// It may stand before a command or behind it.
+const EXPLAIN_HELP: &str = "Says behind a refusal which file is meant, and what to do";
 
 fn program<'a>(alloc: Global) -> Result<Command<'a>, AllocError> {
-    let program = bare_program(alloc).arg(explain_option(alloc));
+    let program = bare_program(alloc).arg(flag(alloc, "explain", EXPLAIN_HELP).global(true));
     let program = with(program, subset_command(alloc));
-    let program = with(program, merge_command(alloc));
-    let program = with(program, rejoin_command(alloc));
+    let about = "Merges subsets of a font into one font";
+    let program = with(
+        program,
+        list_of_fonts_command(alloc, "merge", about, MERGE_HELP),
+    );
+    let about = "Merges subsets of a font that other programs cut";
+    let program = with(
+        program,
+        list_of_fonts_command(alloc, "rejoin", about, REJOIN_HELP),
+    );
     let program = with(program, pool_command(alloc));
     let program = with(program, level_command(alloc));
     let program = with(program, fonts_command(alloc));
@@ -463,8 +404,10 @@ fn program<'a>(alloc: Global) -> Result<Command<'a>, AllocError> {
     let program = with(program, check_command(alloc));
     let program = with(program, list_command(alloc));
     let program = with(program, show_command(alloc));
-    let program = with(program, pfa_command(alloc));
-    let program = with(program, pfb_command(alloc));
+    let about = "Writes a font's canonical file as PFA, text and hexadecimal";
+    let program = with(program, convert_command(alloc, "pfa", about, PFA_HELP));
+    let about = "Writes a font's canonical file as PFB, in binary segments";
+    let program = with(program, convert_command(alloc, "pfb", about, PFB_HELP));
     with(program, join_command(alloc))
 }
 

@@ -1,9 +1,7 @@
-//! The words over documents.
-use crate::advice::Told;
-use crate::files::{Seen, end, flush, last_read, not_opened, opened, out};
+//! The commands over documents.
+use crate::files::{Run, Seen, last_read, not_opened};
 use crate::output::Out;
 use crate::progress::{Progress, Watched};
-use clap::ArgMatches;
 use std::alloc::{AllocError, Global};
 use std::cell::RefCell;
 use std::fs;
@@ -37,37 +35,9 @@ fn watched<'c, 'p, R: Files, E: Write>(
 }
 
 /// Clears what was shown.
-fn clear<E: Write>(progress: &RefCell<Progress<E>>) {
-    if let Ok(mut progress) = progress.try_borrow_mut() {
-        progress.clear();
-    }
-}
-
-/// Writes documents one behind the other with each font once.
-pub fn pool<'p, R: Files, E: Write + Drop>(
-    rt: &R,
-    alloc: Global,
-    given: &ArgMatches<'p>,
-    told: &mut Told<E>,
-    seen: &mut Seen<'p>,
-) -> Result<(), RunFault> {
-    let paths = given.get_raw("IN").unwrap_or(&[]);
-    let progress = RefCell::new(told.progress(paths.len()));
-    let mut documents = watched(rt, alloc, paths, &progress, seen)?;
-    let mut out = out(rt, alloc, given);
-    let tags = given.get_flag("tags");
-    let done = run_pool(alloc, tags, documents.as_mut_slice(), &mut out);
-    seen.input = last_read(paths, documents.as_slice());
-    drop(documents);
-    clear(&progress);
-    match done {
-        Ok(lines) => {
-            end(out, Ok(()), seen)?;
-            seen.told = lines;
-            Ok(())
-        }
-        Err(fault) => end(out, Err(fault), seen),
-    }
+fn clear<E: Write + Drop>(progress: RefCell<Progress<E>>) {
+    let mut progress = progress.into_inner();
+    progress.clear();
 }
 
 /// The last name of a path.
@@ -146,80 +116,6 @@ fn input_in_place<'p, R: Files>(rt: &R, targets: &[String], paths: &[&'p str]) -
     None
 }
 
-/// Writes a text to the file of this path, and adds what is to be said of the file.
-fn write_file<R: Files>(
-    rt: &R,
-    alloc: Global,
-    path: &str,
-    text: &[u8],
-    told: &mut Vec<u8>,
-) -> Result<(), RunFault> {
-    let mut out = Counted::new(Out::new(rt, alloc, path));
-    let done = write_text(&mut out, text);
-    let (done, note) = out.into_inner().end(done);
-    let _ = note.tell(told);
-    done
-}
-
-/// Writes texts to the files of these paths, one after the other.
-fn write_files<R: Files>(
-    rt: &R,
-    alloc: Global,
-    paths: &[String],
-    texts: &[Vec<u8>],
-    told: &mut Vec<u8>,
-) -> Result<(), RunFault> {
-    for (path, text) in paths.iter().zip(texts.iter()) {
-        write_file(rt, alloc, path.as_str(), text.as_slice(), told)?;
-    }
-    Ok(())
-}
-
-/// The documents of these paths, levelled.
-fn levelled<'p, R: Files, E: Write + Drop>(
-    rt: &R,
-    alloc: Global,
-    paths: &[&'p str],
-    told: &mut Told<E>,
-    seen: &mut Seen<'p>,
-) -> Result<Levelled, RunFault> {
-    let progress = RefCell::new(told.progress(paths.len()));
-    let mut documents = watched(rt, alloc, paths, &progress, seen)?;
-    let done = run_level(alloc, documents.as_mut_slice());
-    seen.input = last_read(paths, documents.as_slice());
-    drop(documents);
-    clear(&progress);
-    done
-}
-
-/// Writes each document into a folder, with one font at each place of a name. Answers status 2 if two have one name, or if the
-/// folder holds one of them.
-pub fn level<'p, R: Files, E: Write + Drop>(
-    rt: &R,
-    alloc: Global,
-    given: &ArgMatches<'p>,
-    told: &mut Told<E>,
-    seen: &mut Seen<'p>,
-) -> Result<u8, RunFault> {
-    let folder = given.get_str("FOLDER").unwrap_or("");
-    seen.out = Some(folder);
-    let paths = given.get_raw("IN").unwrap_or(&[]);
-    if let Some(name) = repeated_name(paths) {
-        let _ = writeln!(told.err, "error: two documents have the name {name}");
-        return Ok(2);
-    }
-    let targets = paths_in(alloc, folder, paths)?;
-    if let Some(path) = input_in_place(rt, targets.as_slice(), paths) {
-        let _ = writeln!(told.err, "error: {folder} holds the document {path}");
-        return Ok(2);
-    }
-    let levelled = levelled(rt, alloc, paths, told, seen)?;
-    let texts = levelled.texts.as_slice();
-    write_files(rt, alloc, targets.as_slice(), texts, &mut seen.told)?;
-    seen.told.extend_from_slice(levelled.kept.as_slice())?;
-    Ok(0)
-}
-
 /// The bytes of words.
 fn bytes_of<'p>(alloc: Global, words: &[&'p str]) -> Result<Vec<&'p [u8]>, AllocError> {
     let mut texts = Vec::with_capacity(alloc, words.len())?;
@@ -229,53 +125,110 @@ fn bytes_of<'p>(alloc: Global, words: &[&'p str]) -> Result<Vec<&'p [u8]>, Alloc
     Ok(texts)
 }
 
-/// Lists the fonts of documents.
-fn list_fonts<'p, R: Files, O: Write + Drop>(
-    rt: &R,
-    alloc: Global,
-    given: &ArgMatches<'p>,
-    out: O,
-    seen: &mut Seen<'p>,
-) -> Result<(), RunFault> {
-    let paths = given.get_raw("IN").unwrap_or(&[]);
-    let labels = bytes_of(alloc, paths)?;
-    let mut documents = opened(rt, alloc, paths, seen)?;
-    let mut out = Counted::new(out);
-    let done = run_fonts(alloc, labels.as_slice(), documents.as_mut_slice(), &mut out);
-    seen.input = last_read(paths, documents.as_slice());
-    done?;
-    flush(out)
-}
+impl<'r, 'p: 'r, R: Files, O: Write + Drop, E: Write + Drop> Run<'r, 'p, R, O, E> {
+    /// Writes documents one behind the other with each font once.
+    pub fn pool(&mut self) -> Result<(), RunFault> {
+        let paths = self.paths;
+        let tags = self.given.get_flag("tags");
+        let mut out = self.result();
+        let progress = RefCell::new(self.told.progress(paths.len()));
+        let mut documents = watched(self.rt, self.alloc, paths, &progress, &mut self.seen)?;
+        let done = run_pool(self.alloc, tags, documents.as_mut_slice(), &mut out);
+        self.seen.input = last_read(paths, documents.as_slice());
+        drop(documents);
+        clear(progress);
+        self.end_told(out, done)
+    }
 
-/// Writes the first font of a name to the first of the paths that the words give.
-fn extract<'p, R: Files>(
-    rt: &R,
-    alloc: Global,
-    given: &ArgMatches<'p>,
-    name: &str,
-    seen: &mut Seen<'p>,
-) -> Result<(), RunFault> {
-    let Some((path, paths)) = given.get_raw("IN").unwrap_or(&[]).split_first() else {
-        return Ok(());
-    };
-    seen.out = Some(*path);
-    let mut documents = opened(rt, alloc, paths, seen)?;
-    let mut out = Counted::new(Out::new(rt, alloc, *path));
-    let done = run_extract(alloc, name.as_bytes(), documents.as_mut_slice(), &mut out);
-    seen.input = last_read(paths, documents.as_slice());
-    end(out, done, seen)
-}
+    /// The documents, levelled.
+    fn levelled(&mut self) -> Result<Levelled, RunFault> {
+        let paths = self.paths;
+        let progress = RefCell::new(self.told.progress(paths.len()));
+        let mut documents = watched(self.rt, self.alloc, paths, &progress, &mut self.seen)?;
+        let done = run_level(self.alloc, documents.as_mut_slice());
+        self.seen.input = last_read(paths, documents.as_slice());
+        drop(documents);
+        clear(progress);
+        done
+    }
 
-/// Lists the fonts of documents, or takes one out.
-pub fn fonts<'p, R: Files, O: Write + Drop>(
-    rt: &R,
-    alloc: Global,
-    given: &ArgMatches<'p>,
-    out: O,
-    seen: &mut Seen<'p>,
-) -> Result<(), RunFault> {
-    match given.get_str("extract") {
-        Some(name) => extract(rt, alloc, given, name, seen),
-        None => list_fonts(rt, alloc, given, out, seen),
+    /// Writes a text to the file of this path, and adds what is to be said of the file.
+    fn write_file(&mut self, path: &str, text: &[u8]) -> Result<(), RunFault> {
+        let mut out = Counted::new(Out::new(self.rt, self.alloc, path));
+        let done = write_text(&mut out, text);
+        let (done, note) = out.into_inner().end(done);
+        let _ = note.tell(&mut self.seen.told);
+        done
+    }
+
+    /// Writes texts to the files of these paths, one after the other.
+    fn write_files(&mut self, paths: &[String], texts: &[Vec<u8>]) -> Result<(), RunFault> {
+        for (path, text) in paths.iter().zip(texts.iter()) {
+            self.write_file(path.as_str(), text.as_slice())?;
+        }
+        Ok(())
+    }
+
+    /// Writes each document into a folder, with one font at each place of a name. Answers status 2 if two have one name, or if the
+    /// folder holds one of them.
+    pub fn level(&mut self) -> Result<u8, RunFault> {
+        let folder = self.word("FOLDER");
+        self.seen.out = Some(folder);
+        let paths = self.paths;
+        if let Some(name) = repeated_name(paths) {
+            let _ = writeln!(self.told.err, "error: two documents have the name {name}");
+            return Ok(2);
+        }
+        let targets = paths_in(self.alloc, folder, paths)?;
+        if let Some(path) = input_in_place(self.rt, targets.as_slice(), paths) {
+            let _ = writeln!(self.told.err, "error: {folder} holds the document {path}");
+            return Ok(2);
+        }
+        let levelled = self.levelled()?;
+        self.write_files(targets.as_slice(), levelled.texts.as_slice())?;
+        self.seen.told.extend_from_slice(levelled.kept.as_slice())?;
+        Ok(0)
+    }
+
+    /// Lists the fonts of documents.
+    fn list_fonts(&mut self) -> Result<(), RunFault> {
+        let paths = self.paths;
+        let labels = bytes_of(self.alloc, paths)?;
+        let mut documents = self.open_all(paths)?;
+        let done = run_fonts(
+            self.alloc,
+            labels.as_slice(),
+            documents.as_mut_slice(),
+            &mut self.out,
+        );
+        self.seen.input = last_read(paths, documents.as_slice());
+        done?;
+        self.flush()
+    }
+
+    /// Writes the first font of a name to the first of the paths that the words give.
+    fn extract(&mut self, name: &str) -> Result<(), RunFault> {
+        let Some((path, paths)) = self.paths.split_first() else {
+            return Ok(());
+        };
+        self.seen.out = Some(*path);
+        let mut documents = self.open_all(paths)?;
+        let mut out = self.result_at(*path);
+        let done = run_extract(
+            self.alloc,
+            name.as_bytes(),
+            documents.as_mut_slice(),
+            &mut out,
+        );
+        self.seen.input = last_read(paths, documents.as_slice());
+        self.end(out, done)
+    }
+
+    /// Lists the fonts of documents, or takes one out.
+    pub fn fonts(&mut self) -> Result<(), RunFault> {
+        match self.given.get_str("extract") {
+            Some(name) => self.extract(name),
+            None => self.list_fonts(),
+        }
     }
 }

@@ -1,4 +1,5 @@
-//! The files that the words name: inputs, opened one after the other, and OUT.
+//! A command's run, and the files that its words name: inputs, opened one after the other, and OUT.
+use crate::advice::Told;
 use crate::output::{Note, Out};
 use clap::ArgMatches;
 use std::alloc::Global;
@@ -20,6 +21,22 @@ pub struct Seen<'p> {
     pub told: Vec<u8>,
 }
 
+/// A run of a command.
+#[derive(Drop)]
+pub struct Run<'r, 'p, R: Files, O, E> {
+    pub rt: &'r R,
+    pub alloc: Global,
+    /// The words of the command.
+    pub given: &'r ArgMatches<'p>,
+    /// Those for the inputs.
+    pub paths: &'r [&'p str],
+    /// Standard output.
+    pub out: Counted<O>,
+    /// Standard error.
+    pub told: Told<E>,
+    pub seen: Seen<'p>,
+}
+
 /// How an input that can't be opened ends the run.
 pub fn not_opened(error: io::Error) -> RunFault {
     if error.kind() == ErrorKind::OutOfMemory {
@@ -29,61 +46,73 @@ pub fn not_opened(error: io::Error) -> RunFault {
     }
 }
 
-/// Flushes standard output behind a result.
-pub fn flush<O: Write + Drop>(mut out: Counted<O>) -> Result<(), RunFault> {
-    out.flush().map_err(|_| RunFault::Write)
-}
+impl<'r, 'p: 'r, R: Files, O: Write + Drop, E: Write + Drop> Run<'r, 'p, R, O, E> {
+    /// The word of this name, or nothing.
+    pub fn word(&self, name: &str) -> &'p str {
+        self.given.get_str(name).unwrap_or("")
+    }
 
-/// The file that the words name so, opened.
-pub fn named<'p, R: Files>(
-    rt: &R,
-    given: &ArgMatches<'p>,
-    name: &str,
-    seen: &mut Seen<'p>,
-) -> Result<Counted<R::File>, RunFault> {
-    let path = given.get_str(name).unwrap_or("");
-    seen.input = path;
-    let file = fs::open(rt, path).map_err(not_opened)?;
-    Ok(Counted::new(file))
-}
+    /// The file that the words name so, opened.
+    pub fn open(&mut self, name: &str) -> Result<Counted<R::File>, RunFault> {
+        self.seen.input = self.word(name);
+        let file = fs::open(self.rt, self.seen.input).map_err(not_opened)?;
+        Ok(Counted::new(file))
+    }
 
-/// The file that the words name for the result.
-pub fn out<'r, 'p, R: Files>(
-    rt: &'r R,
-    alloc: Global,
-    given: &ArgMatches<'p>,
-) -> Counted<Out<'r, 'p, R>> {
-    let path = given.get_str("OUT").unwrap_or("");
-    Counted::new(Out::new(rt, alloc, path))
-}
+    /// The inputs of these paths, all of them opened.
+    pub fn open_all(&mut self, paths: &[&'p str]) -> Result<Vec<Counted<R::File>>, RunFault> {
+        let mut inputs = Vec::new(self.alloc);
+        for path in paths {
+            self.seen.input = *path;
+            let file = fs::open(self.rt, *path).map_err(not_opened)?;
+            if inputs.push(Counted::new(file)).is_err() {
+                return Err(RunFault::Refused(Reason::Memory));
+            }
+        }
+        Ok(inputs)
+    }
 
-/// Finishes the file that the words name for the result of an engine that ended in this way.
-pub fn end<'p, R: Files>(
-    out: Counted<Out<'_, 'p, R>>,
-    done: Result<(), RunFault>,
-    seen: &mut Seen<'p>,
-) -> Result<(), RunFault> {
-    let (done, said) = out.into_inner().end(done);
-    seen.note = said;
-    done
-}
+    /// The file of this path for the result.
+    pub fn result_at(&self, path: &'p str) -> Counted<Out<'r, 'p, R>> {
+        Counted::new(Out::new(self.rt, self.alloc, path))
+    }
 
-/// The inputs of these paths, all of them opened.
-pub fn opened<'p, R: Files>(
-    rt: &R,
-    alloc: Global,
-    paths: &[&'p str],
-    seen: &mut Seen<'p>,
-) -> Result<Vec<Counted<R::File>>, RunFault> {
-    let mut inputs = Vec::new(alloc);
-    for path in paths {
-        seen.input = *path;
-        let file = fs::open(rt, *path).map_err(not_opened)?;
-        if inputs.push(Counted::new(file)).is_err() {
-            return Err(RunFault::Refused(Reason::Memory));
+    /// The file that the words name for the result.
+    pub fn result(&self) -> Counted<Out<'r, 'p, R>> {
+        self.result_at(self.word("OUT"))
+    }
+
+    /// Finishes the file for the result of an engine that ended in this way.
+    pub fn end(
+        &mut self,
+        out: Counted<Out<'_, 'p, R>>,
+        done: Result<(), RunFault>,
+    ) -> Result<(), RunFault> {
+        let (done, said) = out.into_inner().end(done);
+        self.seen.note = said;
+        done
+    }
+
+    /// The same for an engine that answers lines, which are told behind the result.
+    pub fn end_told(
+        &mut self,
+        out: Counted<Out<'_, 'p, R>>,
+        done: Result<Vec<u8>, RunFault>,
+    ) -> Result<(), RunFault> {
+        match done {
+            Ok(lines) => {
+                self.end(out, Ok(()))?;
+                self.seen.told = lines;
+                Ok(())
+            }
+            Err(fault) => self.end(out, Err(fault)),
         }
     }
-    Ok(inputs)
+
+    /// Flushes standard output behind a result.
+    pub fn flush(&mut self) -> Result<(), RunFault> {
+        self.out.flush().map_err(|_| RunFault::Write)
+    }
 }
 
 /// How many of the inputs were read: an engine reads them one after the other, and stops at the first that it refuses.

@@ -1,11 +1,13 @@
 -- Truncated subsets of one font lack no Subr that their glyphs execute and another of them has, and fonts that merge have the same indices.
 use Rattle.std.proofs.{Common.{◌≡◌, ℕ, zero, suc, Bool, true, false, not, ◌&&◌, cond, List, [], ◌∷◌, map, refl, ◌∙◌, ap, Option, Some, None, option_map, unwrap_or}, lemmas.Bool.{lt-ltb}}
 use Rattle.std.specs.List.{find}
-use Rattle.t1_font.specs.{FontValue.{FontValue, declared_count, names_in}, Evening.{even, largest_count, each_even, evened_shells}, EveningLaws.{IsEvenWith}, IsFont.{IsFont}, FontBoxes.{box_of}}
-use Rattle.t1_font.proofs.{MapLemmas.{get-retain}, even_fonts.Boxes.{one_box_stays}}
+use Rattle.t1_font.specs.FontValue.{FontValue, declared_count, names_in}
+use Rattle.t1_font.specs.{Normalizing.{normal, largest_count, each_normal, normalized_shells}, NormalizingLaws.{IsNormalWith}, IsFont.{IsFont}, FontBoxes.{box_of}}
+use Rattle.t1_font.proofs.{MapLemmas.{get-retain}, normal_fonts.Boxes.{one_box_stays}}
 use Rattle.t1_algebra.specs.{Keep.{keep, kept}, Profile.{profile}, States.{executes, executed_at}, Searches.{found}, Lacks.{Lack, user_of, first_below, is_had, lack_at, lack_among, first_lack}}
-use Rattle.t1_algebra.specs.Rejoins.{Truncated, with_even_texts, truncated_fonts, largest}
-use Rattle.t1_algebra.proofs.{rejoining.EvenCuts.{IsEvenCut}, Words.{AllByRecursion, nat_list_cmp_total}, Kept.{kept_call}, Sets.{clash, cases, name_same}, rejoining.Truncated.{get_font, shells_are}}
+use Rattle.t1_algebra.specs.Rejoins.{Truncated, with_normal_texts, truncated_fonts, largest}
+use Rattle.t1_algebra.proofs.{rejoining.NormalCuts.{IsNormalCut}, Words.{AllByRecursion, nat_list_cmp_total}, Kept.{kept_call}}
+use Rattle.t1_algebra.proofs.{Sets.{clash, cases, name_same}, rejoining.Truncated.{get_font, shells_are}}
 use Rattle.std.specs.FinMap as maps
 use Rattle.std.specs.FinSet as sets
 
@@ -31,12 +33,12 @@ told i user = option_map (λ n. (i, n)) user
 
 module _ (f : FontValue) where
   -- one of truncated subsets has only what the font has
-  had_there : (most : ℕ) (ts : List Truncated) → AllByRecursion (IsEvenCut f) ts → (i : ℕ) → is_had (map (even most) (truncated_fonts ts)) i ≡ true →
+  had_there : (most : ℕ) (ts : List Truncated) → AllByRecursion (IsNormalCut f) ts → (i : ℕ) → is_had (map (normal most) (truncated_fonts ts)) i ≡ true →
       maps.contains_key f.subrs i ≡ true
   had_there most [] w i l = clash false l refl
   had_there most (t ∷ ts) w i l = grind (cases, l, get_font f t w.0 i, had_there most ts w.1 i)
 
-  module _ (t : Truncated) (w : IsEvenCut f t) where
+  module _ (t : Truncated) (w : IsNormalCut f t) where
     -- a glyph of a truncated subset is one that the font has and the names keep
     glyph_there : (n c : List ℕ) → maps.get t.font.glyphs n ≡ Some c → (maps.get f.glyphs n ≡ Some c) × (sets.contains (keep profile f t.names) n ≡ true)
     glyph_there n c is =
@@ -73,25 +75,25 @@ module _ (f : FontValue) where
         by (Some c) is = none_lacking n c is i has lacks
 
     no_lack : (most : ℕ) (all : List FontValue) → ((i : ℕ) → is_had all i ≡ true → maps.contains_key f.subrs i ≡ true) → (i : ℕ) →
-        lack_at all (even most t.font) i ≡ None
+        lack_at all (normal most t.font) i ≡ None
     no_lack most all had i = by (maps.contains_key t.font.subrs i) (is_had all i) refl refl
       where
         by : (a b : Bool) → maps.contains_key t.font.subrs i ≡ a → is_had all i ≡ b →
-            cond (not a && b) (told i (user_of (even most t.font) i)) None ≡ None
+            cond (not a && b) (told i (user_of (normal most t.font) i)) None ≡ None
         by true b is h = refl
         by false false is h = refl
         by false true is h =
             ap (told i) (none_passes (λ n. executes profile t.font n i) (names_in t.font.glyphs) (nobody_executes i (had i h) is))
 
   each_no_lack : (most : ℕ) (all : List FontValue) → ((i : ℕ) → is_had all i ≡ true → maps.contains_key f.subrs i ≡ true) → (ts : List Truncated) →
-      AllByRecursion (IsEvenCut f) ts → AllByRecursion (λ g. (i : ℕ) → lack_at all g i ≡ None) (map (even most) (truncated_fonts ts))
+      AllByRecursion (IsNormalCut f) ts → AllByRecursion (λ g. (i : ℕ) → lack_at all g i ≡ None) (map (normal most) (truncated_fonts ts))
   each_no_lack most all had [] w = tt
   each_no_lack most all had (t ∷ ts) w = (no_lack t w.0 most all had, each_no_lack most all had ts w.1)
 
   -- truncated subsets lack no Subr that one of their glyphs executes and another has
-  pub nothing_lacks : IsFont f → (ts : List Truncated) → AllByRecursion (IsEvenCut f) ts → first_lack (evened_shells (truncated_fonts ts)) ≡ None
+  pub nothing_lacks : IsFont f → (ts : List Truncated) → AllByRecursion (IsNormalCut f) ts → first_lack (normalized_shells (truncated_fonts ts)) ≡ None
   nothing_lacks h ts w =
-      let all = map (even (largest ts)) (truncated_fonts ts) in
+      let all = map (normal (largest ts)) (truncated_fonts ts) in
       ap first_lack (shells_are f h ts w) ∙ none_among all all (each_no_lack (largest ts) all (λ i l. had_there (largest ts) ts w i l) ts w)
 
 -- ---- fonts with the same indices
@@ -118,19 +120,20 @@ module _ (there : ℕ → Bool) where
   pub same_indices_lack_none : (fs : List FontValue) → HaveThese fs → first_lack fs ≡ None
   same_indices_lack_none fs h = none_among fs fs (same_no_lack fs h fs h)
 
-these_indices : (j : FontValue) (n : ℕ) (fs : List FontValue) → AllByRecursion (IsEvenWith j) (map with_even_texts fs) →
-    HaveThese (maps.contains_key j.subrs) (map (even n) fs)
+these_indices : (j : FontValue) (n : ℕ) (fs : List FontValue) → AllByRecursion (IsNormalWith j) (map with_normal_texts fs) →
+    HaveThese (maps.contains_key j.subrs) (map (normal n) fs)
 these_indices j n [] h = tt
 these_indices j n (f ∷ fs) h = (h.0.present, these_indices j n fs h.1)
 
-same_boxes : (j : FontValue) (n : ℕ) (fs : List FontValue) → AllByRecursion (IsEvenWith j) (map with_even_texts fs) →
-    AllByRecursion (λ g. box_of g.shell ≡ box_of j.shell) (map (even n) fs)
+same_boxes : (j : FontValue) (n : ℕ) (fs : List FontValue) → AllByRecursion (IsNormalWith j) (map with_normal_texts fs) →
+    AllByRecursion (λ g. box_of g.shell ≡ box_of j.shell) (map (normal n) fs)
 same_boxes j n [] h = tt
 same_boxes j n (f ∷ fs) h = (h.0.box, same_boxes j n fs h.1)
 
--- fonts that are even with one of them lack nothing
-pub even_lack_none : (j : FontValue) (fs : List FontValue) → AllByRecursion (IsEvenWith j) (map with_even_texts fs) → first_lack (evened_shells fs) ≡ None
-even_lack_none j fs h =
+-- fonts that agree with one of them lack nothing
+pub normal_lack_none : (j : FontValue) (fs : List FontValue) → AllByRecursion (IsNormalWith j) (map with_normal_texts fs) →
+    first_lack (normalized_shells fs) ≡ None
+normal_lack_none j fs h =
     let n = largest_count fs in
-    ap first_lack (one_box_stays (box_of j.shell) (each_even fs) (same_boxes j n fs h))
-    ∙ same_indices_lack_none (maps.contains_key j.subrs) (each_even fs) (these_indices j n fs h)
+    ap first_lack (one_box_stays (box_of j.shell) (each_normal fs) (same_boxes j n fs h))
+    ∙ same_indices_lack_none (maps.contains_key j.subrs) (each_normal fs) (these_indices j n fs h)

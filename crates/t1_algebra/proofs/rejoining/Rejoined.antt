@@ -1,15 +1,18 @@
--- Truncated subsets that are made even merge to the subset over all their names, cut to the largest count and with even texts.
+-- Truncated subsets that are normalized merge to the subset over all their names, cut to the largest count and with normalized texts.
 use Rattle.std.proofs.Common.{◌≡◌, ◌≤◌, ℕ, nat_lt, nat_cmp, true, cond, List, [], ◌∷◌, map, refl, sym, ◌∙◌, ap, subst, Option, Some, None, option_map, unwrap_or, arith, IsPermutation}
 use Rattle.std.proofs.lemmas.Bool.{ltb-true, lt-ltb}
 use Rattle.t1_join.{specs.Groupings.{Grouping, one, leaves, from_left}, proofs.OrderLemmas.{leaves_from_left}}
-use Rattle.t1_font.specs.{FontValue.{FontValue, SubrsShell, Numbered, name_cmp, total, subr_weight, declared_count}, IsFont.{IsFont, IsWord, IsPhrase, SubrsFit, SubrWords}, Evening.{evened}}
-use Rattle.t1_font.specs.EvenTexts.{even_texts}
-use Rattle.t1_font.proofs.{even_fonts.Evened.{even_is_font, even_fit}, MapLemmas.{get-retain, find_first, total-le, Some_None}}
-use Rattle.t1_algebra.specs.{Keep.{keep, kept, subset, IsOf}, Profile.{profile}, Merges.{MergesTo}, Alike.{DrawsAlike}, Rejoins.{declares, Truncated, truncated_fonts, sets_of, names_of_all, largest}}
-use Rattle.t1_algebra.proofs.{rejoining.EvenCuts.{IsEvenCut, even_shared, even_rejoined, EvenCutsRejoin}, Words.{AllByRecursion, nat_cmp_total, nat_list_cmp_total, nat_cmp-IsAntisymmetric, Names}}
+use Rattle.t1_font.specs.FontValue.{FontValue, SubrsShell, SparseArray, name_cmp, total, subr_weight, declared_count}
+use Rattle.t1_font.specs.{IsFont.{IsFont, IsWord, IsPhrase, SubrsFit, SubrWords}, Normalizing.{normalized}}
+use Rattle.t1_font.specs.NormalTexts.{normal_texts}
+use Rattle.t1_font.proofs.{normal_fonts.Normalized.{normal_is_font, normal_fit}, MapLemmas.{get-retain, find_first, total-le, Some_None}}
+use Rattle.t1_algebra.specs.{Keep.{keep, kept, subset, IsOf}, Profile.{profile}, Merges.{MergesTo}, Alike.{DrawsAlike}}
+use Rattle.t1_algebra.specs.Rejoins.{declares, Truncated, truncated_fonts, truncated_sets, names_of_all, largest}
+use Rattle.t1_algebra.proofs.rejoining.NormalCuts.{IsNormalCut, normal_shared, normal_rejoined, NormalCutsRejoin}
+use Rattle.t1_algebra.proofs.Words.{AllByRecursion, nat_cmp_total, nat_list_cmp_total, nat_cmp-IsAntisymmetric, Names}
 use Rattle.t1_algebra.proofs.{Drawings.{subset_alike, alike}, Fonts.{subset_is_font, any_order_of_fonts}, Kept.{keep_part, keep_more, kept_more, kept_union}}
 use Rattle.t1_algebra.proofs.{ManyMerges.{alike_trans, each_font, all_merge}, Sets.{clash, cases}}
-use Rattle.t1_algebra.proofs.rejoining.Truncated.{WordsOf, words_empty, get_nothing, get_font, largest_fits, all_fit, Fits, cut_subset, evened_is, KeepsBelow, keeps_same, subrs_below, runs_below}
+use Rattle.t1_algebra.proofs.rejoining.Truncated.{WordsOf, words_empty, get_nothing, get_font, largest_fits, all_fit, Fits, cut_subset, normalized_is, KeepsBelow, keeps_same, subrs_below, runs_below}
 use Rattle.t1_algebra.proofs.{rejoining.Truncated.{first_of}, rejoining.Lacking.{nothing_lacks}}
 use Rattle.std.specs.FinSet as sets
 use Rattle.std.specs.FinMap as maps
@@ -17,7 +20,7 @@ use Rattle.std.specs.FinMap as maps
 -- ---- tables without entries
 
 -- a map that has nothing at any key has no entries
-entries_none : (m : Numbered) → ((q : ℕ) → maps.get m q ≡ None) → maps.entries m ≡ []
+entries_none : (m : SparseArray) → ((q : ℕ) → maps.get m q ≡ None) → maps.entries m ≡ []
 entries_none m h =
     ap maps.entries (maps.same_map nat_cmp_total nat_cmp-IsAntisymmetric m (maps.from_sorted []) (λ q. h q ∙ sym (maps.get-from_sorted nat_cmp [] q tt)))
     ∙ maps.entries-from_sorted nat_cmp [] tt
@@ -31,7 +34,7 @@ some_words k v (x ∷ es) s e h = h
 -- ---- the shared font is a font
 
 module _ (f : FontValue) (h : IsFont f) (most : ℕ) (fits : most ≤ declared_count f.shell.subrs)
-    (t : Truncated) (w : IsEvenCut f t) (le : t.count ≤ most) where
+    (t : Truncated) (w : IsNormalCut f t) (le : t.count ≤ most) where
   get_first : (q : ℕ) → maps.get (first_of most f).subrs q ≡ cond (nat_lt q most) (maps.get f.subrs q) None
   get_first q = get-retain nat_cmp_total nat_cmp-IsAntisymmetric f.subrs (λ i. nat_lt i most) q
 
@@ -45,7 +48,7 @@ module _ (f : FontValue) (h : IsFont f) (most : ℕ) (fits : most ≤ declared_c
       grind (cases, get_font f t w q, get_first q, get_nothing (first_of most f).subrs e q, le, ltb-true q t.count, lt-ltb q most))
 
   -- the words of a table fit the entries of the cut font
-  words_first : (s : SubrsShell) → (maps.entries (first_of most f).subrs ≡ [] → WordsOf [] (Some s)) → SubrsFit (even_texts f.shell) (Some s) f.subrs →
+  words_first : (s : SubrsShell) → (maps.entries (first_of most f).subrs ≡ [] → WordsOf [] (Some s)) → SubrsFit (normal_texts f.shell) (Some s) f.subrs →
       (es : List (ℕ × List ℕ)) → maps.entries (first_of most f).subrs ≡ es → SubrWords es (declares most s)
   words_first s empty fit [] is = empty is
   words_first s empty fit (x ∷ es) is =
@@ -54,7 +57,7 @@ module _ (f : FontValue) (h : IsFont f) (most : ℕ) (fits : most ≤ declared_c
       some_words x.0 x.1 (maps.entries f.subrs) s (sym (maps.get-entries f.subrs x.0) ∙ (had x.0 x.1 there).1) fit.words
 
   -- the table of Subrs fits in the cut font
-  subrs_fit : (o : Option SubrsShell) → SubrsFit (even_texts f.shell) o f.subrs → most ≤ declared_count o →
+  subrs_fit : (o : Option SubrsShell) → SubrsFit (normal_texts f.shell) o f.subrs → most ≤ declared_count o →
       (maps.entries (first_of most f).subrs ≡ [] → WordsOf [] o) →
       SubrsFit (first_of most f).shell (option_map (declares most) o) (first_of most f).subrs
   subrs_fit None fit few empty =
@@ -75,7 +78,7 @@ module _ (f : FontValue) (h : IsFont f) (most : ℕ) (fits : most ≤ declared_c
   -- the cut font is a font
   pub first_is_font : IsFont (first_of most f)
   first_is_font =
-      let k = even_is_font 0 f (omega arith) h in
+      let k = normal_is_font 0 f (omega arith) h in
       let c = k.clear in
       let p = k.private in
       let g = h.glyphs in
@@ -100,7 +103,7 @@ module _ (f : FontValue) (h : IsFont f) (most : ℕ) (fits : most ≤ declared_c
           tail = k.texts.tail;
         };
         encoding = h.encoding;
-        subrs = subrs_fit f.shell.subrs (even_fit f.shell f.shell.subrs f.subrs h.subrs) fits
+        subrs = subrs_fit f.shell.subrs (normal_fit f.shell f.shell.subrs f.subrs h.subrs) fits
             (λ e. words_empty f h most fits t w le (no_entries_there e));
         glyphs = record { rd = g.rd; def = g.def; names = g.names; bodies = g.bodies; notdef = g.notdef; few = g.few };
         light = omega (arith, fewer, k.light);
@@ -146,7 +149,7 @@ module _ (f : FontValue) (h : IsFont f) (most : ℕ) where
 -- ---- merges
 
 -- the names of truncated subsets are names of the font
-names_are : (f : FontValue) (ts : List Truncated) → AllByRecursion (IsEvenCut f) ts → AllByRecursion (IsOf f) (sets_of ts)
+names_are : (f : FontValue) (ts : List Truncated) → AllByRecursion (IsNormalCut f) ts → AllByRecursion (IsOf f) (truncated_sets ts)
 names_are f [] w = tt
 names_are f (t ∷ ts) w = (w.0.names, names_are f ts w.1)
 
@@ -155,12 +158,12 @@ subsets_are : (f : FontValue) → IsFont f → (sets : List Names) → AllByRecu
 subsets_are f h [] w = tt
 subsets_are f h (a ∷ more) w = (subset_is_font profile f h a w.0, subsets_are f h more w.1)
 
-module _ (f : FontValue) (h : IsFont f) (t : Truncated) (ts : List Truncated) (w : AllByRecursion (IsEvenCut f) (t ∷ ts)) where
+module _ (f : FontValue) (h : IsFont f) (t : Truncated) (ts : List Truncated) (w : AllByRecursion (IsNormalCut f) (t ∷ ts)) where
   abbrev most : ℕ
   most = largest (t ∷ ts)
 
   abbrev shared : FontValue
-  shared = even_shared f (t ∷ ts)
+  shared = normal_shared f (t ∷ ts)
 
   abbrev names : Names
   names = names_of_all (t ∷ ts)
@@ -173,28 +176,28 @@ module _ (f : FontValue) (h : IsFont f) (t : Truncated) (ts : List Truncated) (w
   low = all_low f h most (t ∷ ts) (empty_low f h most t.names (λ i k p. omega (arith, w.0.kept i k p))) (all_fit f most (t ∷ ts) (omega arith) w)
 
   -- the subset of the shared font over all the names is the rejoined font
-  whole : subset profile shared names ≡ even_rejoined f (t ∷ ts)
+  whole : subset profile shared names ≡ normal_rejoined f (t ∷ ts)
   whole = cut_subset f h most names low.1 low.0
 
   -- all the sets are sets of names of the shared font
-  parts : AllByRecursion (IsOf shared) (sets_of (t ∷ ts))
+  parts : AllByRecursion (IsOf shared) (truncated_sets (t ∷ ts))
   parts = names_are f (t ∷ ts) w
 
-  -- truncated subsets that are made even merge in every order and grouping to the rejoined font
-  all_merged : (s : Grouping FontValue) → IsPermutation (evened (truncated_fonts (t ∷ ts))) (leaves s) → MergesTo s (even_rejoined f (t ∷ ts))
+  -- truncated subsets that are normalized merge in every order and grouping to the rejoined font
+  all_merged : (s : Grouping FontValue) → IsPermutation (normalized (truncated_fonts (t ∷ ts))) (leaves s) → MergesTo s (normal_rejoined f (t ∷ ts))
   all_merged s p =
       let g = subset profile shared t.names in
-      let gs = map (subset profile shared) (sets_of ts) in
-      let order = subst (λ (l : List FontValue). IsPermutation l (leaves s)) (evened_is f h (t ∷ ts) w ∙ sym (leaves_from_left (one g) gs)) p in
-      let all = any_order_of_fonts profile (from_left (one g) gs) s order (each_font g gs (subsets_are shared shared_is (sets_of (t ∷ ts)) parts))
-      (subset profile shared names) (all_merge shared shared_is t.names (sets_of ts) parts) in
+      let gs = map (subset profile shared) (truncated_sets ts) in
+      let order = subst (λ (l : List FontValue). IsPermutation l (leaves s)) (normalized_is f h (t ∷ ts) w ∙ sym (leaves_from_left (one g) gs)) p in
+      let all = any_order_of_fonts profile (from_left (one g) gs) s order (each_font g gs (subsets_are shared shared_is (truncated_sets (t ∷ ts)) parts))
+      (subset profile shared names) (all_merge shared shared_is t.names (truncated_sets ts) parts) in
       subst (λ (j : FontValue). MergesTo s j) whole (all.1, all.2)
 
   -- each kept glyph draws in the rejoined font as in the font
-  all_drawn : (n : List ℕ) → sets.contains (keep profile f names) n ≡ true → DrawsAlike f (even_rejoined f (t ∷ ts)) n
-  all_drawn n k = alike_trans f shared (even_rejoined f (t ∷ ts)) n (start_alike f h most names low.1 low.0 n k)
+  all_drawn : (n : List ℕ) → sets.contains (keep profile f names) n ≡ true → DrawsAlike f (normal_rejoined f (t ∷ ts)) n
+  all_drawn n k = alike_trans f shared (normal_rejoined f (t ∷ ts)) n (start_alike f h most names low.1 low.0 n k)
       (subst (λ (j : FontValue). DrawsAlike shared j n) whole (subset_alike shared shared_is names low.1 n
       (ap (λ (s : Names). sets.contains s n) (keeps_same profile f h.glyphs.notdef most names low.1 low.0).0 ∙ k)))
 
-  pub rejoins : EvenCutsRejoin f (t ∷ ts)
-  rejoins = record { shared = shared_is; lacks = nothing_lacks f h (t ∷ ts) w; subsets = evened_is f h (t ∷ ts) w; merges = all_merged; draws = all_drawn }
+  pub rejoins : NormalCutsRejoin f (t ∷ ts)
+  rejoins = record { shared = shared_is; lacks = nothing_lacks f h (t ∷ ts) w; subsets = normalized_is f h (t ∷ ts) w; merges = all_merged; draws = all_drawn }

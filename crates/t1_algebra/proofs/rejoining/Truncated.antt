@@ -1,19 +1,21 @@
--- Fonts cut to their first Subrs keep and draw what they did, and truncated subsets that are made even are subsets of one font.
+-- Fonts cut to their first Subrs keep and draw what they did, and truncated subsets that are normalized are subsets of one font.
 use Rattle.std.proofs.Common.{◌≡◌, ◌<◌, ℕ, nat_lt, true, false, ◌&&◌, cond, List, refl, sym, ◌∙◌, ap, Option, Some, None, is_some, filter, arith, ◌≤◌, max, nat_cmp, Bool, [], ◌∷◌, map, length}
 use Rattle.std.proofs.{Common.{subst, option_map}, lemmas.Bool.{and_from, lt-ltb, ltb-true, ltb-false}, lemmas.List.Folds.{list_any-append}}
-use Rattle.t1_font.specs.{FontValue.{FontValue, notdef, Shell, SubrsShell, Numbered, declared_count}, IsFont.{IsFont, SubrsFit, SubrWords}, EvenTexts.{even_texts}, Cut.{stub, restrict_encoding}}
-use Rattle.t1_font.specs.{Evening.{raised, even_shell, even, stubs_at, below_count, with_stubs, filled, largest_count, indices_of_all, evened_shells, filled_all, evened}, FontBoxes.{boxed}}
-use Rattle.t1_font.proofs.{MapLemmas.{get-retain, get-map_values}, even_fonts.Boxes.{one_shell_stays}}
+use Rattle.t1_font.specs.FontValue.{FontValue, notdef, Shell, SubrsShell, SparseArray, declared_count}
+use Rattle.t1_font.specs.{IsFont.{IsFont, SubrsFit, SubrWords}, NormalTexts.{normal_texts}, Cut.{stub, restrict_encoding}}
+use Rattle.t1_font.specs.Normalizing.{raised, normal_shell, normal, stubs_at, below_count, with_stubs, filled, largest_count, indices_of_all, normalized_shells, filled_all, normalized}
+use Rattle.t1_font.specs.FontBoxes.{boxed}
+use Rattle.t1_font.proofs.{MapLemmas.{get-retain, get-map_values}, normal_fonts.Boxes.{one_shell_stays}}
 use Rattle.t1_algebra.specs.{Keep.{keep, kept, has, charstring, subset, IsOf}, Profile.{profile}, States.{joined_option}}
-use Rattle.t1_algebra.specs.Rejoins.{cut_to, with_even_texts, declares, Truncated, truncated_fonts, sets_of, largest}
-use Rattle.t1_algebra.proofs.{rejoining.EvenCuts.{IsEvenCut, even_shared}, Words.{list_any, AllByRecursion, eq_by_cmp, nat_cmp_total, nat_cmp-IsAntisymmetric, Interpreter, Names}}
+use Rattle.t1_algebra.specs.Rejoins.{cut_to, with_normal_texts, declares, Truncated, truncated_fonts, truncated_sets, largest}
+use Rattle.t1_algebra.proofs.{rejoining.NormalCuts.{IsNormalCut, normal_shared}, Words.{list_any, AllByRecursion, eq_by_cmp, nat_cmp_total, nat_cmp-IsAntisymmetric, Interpreter, Names}}
 use Rattle.t1_algebra.proofs.{Kept.{keep_has, kept_call, keeps_alike}, Sets.{clash, any_filtered, cases}, Maps.{get-merged, get-valued}}
 use Rattle.std.specs.FinSet as sets
 use Rattle.std.specs.FinMap as maps
 
--- the font with even texts, cut to its first Subrs
+-- the font with normalized texts, cut to its first Subrs
 abbrev pub first_of : ℕ → FontValue → FontValue
-first_of count f = cut_to count (with_even_texts f)
+first_of count f = cut_to count (with_normal_texts f)
 
 -- the names keep no Subr of the font at the count or above it
 abbrev pub KeepsBelow : {O : Type 0} → Interpreter O → FontValue → ℕ → Names → Type 0
@@ -69,8 +71,8 @@ module _ (f : FontValue) (h : IsFont f) (n : ℕ) (a : Names) (inside : IsOf f a
         (keeps_same profile f h.glyphs.notdef n a inside low).1,
       )
 
-  -- the subset of the cut font is the subset, with even texts and cut as the font is
-  pub cut_subset : subset profile (first_of n f) a ≡ cut_to n (with_even_texts (subset profile f a))
+  -- the subset of the cut font is the subset, with normalized texts and cut as the font is
+  pub cut_subset : subset profile (first_of n f) a ≡ cut_to n (with_normal_texts (subset profile f a))
   cut_subset =
       let subrs = maps.same_map nat_cmp_total nat_cmp-IsAntisymmetric (subset profile (first_of n f) a).subrs
       (maps.retain_keys (subset profile f a).subrs (λ i. nat_lt i n)) subrs_same in
@@ -89,43 +91,43 @@ raised_declares most n s le = grind cases
 
 module _ (f : FontValue) where
   -- a truncated subset declares its count
-  pub count_is : (t : Truncated) → IsEvenCut f t → declared_count t.font.shell.subrs ≡ t.count
+  pub count_is : (t : Truncated) → IsNormalCut f t → declared_count t.font.shell.subrs ≡ t.count
   count_is t w = grind (cases, ap (λ (g : FontValue). declared_count g.shell.subrs) w.same, w.count)
 
   -- the largest count that is declared is the largest of the counts
-  pub largest_is : (ts : List Truncated) → AllByRecursion (IsEvenCut f) ts → largest_count (truncated_fonts ts) ≡ largest ts
+  pub largest_is : (ts : List Truncated) → AllByRecursion (IsNormalCut f) ts → largest_count (truncated_fonts ts) ≡ largest ts
   largest_is [] w = refl
   largest_is (t ∷ ts) w = λ i. max (count_is t w.0 i) (largest_is ts w.1 i)
 
   -- the font declares no fewer than the largest of the counts
-  pub largest_fits : (ts : List Truncated) → AllByRecursion (IsEvenCut f) ts → largest ts ≤ declared_count f.shell.subrs
+  pub largest_fits : (ts : List Truncated) → AllByRecursion (IsNormalCut f) ts → largest ts ≤ declared_count f.shell.subrs
   largest_fits [] w = omega arith
   largest_fits (t ∷ ts) w = omega (arith, w.0.count, largest_fits ts w.1)
 
   -- a truncated subset whose count is at most this
   abbrev pub Fits : ℕ → Truncated → Type 0
-  Fits most t = IsEvenCut f t × (t.count ≤ most)
+  Fits most t = IsNormalCut f t × (t.count ≤ most)
 
   -- each count is at most the largest
-  pub all_fit : (most : ℕ) (ts : List Truncated) → largest ts ≤ most → AllByRecursion (IsEvenCut f) ts → AllByRecursion (Fits most) ts
+  pub all_fit : (most : ℕ) (ts : List Truncated) → largest ts ≤ most → AllByRecursion (IsNormalCut f) ts → AllByRecursion (Fits most) ts
   all_fit most [] le w = tt
   all_fit most (t ∷ ts) le w = ((w.0, omega (arith, le)), all_fit most ts (omega (arith, le)) w.1)
 
   -- ---- the indices of all
 
   -- what a truncated subset has at each index
-  pub get_font : (t : Truncated) → IsEvenCut f t → (q : ℕ) → maps.get t.font.subrs q ≡ entry_in f t.names t.count q (maps.get f.subrs q)
+  pub get_font : (t : Truncated) → IsNormalCut f t → (q : ℕ) → maps.get t.font.subrs q ≡ entry_in f t.names t.count q (maps.get f.subrs q)
   get_font t w q = ap (λ (g : FontValue). maps.get g.subrs q) w.same ∙ get_cut f t.count t.names q
 
-  -- the indices of the Subrs of all fonts, made even
+  -- the indices of the Subrs of all fonts, normalized
   abbrev all_indices : ℕ → List Truncated → List ℕ
-  all_indices most ts = indices_of_all (map (even most) (truncated_fonts ts))
+  all_indices most ts = indices_of_all (map (normal most) (truncated_fonts ts))
 
   abbrev listed : ℕ → List ℕ → Bool
   listed q indices = list_any (eq_by_cmp nat_cmp q) indices
 
   -- the indices of all fonts include each index of the font below the largest count
-  reached : (most : ℕ) (ts : List Truncated) → AllByRecursion (IsEvenCut f) ts → (q : ℕ) → q < largest ts → maps.contains_key f.subrs q ≡ true →
+  reached : (most : ℕ) (ts : List Truncated) → AllByRecursion (IsNormalCut f) ts → (q : ℕ) → q < largest ts → maps.contains_key f.subrs q ≡ true →
       listed q (all_indices most ts) ≡ true
   reached most [] w q lt is = absurd (omega (arith, lt))
   reached most (t ∷ ts) w q lt is = grind (
@@ -140,7 +142,7 @@ module _ (f : FontValue) where
   )
 
   -- each of the indices of all fonts is an index of the font
-  from_indices : (most : ℕ) (ts : List Truncated) → AllByRecursion (IsEvenCut f) ts → (q : ℕ) → listed q (all_indices most ts) ≡ true →
+  from_indices : (most : ℕ) (ts : List Truncated) → AllByRecursion (IsNormalCut f) ts → (q : ℕ) → listed q (all_indices most ts) ≡ true →
       maps.contains_key f.subrs q ≡ true
   from_indices most [] w q l = clash false l refl
   from_indices most (t ∷ ts) w q l = grind (
@@ -160,7 +162,7 @@ WordsOf es None = Unit {0}
 WordsOf es (Some s) = SubrWords es s
 
 -- a table that fits has words for its entries
-pub words_of : (s : Shell) (o : Option SubrsShell) (m : Numbered) → SubrsFit s o m → WordsOf (maps.entries m) o
+pub words_of : (s : Shell) (o : Option SubrsShell) (m : SparseArray) → SubrsFit s o m → WordsOf (maps.entries m) o
 words_of s None m h = tt
 words_of s (Some t) m h = h.words
 
@@ -175,16 +177,16 @@ no_words [] s h e = refl
 no_words (x ∷ es) s h e = absurd (omega (arith, h.0.some, ap length e))
 
 -- a table that fits without words has no entries
-no_entries : (s : Shell) (o : Option SubrsShell) (m : Numbered) → SubrsFit s o m → WordsOf [] o → maps.entries m ≡ []
+no_entries : (s : Shell) (o : Option SubrsShell) (m : SparseArray) → SubrsFit s o m → WordsOf [] o → maps.entries m ≡ []
 no_entries s None m h e = h.0
 no_entries s (Some t) m h e = no_words (maps.entries m) t h.words e.0
 
 -- a map without entries has nothing at any key
-pub get_nothing : (m : Numbered) → maps.entries m ≡ [] → (q : ℕ) → maps.get m q ≡ None
+pub get_nothing : (m : SparseArray) → maps.entries m ≡ [] → (q : ℕ) → maps.get m q ≡ None
 get_nothing m e q = maps.get-entries m q ∙ ap (maps.find nat_cmp q) e
 
 -- a font with entries has a table, so a cut to n declares n
-has_table : (s : Shell) (o : Option SubrsShell) (m : Numbered) → SubrsFit s o m → (q : ℕ) → maps.contains_key m q ≡ true → (n : ℕ) → n ≤ declared_count o →
+has_table : (s : Shell) (o : Option SubrsShell) (m : SparseArray) → SubrsFit s o m → (q : ℕ) → maps.contains_key m q ≡ true → (n : ℕ) → n ≤ declared_count o →
     declared_count (option_map (declares n) o) ≡ n
 has_table s None m h q is n le = clash (maps.contains_key m q) is (ap is_some (get_nothing m h.0 q))
 has_table s (Some t) m h q is n le = refl
@@ -212,7 +214,7 @@ same_value false false true true (Some c) h i j l m = refl
 same_value false false true false (Some c) h i j l m = clash false (l refl refl) refl
 
 module _ (f : FontValue) (h : IsFont f) (most : ℕ) (fits : most ≤ declared_count f.shell.subrs)
-    (t : Truncated) (w : IsEvenCut f t) (le : t.count ≤ most) where
+    (t : Truncated) (w : IsNormalCut f t) (le : t.count ≤ most) where
   -- if a truncated subset has no entries, the table of the font has no words
   pub words_empty : maps.entries t.font.subrs ≡ [] → WordsOf [] f.shell.subrs
   words_empty e = words_declared t.count f.shell.subrs (subst (WordsOf []) (ap (λ (g : FontValue). g.shell.subrs) w.same)
@@ -222,15 +224,15 @@ module _ (f : FontValue) (h : IsFont f) (most : ℕ) (fits : most ≤ declared_c
   nothing : maps.entries t.font.subrs ≡ [] → (q : ℕ) → maps.get f.subrs q ≡ None
   nothing e = get_nothing f.subrs (no_entries f.shell f.shell.subrs f.subrs h.subrs (words_empty e))
 
-  -- the shell of a truncated subset, made even, is that of the cut font
-  shell_same : even_shell most t.font.shell ≡ (first_of most f).shell
+  -- the shell of a truncated subset, normalized, is that of the cut font
+  shell_same : normal_shell most t.font.shell ≡ (first_of most f).shell
   shell_same =
       (λ i. record (w.same i).shell { subrs = option_map (raised most) (w.same i).shell.subrs })
-      ∙ (λ i. record (even_texts f.shell) { subrs = raised_declares most t.count f.shell.subrs le i })
+      ∙ (λ i. record (normal_texts f.shell) { subrs = raised_declares most t.count f.shell.subrs le i })
 
-  -- how many Subrs are declared once the font is made even
+  -- how many Subrs are declared once the font is normalized
   abbrev declared : ℕ
-  declared = declared_count (even most t.font).shell.subrs
+  declared = declared_count (normal most t.font).shell.subrs
 
   declared_is : declared ≡ declared_count (option_map (declares most) f.shell.subrs)
   declared_is = ap (λ (s : Shell). declared_count s.subrs) shell_same
@@ -270,7 +272,7 @@ module _ (f : FontValue) (h : IsFont f) (most : ℕ) (fits : most ≤ declared_c
         (λ lt. lt-ltb q most (omega (arith, ltb-true q t.count lt, le))) (λ i. (is_below q i).0) (λ i. (is_below q i).1)
         (λ lt is. under q (ltb-true q most lt) is) (λ k is. lt-ltb q t.count (w.kept q k is))
 
-    -- the font that is made even has the entry of the subset cut to the largest count at each index
+    -- the font that is normalized has the entry of the subset cut to the largest count at each index
     filled_at : (es : List (ℕ × List ℕ)) → maps.entries t.font.subrs ≡ es → (q : ℕ) →
         maps.get (with_stubs inside t.font.subrs es) q ≡ entry_in f t.names most q (maps.get f.subrs q)
     filled_at [] e q = grind (cases, get_nothing t.font.subrs e q, nothing e q)
@@ -282,16 +284,16 @@ module _ (f : FontValue) (h : IsFont f) (most : ℕ) (fits : most ≤ declared_c
       value_same q,
     )
 
-    -- the truncated subset, made even, is the subset with even texts, cut to the largest count
-    pub made_is : filled indices (even most t.font) ≡ cut_to most (with_even_texts (subset profile f t.names))
+    -- the truncated subset, normalized, is the subset with normalized texts, cut to the largest count
+    pub made_is : filled indices (normal most t.font) ≡ cut_to most (with_normal_texts (subset profile f t.names))
     made_is =
-        let subrs = maps.same_map nat_cmp_total nat_cmp-IsAntisymmetric (filled indices (even most t.font)).subrs
+        let subrs = maps.same_map nat_cmp_total nat_cmp-IsAntisymmetric (filled indices (normal most t.font)).subrs
         (maps.retain_keys (subset profile f t.names).subrs (λ i. nat_lt i most))
         (λ q. filled_at (maps.entries t.font.subrs) refl q ∙ sym (get_cut f most t.names q)) in
         λ i. record { shell = shell_same i; encoding = (w.same i).encoding; subrs = subrs i; glyphs = (w.same i).glyphs }
 
-    -- the truncated subset, made even, is a subset of the shared font
-    pub made_subset : filled indices (even most t.font) ≡ subset profile (first_of most f) t.names
+    -- the truncated subset, normalized, is a subset of the shared font
+    pub made_subset : filled indices (normal most t.font) ≡ subset profile (first_of most f) t.names
     made_subset = made_is ∙ sym (cut_subset f h most t.names w.names (λ i k p. omega (arith, w.kept i k p, le)))
 
 -- ---- the fonts of a list
@@ -300,28 +302,28 @@ module _ (f : FontValue) (h : IsFont f) (most : ℕ) (fits : most ≤ declared_c
     (there : (q : ℕ) → q < most → maps.contains_key f.subrs q ≡ true → list_any (eq_by_cmp nat_cmp q) indices ≡ true)
     (from : (q : ℕ) → list_any (eq_by_cmp nat_cmp q) indices ≡ true → maps.contains_key f.subrs q ≡ true) where
   made_subsets : (ts : List Truncated) → AllByRecursion (Fits f most) ts →
-      map (filled indices) (map (even most) (truncated_fonts ts)) ≡ map (subset profile (first_of most f)) (sets_of ts)
+      map (filled indices) (map (normal most) (truncated_fonts ts)) ≡ map (subset profile (first_of most f)) (truncated_sets ts)
   made_subsets [] w = refl
   made_subsets (t ∷ ts) w = λ i. made_subset f h most fits t w.0.0 w.0.1 indices there from i ∷ made_subsets ts w.1 i
 
--- truncated subsets have the shell of the shared font once they are made even, so they have one box
+-- truncated subsets have the shell of the shared font once they are normalized, so they have one box
 module _ (f : FontValue) (h : IsFont f) (most : ℕ) (fits : most ≤ declared_count f.shell.subrs) where
   one_shell : (ts : List Truncated) → AllByRecursion (Fits f most) ts →
-      AllByRecursion (λ g. g.shell ≡ (first_of most f).shell) (map (even most) (truncated_fonts ts))
+      AllByRecursion (λ g. g.shell ≡ (first_of most f).shell) (map (normal most) (truncated_fonts ts))
   one_shell [] w = tt
   one_shell (t ∷ ts) w = (shell_same f h most fits t w.0.0 w.0.1, one_shell ts w.1)
 
-pub shells_are : (f : FontValue) → IsFont f → (ts : List Truncated) → AllByRecursion (IsEvenCut f) ts →
-    evened_shells (truncated_fonts ts) ≡ map (even (largest ts)) (truncated_fonts ts)
+pub shells_are : (f : FontValue) → IsFont f → (ts : List Truncated) → AllByRecursion (IsNormalCut f) ts →
+    normalized_shells (truncated_fonts ts) ≡ map (normal (largest ts)) (truncated_fonts ts)
 shells_are f h ts w =
-    ap (λ (n : ℕ). boxed (map (even n) (truncated_fonts ts))) (largest_is f ts w)
-    ∙ one_shell_stays (first_of (largest ts) f).shell (map (even (largest ts)) (truncated_fonts ts))
+    ap (λ (n : ℕ). boxed (map (normal n) (truncated_fonts ts))) (largest_is f ts w)
+    ∙ one_shell_stays (first_of (largest ts) f).shell (map (normal (largest ts)) (truncated_fonts ts))
     (one_shell f h (largest ts) (largest_fits f ts w) ts (all_fit f (largest ts) ts (omega arith) w))
 
--- truncated subsets that are made even are subsets of the shared font
-pub evened_is : (f : FontValue) → IsFont f → (ts : List Truncated) → AllByRecursion (IsEvenCut f) ts →
-    evened (truncated_fonts ts) ≡ map (subset profile (even_shared f ts)) (sets_of ts)
-evened_is f h ts w =
+-- truncated subsets that are normalized are subsets of the shared font
+pub normalized_is : (f : FontValue) → IsFont f → (ts : List Truncated) → AllByRecursion (IsNormalCut f) ts →
+    normalized (truncated_fonts ts) ≡ map (subset profile (normal_shared f ts)) (truncated_sets ts)
+normalized_is f h ts w =
     let most = largest ts in
     ap filled_all (shells_are f h ts w)
     ∙ made_subsets f h most (largest_fits f ts w) (all_indices f most ts) (λ q lt is. reached f most ts w q lt is)

@@ -1,4 +1,4 @@
-//! Words within budgets of tokens.
+//! Commands within budgets of tokens.
 use super::changed::tiny_changed;
 use super::diffs::{OTHER, other};
 use super::engines::{Engine, answer, line_of_reason};

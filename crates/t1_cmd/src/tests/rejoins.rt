@@ -93,7 +93,7 @@ fn cuts_with_boxes_of_their_own(rt: HostRuntime) -> Result<(), Fail> {
 }
 
 #[test]
-fn conflicts_of_even_fonts(rt: HostRuntime) -> Result<(), Fail> {
+fn conflicts_of_normal_fonts(rt: HostRuntime) -> Result<(), Fail> {
     let left = left(rt.alloc())?;
     let changed = tiny_changed(rt.alloc(), b"5839", b"5840")?;
     let line = rejoined(rt.alloc(), left.as_slice(), changed.as_slice());

@@ -26,9 +26,14 @@ fn count(alloc: Global, text: &[u8]) -> Result<usize, AllocError> {
 /// The offset of the last font text of a text.
 fn last_offset(alloc: Global, text: &[u8]) -> Result<Option<usize>, AllocError> {
     let document = read_document(alloc, text)?;
-    let offsets = document.offsets(alloc)?;
+    let mut last = None;
+    let mut at = 0usize;
+    for place in document.places.as_slice() {
+        last = Some(place.text_offset(at));
+        at = place.end_offset(at);
+    }
     drop(document);
-    Ok(offsets.as_slice().last().copied())
+    Ok(last)
 }
 
 /// A name of four bytes for a number below 1,000.
@@ -144,7 +149,6 @@ fn many_fonts_of_each(rt: HostRuntime) -> Result<(), Fail> {
 
 // meets read_document Ok at 0, 300 places
 // meets Document::pool Ok at 300 places
-// meets Document::offsets Ok at 300 places
 #[test]
 fn many_places(rt: HostRuntime) -> Result<(), Fail> {
     let alloc = rt.alloc();

@@ -3,7 +3,7 @@ use Rattle.std.proofs.{Common.{◌≡◌, ℕ, ◌+◌, ◌<◌, Ordering, true,
 use Rattle.std.specs.{List.{AllByRecursion}, Option.{option_map}, Str.{bytes_eq}, Ordering.{nat_cmp}, Cmp.{IsTotalOrder, nat_cmp_total}, Cmp.Lexicographic.{nat_list_cmp_total}}
 use Rattle.std.specs.FinMap.{FinMap, find, get, entries, entries_sorted, len-entries, contains_key, get-entries, same_map, IsAntisymmetric, nat_cmp-IsAntisymmetric, slice_cmp-IsAntisymmetric}
 use Rattle.t1_bytes.proofs.Ciphers.{opened-sealed, length-sealed}
-use Rattle.t1_font.specs.{Charstrings.{plain_of}, FontValue.{FontValue, Shell, SubrsShell, Encoding, Word, Codes, Numbered, Named, name_cmp, notdef}}
+use Rattle.t1_font.specs.{Charstrings.{plain_of}, FontValue.{FontValue, Shell, SubrsShell, Encoding, Word, Codes, SparseArray, CharStrings, name_cmp, notdef}}
 use Rattle.t1_font.specs.{Entries.{map_of, names_of, last_value, unless_notdef}, ReadFont.{encoding_value, of_first, subrs_shell, subr_entries, font_of}, Entry.{plain_entries}}
 use Rattle.t1_font.specs.Canon.{sealed_body, sealed_entry, subr_entry, glyph_entry, subrs_pieces, inside_of, outside_of, encoding_pieces}
 use Rattle.t1_font.specs.IsFont.{IsFont, IsWord, IsPhrase, IsCharstring, SubrsFit, SubrWords, IsCode, IsEncoding}
@@ -71,7 +71,7 @@ has_entries : {K X : Type 0} (R : K → K → Ordering) (es : List (K × X)) (k 
 has_entries R [] k h = absurd (true≢false (sym h))
 has_entries R (e ∷ es) k h = omega arith
 
-glyph_words_again : (s : Shell) (m : Named) → contains_key m notdef ≡ true → (of_first (λ g. g.body.rd) (map (glyph_entry s) (entries m)) ≡ s.glyphs_rd)
+glyph_words_again : (s : Shell) (m : CharStrings) → contains_key m notdef ≡ true → (of_first (λ g. g.body.rd) (map (glyph_entry s) (entries m)) ≡ s.glyphs_rd)
     × (of_first (λ g. g.body.phrase) (map (glyph_entry s) (entries m)) ≡ s.glyphs_def)
 glyph_words_again s m h = glyph_words_at s (entries m) (has_entries name_cmp (entries m) notdef (sym (ap is_some (get-entries m notdef)) ∙ h))
 
@@ -88,16 +88,16 @@ encoding_writable (Codes m) h = entries_all nat_cmp_total nat_cmp-IsAntisymmetri
 
 -- ---- the subroutines
 
-subrs_again : (s : Shell) (o : Option SubrsShell) (m : Numbered) → SubrsFit s o m →
+subrs_again : (s : Shell) (o : Option SubrsShell) (m : SparseArray) → SubrsFit s o m →
     option_map subrs_shell (option_map (subrs_pieces s.len_iv (entries m)) o) ≡ o
 subrs_again s None m h = refl
 subrs_again s (Some t) m h = λ i. Some
     (record { declared = t.declared; rd = rd_again s.len_iv t (entries m) h.words i; put = put_again s.len_iv t (entries m) h.words i; closing = t.closing })
 
-none_again : (m : Numbered) → entries m ≡ [] → map_of [] ≡ m
+none_again : (m : SparseArray) → entries m ≡ [] → map_of [] ≡ m
 none_again m h = ap map_of (sym h) ∙ map_again nat_cmp_total nat_cmp-IsAntisymmetric m
 
-map_subrs : (s : Shell) (gs : List (List ℕ × List ℕ)) (o : Option SubrsShell) (m : Numbered) → SubrsFit s o m →
+map_subrs : (s : Shell) (gs : List (List ℕ × List ℕ)) (o : Option SubrsShell) (m : SparseArray) → SubrsFit s o m →
     map_of (subr_entries (record {
       private = s.private;
       len_iv = s.len_iv;
@@ -151,7 +151,7 @@ subr_writable : (iv : ℕ) (s : SubrsShell) (es : List (ℕ × List ℕ)) → Su
 subr_writable iv s [] w all = tt
 subr_writable iv s (e ∷ es) w all = entries_writable (λ i. i < s.declared) iv s.rd s.put w.0 w.1 (e ∷ es) all
 
-subrs_writable : (s : Shell) (o : Option SubrsShell) (m : Numbered) → SubrsFit s o m →
+subrs_writable : (s : Shell) (o : Option SubrsShell) (m : SparseArray) → SubrsFit s o m →
     AreOptional s.len_iv s.middle (option_map (subrs_pieces s.len_iv (entries m)) o)
 subrs_writable s None m h = h.1
 subrs_writable s (Some t) m h = record {

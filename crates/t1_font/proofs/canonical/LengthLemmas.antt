@@ -5,7 +5,8 @@ use Rattle.std.specs.{Prelude.{codes}, Fmt.{decimal as digits}, List.{AllByRecur
 use Rattle.std.specs.{FinMap.{entries, entries_sorted, len-entries, is_sorted, nat_cmp-IsAntisymmetric}, FinMap.Entries.{below_all}, Cmp.Lexicographic.{nat_list_cmp_total}}
 use Rattle.t1_bytes.specs.{declared.form.Form.{Form}, declared.form.Form.TheVariants.{Pfa, Pfb}, Cipher.{private_cipher}, Limits.{file_limit}}
 use Rattle.t1_bytes.proofs.{Ciphers.{length-sealed}, FileLengths.{pfa_length, pfb_length}}
-use Rattle.t1_font.specs.{Words.{word, phrase_of, phrase_after, is_access, passes}, FontValue.{FontValue, Shell, SubrsShell, Encoding, Word, Codes, Numbered, total, subr_weight, glyph_weight, weight}}
+use Rattle.t1_font.specs.Words.{word, phrase_of, phrase_after, is_access, passes}
+use Rattle.t1_font.specs.FontValue.{FontValue, Shell, SubrsShell, Encoding, Word, Codes, SparseArray, total, subr_weight, glyph_weight, weight}
 use Rattle.t1_font.specs.{Writing.{body_text, entry_text, entries_text, index_text, subrs_text, subrs_part, name_text, glyphs_text, glyphs_part, puts_text, encoding_text}, Entry.{Body}}
 use Rattle.t1_font.specs.{Canon.{sealed_body, sealed_entry, subr_entry, glyph_entry, subrs_pieces, encoding_pieces, canon_clear, canon_private, canon}, WriteLaws.{CanonLength}}
 use Rattle.t1_font.specs.IsFont.{IsFont, IsWord, IsPhrase, IsCharstring, SubrsFit, SubrWords, IsCode, IsEncoding}
@@ -71,7 +72,7 @@ subrs_long iv s (e ∷ es) away w all = omega (
   entries_long index_text (λ i. i ≤ 65535) (subr_weight iv) iv s.rd s.put s.closing (λ i c h. omega (arith, digits_short i h)) w.0 w.1 (e ∷ es) all,
 )
 
-part_long : (s : Shell) (o : Option SubrsShell) (m : Numbered) → SubrsFit s o m →
+part_long : (s : Shell) (o : Option SubrsShell) (m : SparseArray) → SubrsFit s o m →
     length (subrs_part (option_map (subrs_pieces s.len_iv (entries m)) o)) ≤ total (subr_weight s.len_iv) (entries m) + 60
 part_long s None m h = omega arith
 part_long s (Some t) m h =
@@ -157,7 +158,7 @@ puts_long : (es : List (ℕ × List ℕ)) → AllByRecursion (λ e. IsCode e.0 e
 puts_long [] all = omega arith
 puts_long (e ∷ es) all = omega (arith, put_short e.0 e.1 (puts_text es) all.0, puts_long es all.1)
 
-codes_few : (m : Numbered) → IsEncoding (Codes m) → length (entries m) ≤ 256
+codes_few : (m : SparseArray) → IsEncoding (Codes m) → length (entries m) ≤ 256
 codes_few m h = omega (
   arith,
   few_from 0 (entries m) (omega arith) (T_true (is_sorted nat_cmp (entries m)) (entries_sorted m))

@@ -7,7 +7,7 @@ use Rattle.t1_bytes.specs.{Eexec.{eexec_marker, hex_or_white, hex_text, cipher_t
 use Rattle.t1_bytes.proofs.{Ciphers.{decrypted_front, length-sealed}, HexLines.{lines_read, binary_read, hex_run, run_secret, run_digits}, PfbLemmas.{pfb_flat}}
 use Rattle.t1_grammar.specs.{Formats.{with_fault}, Grammar.{Stops, first_at, front_again}}
 use Rattle.t1_font.specs.{declared.fault.ReadFault.TheVariants.{BadSegment}, declared.dialect.Spacing.TheVariants.{White}, declared.fault.ReadFault.{ReadFault}}
-use Rattle.t1_font.specs.FontValue.{FontValue, SubrsShell, Numbered, notdef, count_limit, declared_count, IsWithin}
+use Rattle.t1_font.specs.FontValue.{FontValue, SubrsShell, SparseArray, notdef, count_limit, declared_count, IsWithin}
 use Rattle.t1_font.specs.{Pieces.{EncodingText, OneWord, Puts, ClearPieces, PrivatePieces, flat_pieces, private_pieces}, ReadFont.{font_of, has_notdef, flat_text, font_from, font_file, read_font}}
 use Rattle.t1_font.specs.{Writing.{encoding_text}, Canon.{encoding_pieces, inside_of, outside_of, canon_clear, canon_private, canon, Fits}, IsFont.{IsFont, SubrsFit}}
 use Rattle.t1_font.proofs.{ValueLaws.{notdef_is, within_again}, canonical.ClearWritten.{clear_again}, canonical.PrivateWritten.{private_again}}
@@ -66,7 +66,7 @@ value_again f h =
     let within : IsWithin (font_of c p) = subst IsWithin (sym same) limits in
     rw (notdef_there, within_again c p within) (ap (λ (g : FontValue). Ok g) same)
   where
-    count : (o : Option SubrsShell) (m : Numbered) → SubrsFit f.shell o m → declared_count o ≤ count_limit
+    count : (o : Option SubrsShell) (m : SparseArray) → SubrsFit f.shell o m → declared_count o ≤ count_limit
     count None m k = omega arith
     count (Some s) m k = k.declared
 

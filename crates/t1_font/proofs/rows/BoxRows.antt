@@ -2,7 +2,7 @@
 use Rattle.std.{proofs.Common.{◌≡◌, true, false, ℕ, List, [], ◌∷◌, ◌++◌, Option, Some, None, refl}, specs.Prelude.{codes}}
 use Rattle.t1_grammar.specs.Grammar.{first_at}
 use Rattle.t1_bytes.specs.White.{gap}
-use Rattle.t1_font.specs.{FontValue.{FontValue, Shell, Encoding, Numbered, Named}, Numbers.{number, is_number}}
+use Rattle.t1_font.specs.{FontValue.{FontValue, Shell, Encoding, SparseArray, CharStrings}, Numbers.{number, is_number}}
 use Rattle.t1_font.specs.FontBoxes.{Box, opening, spaced, box_numbers, font_box, joined_box, box_of, clear_with, box_stays, boxes_of}
 
 -- a shell with these two texts
@@ -181,18 +181,18 @@ not_again = refl
 -- ---- lists
 
 -- a font of two texts
-abbrev font : Encoding → Numbered → Named → List ℕ → FontValue
+abbrev font : Encoding → SparseArray → CharStrings → List ℕ → FontValue
 font e m g head = record { shell = shell head []; encoding = e; subrs = m; glyphs = g }
 
 -- a brace beside a bracket
-procedures : (e : Encoding) (m : Numbered) (g : Named) →
+procedures : (e : Encoding) (m : SparseArray) (g : CharStrings) →
     boxes_of (font e m g (codes "/FontBBox {0 0 1 1} def") ∷ font e m g (codes "/FontBBox [0 -2 0.5 3] def") ∷ [])
     ≡ Some (a_box (codes "0") (codes "0") (codes "1") (codes "1") ∷ a_box (codes "0") (codes "-2") (codes "0.5") (codes "3") ∷ [])
 unfolding first_at gap number opening spaced box_numbers font_box
 procedures e m g = refl
 
 -- where one font has no box, none has
-one_without : (e : Encoding) (m : Numbered) (g : Named) →
+one_without : (e : Encoding) (m : SparseArray) (g : CharStrings) →
     boxes_of (font e m g (codes "/FontBBox {0 0 1 1} def") ∷ font e m g (codes "/FontBBox 7 def") ∷ []) ≡ None
 unfolding first_at gap number opening spaced box_numbers font_box
 one_without e m g = refl

@@ -1,7 +1,7 @@
 -- Texts around an Encoding with tags before the names of their fonts, and what is left of them.
 use Rattle.std.{proofs.Common.{◌≡◌, [], refl}, specs.Prelude.{codes}}
 use Rattle.t1_grammar.specs.Grammar.{first_at}
-use Rattle.t1_font.specs.{Tags.{tag, name_marker, behind_tags}, EvenTexts.{without_tags}}
+use Rattle.t1_font.specs.{Tags.{tag, name_marker, behind_tags}, NormalTexts.{without_tags}}
 
 a_tag : without_tags (codes "%! /FontName /ABCDEF+Tiny def ", []) ≡ (codes "%! /FontName /Tiny def ", [])
 unfolding first_at tag name_marker behind_tags

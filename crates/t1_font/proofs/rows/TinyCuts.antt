@@ -3,7 +3,7 @@ use Rattle.std.proofs.Common.{◌≡◌, ℕ, Bool, ◌||◌, ◌==◌, cond, le
 use Rattle.std.specs.{Prelude.{codes, filter}, Str.{bytes_eq}, Ordering.{nat_cmp}, Cmp.{nat_cmp_total}, Cmp.Lexicographic.{nat_list_cmp_total}}
 use Rattle.std.specs.FinMap.{find, get, entries, from_sorted, retain_keys, get-entries, entries-from_sorted, same_entries_map, nat_cmp-IsAntisymmetric}
 use Rattle.t1_bytes.specs.{declared.form.Form.{Form}, declared.form.Form.TheVariants.{Pfa}, Cipher.{private_cipher}, Texts.{file_text}}
-use Rattle.t1_font.specs.{Pieces.{Puts}, Writing.{clear_written, private_written}, Canon.{outside_of, inside_of, canon}, FontValue.{Numbered, Codes, name_cmp, notdef, weight, weight_of}}
+use Rattle.t1_font.specs.{Pieces.{Puts}, Writing.{clear_written, private_written}, Canon.{outside_of, inside_of, canon}, FontValue.{SparseArray, Codes, name_cmp, notdef, weight, weight_of}}
 use Rattle.t1_font.specs.{Entries.{last_entries}, Cut.{stub, restrict}, Maps.{map_values, merged}, Joins.{joined_subr, join_parts}}
 use Rattle.t1_font.proofs.{MapLemmas.{entries-map_values}, canonical.FontAgain.{name_same}, CutEntries.{entries-retain, entries-retain_values, entries-merged}}
 use Rattle.t1_font.proofs.rows.TinyNumbers.{n0, n1, n2, n3, n4, n5, n6, n7, n8, n9, n10, n15, n16, n19, n65, n66}
@@ -33,7 +33,7 @@ module _ (names : List ℕ → Bool) (kept : ℕ → Bool) where
   weight_is = λ i. weight_of shell (subrs_are i) (glyphs_are i)
 
 -- the codes of a cut
-code_map : (List ℕ → Bool) → Numbered
+code_map : (List ℕ → Bool) → SparseArray
 code_map names = retain_keys (from_sorted puts) (λ c. names (unwrap_or (get {R = nat_cmp} (from_sorted puts) c) []))
 
 codes_are : (names : List ℕ → Bool) → entries (code_map names) ≡ cut_puts names

@@ -1,7 +1,7 @@
 //! Fonts with one FontBBox.
 
 use super::{GLYPHS, joined, source};
-use crate::{Part, Source, even_boxes};
+use crate::{Part, Source, normalize_boxes};
 use std::alloc::{AllocError, Global};
 use std::test::Fail;
 
@@ -31,7 +31,7 @@ fn sources(alloc: Global, fonts: &[Texts]) -> Result<Vec<Source>, AllocError> {
 
 /// The heads and clear tails of such fonts with one box, a bar behind each.
 pub fn boxed(alloc: Global, fonts: &[Texts]) -> Result<Vec<u8>, AllocError> {
-    let sources = even_boxes(alloc, sources(alloc, fonts)?)?;
+    let sources = normalize_boxes(alloc, sources(alloc, fonts)?)?;
     let mut texts = Vec::new(alloc);
     for source in sources.as_slice() {
         let font = source.font(alloc)?;
@@ -97,7 +97,7 @@ const ROWS: &[Row] = &[
             (b"%!\n/FontBBox{-2  0 1 1}def\n", b""),
         ],
         b"%!\n/FontBBox{0 0 1 1}def\n|\ncurrentfile eexec|%!\n/FontBBox{-2  0 1 1}def\n|\ncurrentfile eexec|",
-        "texts that are not even",
+        "texts that are not normalized",
     ),
     (
         &[
@@ -118,7 +118,7 @@ const ROWS: &[Row] = &[
     (&[], b"", "no fonts"),
 ];
 
-// meets even_boxes Ok at 0, 1, 2, 3 fonts
+// meets normalize_boxes Ok at 0, 1, 2, 3 fonts
 #[test]
 fn fonts_with_one_box(rt: HostRuntime) -> Result<(), Fail> {
     for (fonts, want, row) in ROWS {
@@ -138,11 +138,11 @@ fn many(alloc: Global, count: usize) -> Result<Vec<Source>, AllocError> {
     Ok(sources)
 }
 
-// meets even_boxes Ok at 1001 fonts
+// meets normalize_boxes Ok at 1001 fonts
 #[test]
 fn many_fonts_with_one_box(rt: HostRuntime) -> Result<(), Fail> {
     const FONTS: usize = 1001;
-    let sources = even_boxes(rt.alloc(), many(rt.alloc(), FONTS - 1)?)?;
+    let sources = normalize_boxes(rt.alloc(), many(rt.alloc(), FONTS - 1)?)?;
     assert_eq!(rt; sources.len(), FONTS);
     for source in sources.as_slice() {
         let font = source.font(rt.alloc())?;

@@ -1,15 +1,10 @@
 //! Cuts of fonts, and the fonts of the entries of two, with ample memory.
 
 ghost use Rattle.std.specs.Prelude.{◌≡◌, ℕ, Bool, true, List, IfOk};
+ghost use Rattle.t1_bytes.specs.declared.form.Form.TheVariants.{Pfb};
+ghost use Rattle.t1_font.specs.{FontValue.{notdef}, Cut.{set_of_names, restrict}, Canon.{canon}, IsFont.{IsFont}, Parts.{HasShellOf}, Encodings.{SameKind}};
 ghost use Rattle.std.specs.FinMap as fin;
 ghost use Rattle.std.specs.FinSet as sets;
-ghost use Rattle.t1_bytes.specs.declared.form.Form.TheVariants.{Pfb};
-ghost use Rattle.t1_font.specs.FontValue.{notdef};
-ghost use Rattle.t1_font.specs.Cut.{set_of_names, restrict};
-ghost use Rattle.t1_font.specs.Canon.{canon};
-ghost use Rattle.t1_font.specs.IsFont.{IsFont};
-ghost use Rattle.t1_font.specs.Parts.{HasShellOf};
-ghost use Rattle.t1_font.specs.Encodings.{SameKind};
 
 use super::rows::with;
 use super::{file, lent_file};

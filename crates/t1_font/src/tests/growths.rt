@@ -3,8 +3,8 @@
 
 use super::boxes::{ONE_BOX, TWO, boxed};
 use super::cuts::{joined, tiny_cut};
-use super::evening::{MARKS, TABLES, evened, is_left};
 use super::names::{all_become, becomes};
+use super::normalizing::{MARKS, TABLES, is_left, normalized};
 use super::tables::tiny_is_right;
 use super::untested::{TESTED, UNTESTED};
 use super::wide::with_copies;
@@ -44,20 +44,20 @@ fn cuts_join(alloc: Global) -> Result<bool, PartsFault> {
     Ok(parts.as_slice() == both.as_slice())
 }
 
-/// Whether fonts are made even: `Source::even` leaves a head without its tag, `even_shells` and `fill_all` the same Subrs in
-/// each, and `even_boxes` one box.
-fn evens(alloc: Global) -> Result<bool, PartsFault> {
+/// Whether fonts are normalized: `Source::normalize` leaves a head without its tag, `normalize_shells` and `fill_all` the same Subrs in
+/// each, and `normalize_boxes` one box.
+fn normalizes(alloc: Global) -> Result<bool, PartsFault> {
     let left = is_left(
         alloc,
         b"/FontName /ABCDEF+Tiny def ",
         b"/FontName /Tiny def ",
     )?;
-    let marks = evened(alloc, TABLES)?;
+    let marks = normalized(alloc, TABLES)?;
     let boxes = boxed(alloc, TWO)?;
     Ok(left && marks.as_slice() == MARKS && boxes.as_slice() == ONE_BOX)
 }
 
-/// Whether fonts get a name: `Source::named` one, `even_named` two that are made even.
+/// Whether fonts get a name: `Source::named` one, `normalize_named` two that are normalized.
 fn get_names(alloc: Global) -> Result<bool, AllocError> {
     let one = becomes(alloc, b"/FontName /T def ", b"U", b"/FontName /U def ")?;
     Ok(one && all_become(alloc, 2)?)
@@ -97,9 +97,9 @@ fn growths_of_parts(rt: HostRuntime) -> Result<(), Fail> {
 }
 
 #[test]
-fn growths_of_evening(rt: HostRuntime) -> Result<(), Fail> {
-    let right = match evens(rt.alloc()) {
-        Err(PartsFault::Memory) => evens(rt.alloc()).is_ok_and(|right| right),
+fn growths_of_normalizing(rt: HostRuntime) -> Result<(), Fail> {
+    let right = match normalizes(rt.alloc()) {
+        Err(PartsFault::Memory) => normalizes(rt.alloc()).is_ok_and(|right| right),
         answer => answer.is_ok_and(|right| right),
     };
     assert!(rt; right);

@@ -14,6 +14,7 @@ fn places(alloc: Global, indices: &[u16]) -> Result<Vec<u16>, AllocError> {
     likely_places(alloc, entries.as_slice())
 }
 
+// meets likely_places Ok at 0, 1, 3, 4, 7, 1031, 65534 indices
 #[test]
 fn likely_places_of_indices(rt: HostRuntime) -> Result<(), Fail> {
     const ROWS: &[(&[u16], &[u16])] = &[
@@ -27,7 +28,9 @@ fn likely_places_of_indices(rt: HostRuntime) -> Result<(), Fail> {
     for (indices, want) in ROWS {
         assert!(rt; places(rt.alloc(), indices)?.as_slice() == *want);
     }
-    let last = places(rt.alloc(), &[7, 65_534])?;
-    assert!(rt; last.len() == 65_535 && last[7] == 0 && last[65_534] == 1);
+    let last = places(rt.alloc(), &[7, 1_030])?;
+    assert!(rt; last.len() == 1_031 && last[7] == 0 && last[1_030] == 1);
+    assert!(rt; places(rt.alloc(), &[7, 1_031])?.is_empty());
+    assert!(rt; places(rt.alloc(), &[7, 65_534])?.is_empty());
     Ok(())
 }

@@ -3,8 +3,8 @@
 use super::cuts::{add_lines, cut_font, headed, joined, part};
 use super::{CLEAR, GLYPHS, fault, fault_of, file, joined as one_after, lent_file, rewritten};
 use crate::{
-    Font, Form, Named, PartsFault, ReadFault, Source, join_glyphs, join_same_glyphs, mends, read,
-    read_vec, read_wide, read_wide_vec,
+    CharStrings, Font, Form, PartsFault, ReadFault, Source, join_glyphs, join_same_glyphs, mends,
+    read, read_vec, read_wide, read_wide_vec,
 };
 use std::alloc::{AllocError, Global};
 use std::ops::Range;
@@ -195,7 +195,7 @@ fn entries_that_come_again(rt: HostRuntime) -> Result<(), Fail> {
 }
 
 /// How many glyphs a table has, if there is one.
-fn length(glyphs: Option<Named<'_>>) -> Option<usize> {
+fn length(glyphs: Option<CharStrings<'_>>) -> Option<usize> {
     match glyphs {
         Some(glyphs) => Some(glyphs.len()),
         None => None,
@@ -254,8 +254,8 @@ fn is_cut_to_itself(alloc: Global, subrs: u16, glyphs: u32) -> Result<bool, Allo
 
 // meets restrict Ok at 1, 2, 4097, 65535 glyphs
 // meets restrict Ok at 0, 4097, 65535 subrs
-// meets Named::copy Ok at 1, 2, 4097, 65535 glyphs
-// meets Numbered::copy Ok at 0, 4097, 65535 subrs
+// meets CharStrings::copy Ok at 1, 2, 4097, 65535 glyphs
+// meets SparseArray::copy Ok at 0, 4097, 65535 subrs
 // meets join_glyphs Ok at 1, 2, 4097, 65535 glyphs
 // meets join_same_glyphs Some at 1, 2, 4097, 65535 glyphs
 // meets write Ok at 1, 2, 4097, 65535 glyphs

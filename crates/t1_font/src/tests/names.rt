@@ -1,7 +1,7 @@
 //! Fonts under another name.
 
-use super::evening::{NONE, has_head, made};
-use crate::{Source, even_named};
+use super::normalizing::{NONE, has_head, made};
+use crate::{Source, normalize_named};
 use std::alloc::{AllocError, Global};
 use std::test::Fail;
 
@@ -20,14 +20,14 @@ fn keep(sources: &mut Vec<Source>, source: Source) -> Result<(), AllocError> {
     }
 }
 
-/// Whether so many fonts with tags are made even and then have this name.
+/// Whether so many fonts with tags are normalized and then have this name.
 pub fn all_become(alloc: Global, count: usize) -> Result<bool, AllocError> {
     let mut sources = Vec::new(alloc);
     for _ in 0..count {
         let source = made(alloc, 0, b"%!\r\n/FontName  /ABCDEF+T def\n", NONE)?;
         keep(&mut sources, source)?;
     }
-    let named = even_named(alloc, sources, b"GHIJKL+T")?;
+    let named = normalize_named(alloc, sources, b"GHIJKL+T")?;
     let mut right = named.len() == count;
     for source in named.as_slice() {
         right = right && has_head(alloc, source, b"%!\n/FontName /GHIJKL+T def\n")?;
@@ -107,9 +107,9 @@ fn long_name(rt: HostRuntime) -> Result<(), Fail> {
     Ok(())
 }
 
-// meets even_named Ok at 0, 2, 1000 fonts
+// meets normalize_named Ok at 0, 2, 1000 fonts
 #[test]
-fn even_fonts_with_a_name(rt: HostRuntime) -> Result<(), Fail> {
+fn normal_fonts_with_a_name(rt: HostRuntime) -> Result<(), Fail> {
     for count in [0usize, 2, 1000] {
         assert!(rt; all_become(rt.alloc(), count)?, "{count} fonts");
     }

@@ -2,13 +2,13 @@
 
 use super::cuts::{Cut, X, Y, large, lent_cut_font};
 use super::file;
-use crate::{Font, Named, Source, join_glyphs, join_same_glyphs, read};
+use crate::{CharStrings, Font, Source, join_glyphs, join_same_glyphs, read};
 use std::alloc::{AllocError, Global};
 use std::test::Fail;
 use t1_tiny::PFA;
 
 /// The names of a table, each with a blank.
-fn names(alloc: Global, glyphs: &Named<'_>) -> Result<Vec<u8>, AllocError> {
+fn names(alloc: Global, glyphs: &CharStrings<'_>) -> Result<Vec<u8>, AllocError> {
     let mut text = Vec::new(alloc);
     for (name, _) in glyphs.entries() {
         text.extend_from_slice(name)?;
@@ -18,7 +18,7 @@ fn names(alloc: Global, glyphs: &Named<'_>) -> Result<Vec<u8>, AllocError> {
 }
 
 /// Whether the table has each glyph of the font, with its charstring.
-fn has_all(glyphs: &Named<'_>, font: &Font<'_>) -> bool {
+fn has_all(glyphs: &CharStrings<'_>, font: &Font<'_>) -> bool {
     for name in font.names() {
         if glyphs.get(name) != font.charstring(name) {
             return false;
@@ -51,7 +51,7 @@ fn join_same<'a>(
     alloc: Global,
     first: &Font<'a>,
     second: &Font<'a>,
-    both: &Named<'a>,
+    both: &CharStrings<'a>,
 ) -> Result<bool, AllocError> {
     let Some(same) = join_same_glyphs(alloc, first.glyphs(), second.glyphs())? else {
         return Ok(false);

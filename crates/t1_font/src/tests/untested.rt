@@ -1,7 +1,7 @@
 //! Fonts without the test in their heads whether they were loaded before.
 
 use super::behind;
-use super::evening::{NONE, has_head, made};
+use super::normalizing::{NONE, has_head, made};
 use std::alloc::{AllocError, Global};
 use std::test::Fail;
 

@@ -1,6 +1,7 @@
 // Each call that grows, and those that don't.
 
 use crate::flats::Flat;
+use crate::growing::push_item;
 use crate::hexadecimal::Hex;
 use crate::listing::{self, JoinFault, ListFault, Listing};
 use crate::partial::Join;
@@ -96,6 +97,14 @@ fn digits_spell(alloc: Global) -> Result<bool, AllocError> {
     }
 }
 
+// Whether an item is pushed behind another.
+fn items_stand(alloc: Global) -> Result<bool, AllocError> {
+    let mut list = Vec::new(alloc);
+    push_item(&mut list, 5u16)?;
+    push_item(&mut list, 7)?;
+    Ok(list.as_slice() == [5, 7].as_slice())
+}
+
 // Whether all calls that grow answer right.
 fn answers_right(alloc: Global) -> Result<bool, AllocError> {
     let listings = texts_join(
@@ -109,7 +118,8 @@ fn answers_right(alloc: Global) -> Result<bool, AllocError> {
             && digits_spell(alloc)?
             && two_tables_join(alloc)?
             && four_tables_join(alloc)?
-            && flats_join(alloc)?,
+            && flats_join(alloc)?
+            && items_stand(alloc)?,
     )
 }
 

@@ -1,5 +1,6 @@
 // Each call that grows, at its smallest sizes and at its largest.
 
+use crate::growing::push_item;
 use crate::hexadecimal::Hex;
 use crate::partial::Join;
 use crate::tables::Table;
@@ -114,5 +115,23 @@ fn long_lines_join(rt: HostRuntime) -> Result<(), Fail> {
         let right = joins_with_itself(rt.alloc(), name, digits)?;
         assert!(rt; right, "a name of {name} bytes and {digits} digits");
     }
+    Ok(())
+}
+
+// The count and the last of the items of a list to which the numbers below this one were added one by one.
+fn added(alloc: Global, end: usize) -> Result<(usize, Option<usize>), AllocError> {
+    let mut list = Vec::new(alloc);
+    for number in 0..end {
+        push_item(&mut list, number)?;
+    }
+    Ok((list.len(), list.as_slice().last().copied()))
+}
+
+// meets push_item Ok at 0, 1, 65535 items
+#[test]
+fn items_of_each_count(rt: HostRuntime) -> Result<(), Fail> {
+    assert!(rt; added(rt.alloc(), 0)? == (0, None));
+    assert!(rt; added(rt.alloc(), 1)? == (1, Some(0)));
+    assert!(rt; added(rt.alloc(), 65_535)? == (65_535, Some(65_534)));
     Ok(())
 }

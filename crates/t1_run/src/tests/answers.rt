@@ -2,7 +2,7 @@
 
 use crate::tests::budget::{WIDTH, charstring};
 use crate::tests::fonts::{GlyphFont, fault};
-use crate::{Direct, DrawFault, Drawing, Fault, Layout, direct, direct3, draw, draw3, lay_out};
+use crate::{Direct, DrawFault, Drawing, Fault, direct, direct3, draw, draw3, lay_out};
 use std::alloc::Global;
 use std::test::Fail;
 
@@ -71,7 +71,7 @@ fn is_undrawn(
     let kept = draw3(alloc, font, name)?;
     let layout = lay_out(alloc, font, name)?;
     let is_failed = replaced == Drawing::Failed(want) && kept == replaced;
-    Ok(is_failed && layout == Layout::Failed(want))
+    Ok(is_failed && layout == Drawing::Failed(want))
 }
 
 // The first fault that is answered otherwise.

@@ -6,7 +6,7 @@ use crate::tests::executes::are;
 use crate::tests::fonts::GlyphFont;
 use crate::tests::layouts::{Letters, trace_glyph};
 use crate::{
-    Budget, Called, Direct, Drawing, Stop, direct, direct3, draw, draw3, executed,
+    Budget, Direct, Drawing, Stop, SubrSet, direct, direct3, draw, draw3, executed,
     parts_and_executed, parts_and_executed_within, standard_name,
 };
 use std::alloc::{AllocError, Global};
@@ -73,7 +73,7 @@ fn traces_right(alloc: Global, font: &GlyphFont<'_>) -> Result<bool, AllocError>
 // Whether the parts of an accented glyph are named for both runs, and the calls of both told: beside an index that was
 // called before, and alone.
 fn asks_right(alloc: Global, font: &GlyphFont<'_>) -> Result<bool, AllocError> {
-    let mut called = Called::new(alloc);
+    let mut called = SubrSet::new(alloc);
     called.insert(65534)?;
     let names = parts_and_executed(alloc, font, &SEAC, &mut called)?;
     let no_names = parts_and_executed(alloc, font, &HINTS, &mut called)?;
@@ -93,7 +93,7 @@ fn asks_right(alloc: Global, font: &GlyphFont<'_>) -> Result<bool, AllocError> {
 
 // Whether the parts of an accented glyph are named within a budget that is enough.
 fn within_right(alloc: Global, font: &GlyphFont<'_>) -> Result<bool, AllocError> {
-    let mut called = Called::new(alloc);
+    let mut called = SubrSet::new(alloc);
     let mut budget = Budget { left: Some(1000) };
     match parts_and_executed_within(alloc, font, &SEAC, &mut called, &mut budget) {
         Ok(names) => Ok(names.len() == 4),

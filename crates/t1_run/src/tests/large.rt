@@ -3,7 +3,7 @@
 use crate::tests::budget::{WIDTH, charstring, count_of_marks};
 use crate::tests::fonts::{Font, GlyphFont};
 use crate::tests::layouts::trace_glyph;
-use crate::{Called, Direct, Drawing, direct, direct3, draw, draw3, executed, parts_and_executed};
+use crate::{Direct, Drawing, SubrSet, direct, direct3, draw, draw3, executed, parts_and_executed};
 use std::alloc::{AllocError, Global};
 use std::collections::BTreeSet;
 use std::test::Fail;
@@ -51,7 +51,7 @@ fn executes_all(alloc: Global, begin: &[u8], count: u16) -> Result<bool, Fail> {
     let glyph = calls(alloc, begin, count)?;
     let alone = executed(alloc, &font, &glyph)?;
     let answer = direct(alloc, &font, &glyph)?;
-    let mut called = Called::new(alloc);
+    let mut called = SubrSet::new(alloc);
     let names = parts_and_executed(alloc, &font, &glyph, &mut called)?;
     let added = called.to_set(alloc)?;
     let are_all = is_below(&alone, count) && is_below(&added, count);
@@ -92,7 +92,7 @@ const CALL_AND_SEAC: [u8; 16] = [
 // again and names two parts in both runs.
 fn keeps(alloc: Global, before: u16) -> Result<bool, Fail> {
     let font = Font::small(alloc)?;
-    let mut called = Called::new(alloc);
+    let mut called = SubrSet::new(alloc);
     for index in 0..before {
         called.insert(index)?;
     }
@@ -214,7 +214,7 @@ fn names_parts(alloc: Global, dotsections: u32, end: &[u8], count: usize) -> Res
     let glyph = charstring(alloc, &WIDTH, dotsections, end)?;
     let replaced = direct(alloc, &font, &glyph)?;
     let kept = direct3(alloc, &font, &glyph)?;
-    let mut called = Called::new(alloc);
+    let mut called = SubrSet::new(alloc);
     let both = parts_and_executed(alloc, &font, &glyph, &mut called)?;
     let is_seac = matches!(&replaced, Direct::Seac { .. }) && kept == replaced;
     Ok(is_seac && both.len() / 2 == count)

@@ -2,7 +2,7 @@
 
 use crate::tests::budget::charstring;
 use crate::tests::fonts::GlyphFont;
-use crate::{Glyphs, Layout, Mark, Pen, PlacedPart, Subroutines, lay_out, trace};
+use crate::{Drawing, DrawnPart, Glyphs, Mark, Pen, Subroutines, lay_out, trace};
 use std::alloc::{AllocError, Global};
 use std::test::Fail;
 
@@ -53,11 +53,11 @@ impl Pen for Letters {
 fn trace_parts<S: Subroutines, P: Pen>(
     alloc: Global,
     subrs: &S,
-    parts: &[PlacedPart<'_>],
+    parts: &[DrawnPart<&[u8]>],
     pen: &mut P,
 ) -> Result<(), AllocError> {
     for part in parts {
-        trace(alloc, subrs, part.charstring, pen)?;
+        trace(alloc, subrs, part.marks, pen)?;
     }
     Ok(())
 }
@@ -70,11 +70,11 @@ pub(super) fn trace_glyph<F: Glyphs, P: Pen>(
     pen: &mut P,
 ) -> Result<Option<usize>, AllocError> {
     match lay_out(alloc, font, name)? {
-        Layout::Drawn { parts, .. } => {
+        Drawing::Drawn { parts, .. } => {
             trace_parts(alloc, font, parts.as_slice(), pen)?;
             Ok(Some(parts.len()))
         }
-        Layout::Failed(_) => Ok(None),
+        Drawing::Failed(_) => Ok(None),
     }
 }
 

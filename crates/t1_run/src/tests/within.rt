@@ -2,7 +2,7 @@
 
 use crate::tests::budget::{WIDTH, charstring};
 use crate::tests::fonts::Font;
-use crate::{Budget, Called, Stop, parts_and_executed, parts_and_executed_within};
+use crate::{Budget, Stop, SubrSet, parts_and_executed, parts_and_executed_within};
 use std::alloc::Global;
 use std::test::Fail;
 
@@ -51,12 +51,12 @@ fn answers_so(alloc: Global, row: &Row) -> Result<bool, Fail> {
     let (begin, dotsections, end, left, want) = *row;
     let glyph = charstring(alloc, begin, dotsections, end)?;
     let mut budget = Budget { left };
-    let mut called = Called::new(alloc);
+    let mut called = SubrSet::new(alloc);
     let names = match parts_and_executed_within(alloc, &font, &glyph, &mut called, &mut budget) {
         Ok(names) => names,
         Err(stop) => return Ok(stop == Stop::TooManyTokens && want.is_none()),
     };
-    let mut all = Called::new(alloc);
+    let mut all = SubrSet::new(alloc);
     let plain = parts_and_executed(alloc, &font, &glyph, &mut all)?;
     let is_plain = names.len() == plain.len() && called.as_slice() == all.as_slice();
     Ok(is_plain && want == Some(budget.left))
@@ -81,7 +81,7 @@ const ACCENTED: [u8; 14] = [
 fn takes_from_one(alloc: Global) -> Result<bool, Fail> {
     let font = Font::small(alloc)?;
     let mut budget = Budget { left: Some(22) };
-    let mut called = Called::new(alloc);
+    let mut called = SubrSet::new(alloc);
     let names = parts_and_executed_within(alloc, &font, &ACCENTED, &mut called, &mut budget);
     let first = names.is_ok_and(|names| names.as_slice()
         == ["A", "acute", "A", "acute"].as_slice());

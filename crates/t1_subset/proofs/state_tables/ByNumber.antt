@@ -3,7 +3,7 @@ use Rattle.std.proofs.lemmas.Bool.Decides.{nat_tests}
 use Rattle.std.proofs.Common.{◌≡◌, ℕ, ◌<◌, ◌≤◌, ◌+◌, Bool, true, false, cond, List, [], ◌∷◌, map, refl, sym, ◌∙◌, ap, Option, Some, None, is_some, nat_cmp, nat_lt, arith, Less}
 use Rattle.std.proofs.lemmas.Bool.{ltb-true, ltb-false}
 use Rattle.std.specs.{FinMap.Entries.{below_all}, Cmp.{nat_cmp_total}, FinSet.{nat_cmp-IsAntisymmetric}}
-use Rattle.t1_font.{proofs.MapLemmas.{T_true, find_first, Some_None}, specs.FontValue.{FontValue, Encoding, Word, Codes, Numbered}}
+use Rattle.t1_font.{proofs.MapLemmas.{T_true, find_first, Some_None}, specs.FontValue.{FontValue, Encoding, Word, Codes, SparseArray}}
 use Rattle.t1_algebra.proofs.{Words.{list_any, eq_by_cmp, first_so, second_so}, Searching.{below_later}, Sets.{cases}, Tables.{get-numbered, numbered-empty, numbered-insert}}
 use Rattle.t1_algebra.specs.{Profile.{profile}, States.{code_state, is_called, state_of_entry}, StateTables.{numbered, code_states}}
 use Rattle.t1_join.specs.{Meaning.{of_number}, TableMeaning.{TableMeaning}}
@@ -12,7 +12,7 @@ use Rattle.std.specs.FinMap as maps
 
 -- the table has what x gives for the numbers below n, and nothing else
 pub record HasBelow (t : TableMeaning) (x : ℕ → Option (List ℕ)) (n : ℕ) : Type 0 where
-  pub map : Numbered
+  pub map : SparseArray
   pub table : t ≡ numbered map
   pub shown : (i : ℕ) → maps.get map i ≡ cond (nat_lt i n) (x i) None
 
@@ -36,7 +36,7 @@ module _ (t : TableMeaning) (x : ℕ → Option (List ℕ)) where
       record { map = maps.empty; table = e ∙ numbered-empty; shown = λ i. let none = maps.get-empty {X = List ℕ} nat_cmp i in grind (arith, nat_tests, none) }
 
   -- if x gives nothing from n on, the table has all of it
-  pub has_all : (n : ℕ) → HasBelow t x n → ((i : ℕ) → n ≤ i → x i ≡ None) → (m : Numbered) → ((i : ℕ) → maps.get m i ≡ x i) → t ≡ numbered m
+  pub has_all : (n : ℕ) → HasBelow t x n → ((i : ℕ) → n ≤ i → x i ≡ None) → (m : SparseArray) → ((i : ℕ) → maps.get m i ≡ x i) → t ≡ numbered m
   has_all n h far m is =
       h.table ∙ ap numbered (maps.same_map nat_cmp_total nat_cmp-IsAntisymmetric h.map m (λ i. grind (arith, nat_tests, h.shown i, is i, far i)))
 
@@ -66,7 +66,7 @@ module _ (t : TableMeaning) (x : ℕ → Option (List ℕ)) (n : ℕ) (h : HasBe
 -- ---- entries, upwards by number
 
 -- the table has what x gives for the numbers before the entries of a map that are left
-pub record HasBefore (t : TableMeaning) (x : ℕ → Option (List ℕ)) (m : Numbered) (left : List (ℕ × List ℕ)) : Type 0 where
+pub record HasBefore (t : TableMeaning) (x : ℕ → Option (List ℕ)) (m : SparseArray) (left : List (ℕ × List ℕ)) : Type 0 where
   pub below : ℕ
   pub table : HasBelow t x below
   pub sorted : maps.is_sorted nat_cmp left ≡ true
@@ -77,7 +77,7 @@ found_listed : (i : ℕ) (c : List ℕ) (es : List (ℕ × List ℕ)) → maps.f
 found_listed i c [] h = absurd cc
 found_listed i c (e ∷ es) h = grind (cases, h, found_listed i c es)
 
-module _ (t : TableMeaning) (x : ℕ → Option (List ℕ)) (m : Numbered) where
+module _ (t : TableMeaning) (x : ℕ → Option (List ℕ)) (m : SparseArray) where
   -- before the first entry the table is empty
   pub before_all : (left : List (ℕ × List ℕ)) → t ≡ maps.empty → left ≡ maps.entries m → HasBefore t x m left
   before_all left e is = record {
@@ -89,7 +89,7 @@ module _ (t : TableMeaning) (x : ℕ → Option (List ℕ)) (m : Numbered) where
 
   module _ (none : (i : ℕ) → maps.get m i ≡ None → x i ≡ None) where
     -- behind the last entry it has all
-    pub behind_all : (left : List (ℕ × List ℕ)) → left ≡ [] → HasBefore t x m left → (k : Numbered) → ((i : ℕ) → maps.get k i ≡ x i) → t ≡ numbered k
+    pub behind_all : (left : List (ℕ × List ℕ)) → left ≡ [] → HasBefore t x m left → (k : SparseArray) → ((i : ℕ) → maps.get k i ≡ x i) → t ≡ numbered k
     behind_all left e h k is = has_all t x h.below h.table
         (λ i l. none i (sym (grind (arith, nat_tests, l, h.found i)) ∙ ap (maps.find nat_cmp i) e)) k is
 

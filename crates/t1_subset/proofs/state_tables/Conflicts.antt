@@ -11,8 +11,8 @@ use Rattle.t1_algebra.specs.StateTables.{StatesValue, name_part, code_states, na
 use Rattle.t1_algebra.specs.{Shared.{Shared, shared_of, differing_part, ShellPart}, Searches.{found, smallest, members, IsLowest}, NameStates.{is_sought_in, charstrings_differ, one_lacks}}
 use Rattle.t1_algebra.proofs.{Maps.{in_both}, Searching.{first_passes}, Sets.{name_same, cases, cases_Option}, Tables.{Shows, codes_shown, meanings_as_bytes, get-name}}
 use Rattle.t1_algebra.proofs.FontStates.{get-names, subrs_shown}
-use Rattle.t1_subset.specs.{Callers.{seeker_of}, declared.conflict.Conflict.{Conflict as Refusal}, Refusals.{Tells}}
-use Rattle.t1_subset.proofs.{state_tables.LowestKeys.{lowest_is}, state_tables.FontCallers.{any_first, sought_is, smallest_seeker}}
+use Rattle.t1_subset.specs.{References.{seeker_of}, declared.conflict.Conflict.{Conflict as Refusal}, Refusals.{Tells}}
+use Rattle.t1_subset.proofs.{state_tables.LowestKeys.{lowest_is}, state_tables.FontReferences.{any_first, sought_is, smallest_seeker}}
 use Rattle.std.specs.FinMap as maps
 
 -- a key whose values in two maps do not join is a key of both

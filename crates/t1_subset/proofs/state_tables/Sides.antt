@@ -1,4 +1,4 @@
--- What the callers and the states of two fonts show of their conflicts.
+-- What the references and the states of two fonts show of their conflicts.
 use Rattle.std.proofs.Common.{arith, ◌≡◌, ◌↔◌, ◌<◌, ℕ, Bool, true, false, cond, ◌&&◌, ◌||◌, List, [], ◌∷◌, filter, refl, sym, ◌∙◌, ap, Option, Some, None, is_some}
 use Rattle.std.specs.{Cmp.{nat_cmp_total}, FinSet.{nat_cmp-IsAntisymmetric}, Cmp.Lexicographic.{nat_list_cmp_total}}
 use Rattle.t1_join.specs.{TableMeaning.{TableMeaning, joined_table}, Meaning.{of_number}, TableLaws.{get_joined}}
@@ -8,15 +8,16 @@ use Rattle.t1_algebra.specs.{Conflicts.{wanted_by, subr_differs, states_conflict
 use Rattle.t1_algebra.specs.{Searches.{members, smallest, passing, first_of, or_else}, States.{Join, code_state, subr_state}, StateTables.{StatesValue, FontStatesAgree, code_part, subr_part}}
 use Rattle.t1_algebra.specs.StateLaws.{states_laws}
 use Rattle.t1_algebra.proofs.{Maps.{in_both}, Sets.{name_same, cases}, Tables.{codes_shown}, FontStates.{subrs_shown}, AllConflicts.{first_of_states, all_conflicts}}
-use Rattle.t1_subset.specs.{declared.callers.Callers.{Callers}, declared.conflict.Conflict.{Conflict as Refusal}, Callers.{IsNoted}, Clashes.{AreStatesOf}, Differences.{smaller}, Refusals.{TellEach}}
+use Rattle.t1_subset.specs.{declared.references.References.{References}, declared.conflict.Conflict.{Conflict as Refusal}}
+use Rattle.t1_subset.specs.{References.{IsNoted}, Clashes.{AreStatesOf}, Differences.{smaller}, Refusals.{TellEach}}
 use Rattle.t1_subset.proofs.{Telling.{none_tells, tells_none}, state_tables.Walks.{joins_to, limits_refuse}, state_tables.Conflicts.{clash_there, code_there, no_name}}
-use Rattle.t1_subset.proofs.state_tables.FontCallers.{any_first, smallest_user, smallest_seeker}
+use Rattle.t1_subset.proofs.state_tables.FontReferences.{any_first, smallest_user, smallest_seeker}
 use Rattle.t1_subset.proofs.state_tables.PassingKeys.{passing_same, passing_keys, keys_rise, numbers_from, numbers_rise, number_among}
 use Rattle.std.specs.FinMap as maps
 
 -- ---- one font
 
-module _ (c : Callers) (s : StatesValue) (h : IsNoted c s) where
+module _ (c : References) (s : StatesValue) (h : IsNoted c s) where
   -- a table of codes has the name of each code
   pub code_seen : (t : TableMeaning) → t ≡ code_part s → (i : ℕ) → maps.get t (of_number i) ≡ code_state c.font.now.encoding i
   code_seen t e i = ap (λ (t : TableMeaning). maps.get t (of_number i)) (e ∙ ap code_part h.states) ∙ codes_shown c.font.now.encoding (of_number i)
@@ -56,20 +57,20 @@ module _ (f g : FontValue) where
       ≡ ((has f p || has g p) && is_some (smallest (wanted_by profile f g p) (glyphs_of_both f g)))
   component_is p = ap (λ b. (has f p || has g p) && b) (any_first (wanted_by profile f g p) (members (glyphs_of_both f g)))
 
-module _ (c d : Callers) (s t : StatesValue) (h : IsNoted c s) (k : IsNoted d t) where
+module _ (c d : References) (s t : StatesValue) (h : IsNoted c s) (k : IsNoted d t) where
   -- the smaller of what is noted of an index that both fonts have is its smallest user
   pub user_is : (i : ℕ) (x y z : Option (List ℕ)) → x ≡ maps.get c.users (of_number i) → y ≡ maps.get d.users (of_number i) → z ≡ smaller name_cmp x y
       → subr_clashes profile c.font.now d.font.now i ≡ true → SubrDiffers i z ≡ subr_differs profile c.font.now d.font.now i
   user_is i x y z a b e w =
       let there = subr_there c.font.now d.font.now i w in
-      ap (SubrDiffers i) (e ∙ (λ j. smaller name_cmp ((a ∙ h.callers.users i there.0) j) ((b ∙ k.callers.users i there.1) j))
+      ap (SubrDiffers i) (e ∙ (λ j. smaller name_cmp ((a ∙ h.references.users i there.0) j) ((b ∙ k.references.users i there.1) j))
       ∙ smallest_user c.font.now d.font.now i)
 
   -- the smaller of what is noted of a component is its smallest seeker
   pub seeker_is : (p : List ℕ) (x y z : Option (List ℕ)) → x ≡ maps.get c.seekers p → y ≡ maps.get d.seekers p → z ≡ smaller name_cmp x y
       → z ≡ smallest (wanted_by profile c.font.now d.font.now p) (glyphs_of_both c.font.now d.font.now)
   seeker_is p x y z a b e =
-      e ∙ (λ j. smaller name_cmp ((a ∙ h.callers.seekers p) j) ((b ∙ k.callers.seekers p) j)) ∙ smallest_seeker c.font.now d.font.now p
+      e ∙ (λ j. smaller name_cmp ((a ∙ h.references.seekers p) j) ((b ∙ k.references.seekers p) j)) ∙ smallest_seeker c.font.now d.font.now p
 
   -- all components in conflict are sought
   pub components_passing : filter (component_clashes profile c.font.now d.font.now) (maps.keys (joined_table c.seekers d.seekers))

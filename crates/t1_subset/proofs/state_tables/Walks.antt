@@ -1,15 +1,15 @@
--- Merging fonts from left to right, by their states and callers.
+-- Merging fonts from left to right, by their states and references.
 use Rattle.std.proofs.Common.{◌≡◌, ◌<◌, ◌≤◌, ◌+◌, ℕ, zero, suc, inl, inr, cond, List, [], ◌∷◌, ◌++◌, map, length, take, drop, get_or, Bor, refl, sym, ◌∙◌, ap, subst, arith, add-one, Some, None}
 use Rattle.std.proofs.lemmas.List.{length-map, length-append, map-append, take_more}
 use Rattle.std.specs.List.{AllByRecursion}
 use Rattle.t1_join.{specs.Groupings.{Grouping, one, from_left}, proofs.OrderLemmas.{all_of_both}}
 use Rattle.t1_font.specs.{FontValue.{FontValue}, IsFont.{IsFont}}
 use Rattle.t1_algebra.specs.{Profile.{profile}, States.{Join, joined_font}, StateTables.{StatesValue, FontStatesAgree, FontStatesJoin, states_of}, StateLaws.{states_laws}}
-use Rattle.t1_algebra.specs.{Conflicts.{OverLimit, states_conflict, conflict}, Searches.{found}, Groupings.{Merges}, Merges.{ComesTo}}
+use Rattle.t1_algebra.specs.{Conflicts.{OverLimit, states_conflict, conflict, shell_conflict}, Searches.{found}, Groupings.{Merges}, Merges.{ComesTo}}
 use Rattle.t1_algebra.proofs.{Conflicts.{no_conflict}, FontStates.{join_exactly, states_join}, Fonts.{font_within, joined_is_font}, ManyMerges.{left_snoc}}
-use Rattle.t1_subset.specs.{declared.callers.Callers.{Callers}, declared.conflict.Conflict.{Conflict as Refusal}, Refusals.{Tells}, Callers.{AreCallersOf, AreNoted, fonts_of}}
-use Rattle.t1_subset.specs.{Clashes.{AreStatesOf, AreCallers}, Merger.{NotMerged}}
-use Rattle.t1_subset.proofs.{state_tables.Conflicts.{over}, state_tables.FontCallers.{CallersSoFar, first_callers, both_callers, more_callers}}
+use Rattle.t1_subset.specs.{declared.references.References.{References}, declared.conflict.Conflict.{Conflict as Refusal}, Refusals.{Tells}, References.{AreReferencesOf, AreNoted, fonts_of}}
+use Rattle.t1_subset.specs.{Clashes.{AreStatesOf, AreReferences}, Merger.{NotMerged, FirstShare}}
+use Rattle.t1_subset.proofs.{state_tables.Conflicts.{over}, state_tables.FontReferences.{ReferencesSoFar, first_references, both_callers, more_references}}
 
 -- ---- two fonts
 
@@ -54,13 +54,13 @@ two_refused f g e h = elim h [
 
 -- ---- from left to right
 
--- the fonts so far come to a font with these states, and their callers are its callers
-pub record JoinedSoFar (cs : List Callers) (s : StatesValue) : Type 0 where
+-- the fonts so far come to a font with these states, and their references are its references
+pub record JoinedSoFar (cs : List References) (s : StatesValue) : Type 0 where
   pub font : FontValue
   pub comes : ComesTo (fonts_of cs) font
   pub is_font : IsFont font
   pub states : s ≡ states_of profile font
-  pub callers : CallersSoFar cs font
+  pub references : ReferencesSoFar cs font
 
 -- what fonts with one more come to, is what those before come to, joined with it
 come_before : (fs : List FontValue) (x j : FontValue) → 0 < length fs → ComesTo (fs ++ x ∷ []) j →
@@ -81,41 +81,41 @@ stops_at [] x after fs j h is e t = absurd h
 stops_at (f ∷ before) x after fs j h is e t = subst (λ (fs : List FontValue). NotMerged fs e) is
     (inr (record { before = before; font = x; after = after; joined = j; list = refl; merges = h; tells = t }))
 
--- the fonts of callers that are noted are fonts
-pub all_fonts : (cs : List Callers) → AreNoted cs → AllByRecursion IsFont (fonts_of cs)
+-- the fonts of references that are noted are fonts
+pub all_fonts : (cs : List References) → AreNoted cs → AllByRecursion IsFont (fonts_of cs)
 all_fonts [] h = tt
 all_fonts (c ∷ cs) h = (h.0.0, all_fonts cs h.1)
 
 -- ---- a step of the walk
 
--- the callers at a place, which are those of a font, with the callers before and after them
-pub record Turn (cs : List Callers) (i : ℕ) : Type 0 where
-  pub here : Callers
+-- the references at a place, which are those of a font, with the references before and after them
+pub record Turn (cs : List References) (i : ℕ) : Type 0 where
+  pub here : References
   pub is_font : IsFont here.font.now
-  pub callers : AreCallersOf here here.font.now
+  pub references : AreReferencesOf here here.font.now
   pub next : take (suc i) cs ≡ take i cs ++ here ∷ []
   pub all : take i cs ++ here ∷ drop (suc i) cs ≡ cs
   pub states : (s : StatesValue) → get_or (map (states_of profile) (fonts_of cs)) i s ≡ states_of profile here.font.now
 
-pub turn : (cs : List Callers) → AreNoted cs → (i : ℕ) → i < length cs → Turn cs i
+pub turn : (cs : List References) → AreNoted cs → (i : ℕ) → i < length cs → Turn cs i
 turn [] h i l = absurd (omega (arith, l))
-turn (c ∷ cs) h zero l = record { here = c; is_font = h.0.0; callers = h.0.1; next = refl; all = refl; states = λ s. refl }
+turn (c ∷ cs) h zero l = record { here = c; is_font = h.0.0; references = h.0.1; next = refl; all = refl; states = λ s. refl }
 turn (c ∷ cs) h (suc i) l =
     let t = turn cs h.1 i (omega (arith, l)) in
     record {
       here = t.here;
       is_font = t.is_font;
-      callers = t.callers;
-      next = ap (λ (ds : List Callers). c ∷ ds) t.next;
-      all = ap (λ (ds : List Callers). c ∷ ds) t.all;
+      references = t.references;
+      next = ap (λ (ds : List References). c ∷ ds) t.next;
+      all = ap (λ (ds : List References). c ∷ ds) t.all;
       states = t.states;
     }
 
--- the callers of the first fonts are those of the font that these come to
-pub far_by : (cs : List Callers) → AreNoted cs → (n : ℕ) → n < length cs → (j : FontValue) → ComesTo (fonts_of (take (suc n) cs)) j →
-    IsFont j × CallersSoFar (take (suc n) cs) j
+-- the references of the first fonts are those of the font that these come to
+pub far_by : (cs : List References) → AreNoted cs → (n : ℕ) → n < length cs → (j : FontValue) → ComesTo (fonts_of (take (suc n) cs)) j →
+    IsFont j × ReferencesSoFar (take (suc n) cs) j
 far_by [] h n l j m = absurd (omega (arith, l))
-far_by (c ∷ cs) h zero l j m = (subst IsFont m h.0.0, subst (CallersSoFar (c ∷ [])) m (first_callers c c.font.now h.0.1))
+far_by (c ∷ cs) h zero l j m = (subst IsFont m h.0.0, subst (ReferencesSoFar (c ∷ [])) m (first_references c c.font.now h.0.1))
 far_by (c ∷ cs) h (suc n) l j m =
     let t = turn (c ∷ cs) h (suc n) l in
     let fs = fonts_of (take (suc n) (c ∷ cs)) in
@@ -123,11 +123,11 @@ far_by (c ∷ cs) h (suc n) l j m =
     (subst (λ (gs : List FontValue). ComesTo gs j) (ap fonts_of t.next ∙ map-append _ (take (suc n) (c ∷ cs)) (t.here ∷ [])) m) in
     let r = far_by (c ∷ cs) h n (omega (arith, l)) p.0 p.1 in (
       subst IsFont p.3 (joined_is_font profile p.0 t.here.font.now r.0 t.is_font p.2),
-      subst (CallersSoFar (take (suc (suc n)) (c ∷ cs))) p.3 (subst (λ (ds : List Callers). CallersSoFar ds (joined_font profile p.0 t.here.font.now))
-          (sym t.next) (more_callers p.0 t.here.font.now (take (suc n) (c ∷ cs)) t.here r.1 t.callers p.2.states)),
+      subst (ReferencesSoFar (take (suc (suc n)) (c ∷ cs))) p.3 (subst (λ (ds : List References). ReferencesSoFar ds (joined_font profile p.0 t.here.font.now))
+          (sym t.next) (more_references p.0 t.here.font.now (take (suc n) (c ∷ cs)) t.here r.1 t.references p.2.states)),
     )
 
-module _ (cs : List Callers) (i : ℕ) (t : Turn cs i) (s : StatesValue) (far : JoinedSoFar (take i cs) s) where
+module _ (cs : List References) (i : ℕ) (t : Turn cs i) (s : StatesValue) (far : JoinedSoFar (take i cs) s) where
   -- the states of the font so far and of the next one
   pub next_states : (ss : List StatesValue) → ss ≡ map (states_of profile) (fonts_of cs) → (u : StatesValue) → u ≡ get_or ss i u →
       AreStatesOf s u far.font t.here.font.now
@@ -136,10 +136,10 @@ module _ (cs : List Callers) (i : ℕ) (t : Turn cs i) (s : StatesValue) (far : 
   next : take i cs ++ t.here ∷ [] ≡ take (i + 1) cs
   next = sym t.next ∙ ap (λ n. take n cs) (sym (add-one i))
 
-  -- the callers up to the next font are those of both
-  pub next_callers : AreCallers (take (i + 1) cs) far.font t.here.font.now
-  next_callers = subst (λ (ds : List Callers). AreCallers ds far.font t.here.font.now) next
-      (both_callers far.font t.here.font.now (take i cs) t.here far.callers t.callers)
+  -- the references up to the next font are those of both
+  pub next_callers : AreReferences (take (i + 1) cs) far.font t.here.font.now
+  next_callers = subst (λ (ds : List References). AreReferences ds far.font t.here.font.now) next
+      (both_callers far.font t.here.font.now (take i cs) t.here far.references t.references)
 
   -- if the next font doesn't join, the fonts are refused
   pub stops : (r : Refusal) → Tells r (conflict profile far.font t.here.font.now) → NotMerged (fonts_of cs) r
@@ -148,19 +148,19 @@ module _ (cs : List Callers) (i : ℕ) (t : Turn cs i) (s : StatesValue) (far : 
 
 -- ---- noting
 
--- the callers and the states of these fonts are noted
-pub record NotedSoFar (cs : List Callers) (ss : List StatesValue) (fs : List FontValue) : Type 0 where
+-- the references and the states of these fonts are noted
+pub record NotedSoFar (cs : List References) (ss : List StatesValue) (fs : List FontValue) : Type 0 where
   pub fonts : fonts_of cs ≡ fs
   pub noted : AreNoted cs
   pub states : ss ≡ map (states_of profile) fs
 
 -- and those of one more font
-pub noted_more : (cs ds : List Callers) (ss us : List StatesValue) (fs gs : List FontValue) (c : Callers) (s : StatesValue) (f : FontValue) →
-    NotedSoFar cs ss fs → fs ++ f ∷ [] ≡ gs → IsFont f → c.font.now ≡ f → AreCallersOf c f → s ≡ states_of profile f
+pub noted_more : (cs ds : List References) (ss us : List StatesValue) (fs gs : List FontValue) (c : References) (s : StatesValue) (f : FontValue) →
+    NotedSoFar cs ss fs → fs ++ f ∷ [] ≡ gs → IsFont f → c.font.now ≡ f → AreReferencesOf c f → s ≡ states_of profile f
     → ds ≡ cs ++ c ∷ [] → us ≡ ss ++ s ∷ [] → NotedSoFar ds us gs
 noted_more cs ds ss us fs gs c s f n next w e k h ed eu = record {
   fonts = ap fonts_of ed ∙ map-append _ cs (c ∷ []) ∙ (λ j. n.fonts j ++ e j ∷ []) ∙ next;
-  noted = subst AreNoted (sym ed) (all_of_both _ cs (c ∷ []) n.noted ((subst IsFont (sym e) w, subst (AreCallersOf c) (sym e) k), tt));
+  noted = subst AreNoted (sym ed) (all_of_both _ cs (c ∷ []) n.noted ((subst IsFont (sym e) w, subst (AreReferencesOf c) (sym e) k), tt));
   states = eu ∙ (λ j. n.states j ++ h j ∷ []) ∙ sym (map-append (states_of profile) fs (f ∷ [])) ∙ ap (map (states_of profile)) next;
 }
 
@@ -196,10 +196,18 @@ refused_at_second (c ∷ []) f g l a b e t = absurd (omega (arith, l))
 refused_at_second (c ∷ d ∷ bs) f g l a b e t = stops_at (c.now ∷ []) d.now (shown bs) (c.now ∷ d.now ∷ shown bs) c.now refl refl e
     (subst (λ (x : Bor FontValue). Tells e (conflict profile c.now x.now)) b (subst (λ (x : Bor FontValue). Tells e (conflict profile x.now g.now)) a t))
 
--- if there are fonts, there are callers
-pub some_noted : (fs : List FontValue) (cs : List Callers) → fonts_of cs ≡ fs → 0 < length fs → 0 < length cs
-some_noted fs cs h l = let n = ap length h in let m = length-map cs (λ (c : Callers). c.font.now) in omega (arith, n, m, l)
+-- fonts of which the first two share what they have to
+pub shared_by_two : (bs : List (Bor FontValue)) (f g : Bor FontValue) → 2 ≤ length bs → f ≡ get_or bs 0 f → g ≡ get_or bs 1 g →
+    FirstShare (shown bs) → shell_conflict f.now g.now ≡ None
+shared_by_two [] f g l a b s = absurd (omega (arith, l))
+shared_by_two (c ∷ []) f g l a b s = absurd (omega (arith, l))
+shared_by_two (c ∷ d ∷ bs) f g l a b s = subst (λ (x : Bor FontValue). shell_conflict x.now g.now ≡ None) (sym a)
+    (subst (λ (x : Bor FontValue). shell_conflict c.now x.now ≡ None) (sym b) s)
 
--- if the callers of all fonts are noted, all are fonts
-pub font_list : (fs : List FontValue) (cs : List Callers) → fonts_of cs ≡ fs → AreNoted cs → AllByRecursion IsFont fs
+-- if there are fonts, there are references
+pub some_noted : (fs : List FontValue) (cs : List References) → fonts_of cs ≡ fs → 0 < length fs → 0 < length cs
+some_noted fs cs h l = let n = ap length h in let m = length-map cs (λ (c : References). c.font.now) in omega (arith, n, m, l)
+
+-- if the references of all fonts are noted, all are fonts
+pub font_list : (fs : List FontValue) (cs : List References) → fonts_of cs ≡ fs → AreNoted cs → AllByRecursion IsFont fs
 font_list fs cs e h = subst (AllByRecursion IsFont) e (all_fonts cs h)

@@ -1,7 +1,9 @@
 //! Lists of fonts of which a glyph executes a Subr that its font lacks, and shells of lists.
 
 use super::fonts::{Entry, GLYPHS, SHELL, SUBRS, Shell, file, font, glyphs_text, lent, put_entry};
-use crate::{Conflict, RejoinFault, ShellPart, first_lack, fonts_of, rejoin, shells_conflict};
+use crate::groupings::shells_conflict;
+use crate::lacks::first_lack;
+use crate::{Budget, Conflict, RejoinFault, ShellPart, fonts_of, rejoin};
 use std::alloc::{AllocError, Global};
 use std::test::Fail;
 use t1_font::{Font, Source, read};
@@ -82,7 +84,10 @@ fn counts_text(alloc: Global, font: &Font<'_>) -> Result<String, AllocError> {
 /// What the first font of a list lacks: the index and the glyph, as a text.
 fn lack_text(alloc: Global, fonts: &[Font<'_>]) -> Result<Vec<u8>, AllocError> {
     let mut text = Vec::new(alloc);
-    if let Some(lack) = first_lack(alloc, fonts)? {
+    let Ok(lack) = first_lack(alloc, fonts, Budget { left: None }) else {
+        return Err(AllocError);
+    };
+    if let Some(lack) = lack {
         text.extend_from_slice(lack.index.to_string(alloc)?.as_bytes())?;
         text.push(b' ')?;
         text.extend_from_slice(lack.glyph)?;
@@ -207,8 +212,6 @@ const LACKS: &[(&str, &[Made], &[u8], &[u8])] = &[
 /// The indices of all Subrs above.
 const ALL: &[&[u8]] = &[b"0", b"1", b"2", b"3", b"4", b"5", b"6", b"7", b"8", b"9"];
 
-// meets first_lack Some at 2, 3 fonts
-// meets first_lack None at 0, 1, 2, 3 fonts
 // meets fonts_of Ok at 0, 1, 2, 3 fonts
 // meets rejoin Ok at 1, 2, 3 fonts
 // meets rejoin Lacks at 2, 3 fonts
@@ -251,8 +254,6 @@ const SHELLS: &[(&str, &[Made], Option<ShellPart>)] = &[
     ("no table", &[WHOLE, (BARE, &[])], Some(ShellPart::Private)),
 ];
 
-// meets shells_conflict Some at 2, 3 fonts
-// meets shells_conflict None at 0, 1, 2 fonts
 #[test]
 fn shells_of_lists(rt: HostRuntime) -> Result<(), Fail> {
     for (name, all, want) in SHELLS {
@@ -276,12 +277,9 @@ fn many(alloc: Global, subrs: &[Entry]) -> Result<Vec<u8>, AllocError> {
     file(alloc, &SHELL, subrs, text.as_slice())
 }
 
-// meets first_lack Some at 65535 glyphs
-// meets first_lack None at 65535 glyphs
 // meets rejoin Lacks at 65535 glyphs
 // meets rejoin Ok at 65535 glyphs
 // meets fonts_of Ok at 65535 glyphs
-// meets shells_conflict None at 65535 glyphs
 #[test]
 fn a_lack_of_many_glyphs(rt: HostRuntime) -> Result<(), Fail> {
     let whole = lacking(rt.alloc(), &WHOLE)?;

@@ -47,7 +47,7 @@ fn with_last(alloc: Global, plain: &'static [u8]) -> Result<Vec<u8>, AllocError>
 }
 
 /// The fonts that stand beside the odd one.
-fn even_font(alloc: Global, kind: Odd) -> Result<Vec<u8>, AllocError> {
+fn normal_font(alloc: Global, kind: Odd) -> Result<Vec<u8>, AllocError> {
     match kind {
         Odd::LastSubr => with_last(alloc, b"\x0e"),
         _ => with_shell(alloc, &SHELL),
@@ -80,20 +80,20 @@ fn odd_font(alloc: Global, kind: Odd) -> Result<Vec<u8>, AllocError> {
     }
 }
 
-/// Whether a list is refused with this text: so many even fonts, the odd one, and another even one.
+/// Whether a list is refused with this text: so many normalized fonts, the odd one, and another normalized one.
 fn is_refused(
     alloc: Global,
-    even: &[u8],
+    normal: &[u8],
     odd: &[u8],
     before: usize,
     text: &str,
 ) -> Result<bool, AllocError> {
     let mut files = Vec::new(alloc);
     for _ in 0..before {
-        files.push(even)?;
+        files.push(normal)?;
     }
     files.push(odd)?;
-    files.push(even)?;
+    files.push(normal)?;
     match all_merged(alloc, files.as_slice()) {
         Ok(_) => Ok(false),
         Err(conflict) => {
@@ -105,8 +105,13 @@ fn is_refused(
 }
 
 /// Whether two fonts are refused with this text in either order.
-fn two_are_refused(alloc: Global, even: &[u8], odd: &[u8], text: &str) -> Result<bool, AllocError> {
-    match conflict(alloc, even, odd) {
+fn two_are_refused(
+    alloc: Global,
+    normal: &[u8],
+    odd: &[u8],
+    text: &str,
+) -> Result<bool, AllocError> {
+    match conflict(alloc, normal, odd) {
         Some(conflict) => {
             let told = conflict.to_string(alloc);
             drop(conflict);
@@ -129,12 +134,12 @@ fn two_are_refused(alloc: Global, even: &[u8], odd: &[u8], text: &str) -> Result
 #[test]
 fn an_odd_font_wherever_it_stands(rt: HostRuntime) -> Result<(), Fail> {
     for &(kind, text) in ODD {
-        let even = even_font(rt.alloc(), kind)?;
+        let normal = normal_font(rt.alloc(), kind)?;
         let odd = odd_font(rt.alloc(), kind)?;
-        let refused = two_are_refused(rt.alloc(), even.as_slice(), odd.as_slice(), text)?;
+        let refused = two_are_refused(rt.alloc(), normal.as_slice(), odd.as_slice(), text)?;
         assert!(rt; refused, "{text}, of two");
         for before in [1usize, 2, 3, 8, 32] {
-            let refused = is_refused(rt.alloc(), even.as_slice(), odd.as_slice(), before, text)?;
+            let refused = is_refused(rt.alloc(), normal.as_slice(), odd.as_slice(), before, text)?;
             assert!(rt; refused, "{text}, behind {before}");
         }
     }

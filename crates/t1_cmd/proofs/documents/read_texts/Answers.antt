@@ -1,4 +1,4 @@
-use Rattle.std.proofs.Common.{◌+◌, set, get_or, map, ap, refl, arith, subst, sym}
+use Rattle.std.proofs.{Common.{◌+◌, set, get_or, map, [], ◌∷◌, ap, refl, arith, subst, sym, ◌∙◌}, lemmas.List.{map-append}}
 use Rattle.t1_cmd.{specs.Documents.{text_input}, proofs.ReaderLoops.{SoFar, goes_on, stops, turns_at, all_said, all_turns}}
 use Rattle.t1_cmd.proofs.documents.read_texts.Goals as goal
 
@@ -18,8 +18,8 @@ returns-in-Err-clause-turns g c =
     (get_or c.readers.readers c.readers.i c.index-readers-i.result) c.read_text.new.reader c.readers.invariant
     (ap (get_or c.readers.readers c.readers.i) c.index-readers-i.is) c.read_text.ensures.turns
 
-pub returns-in_err-keep-clause-turns : goal.returns-in_err-keep-clause-turns
-returns-in_err-keep-clause-turns g c =
+pub returns-in_err-push_item-clause-turns : goal.returns-in_err-push_item-clause-turns
+returns-in_err-push_item-clause-turns g c =
     turns_at text_input g.R.Read.remaining c.readers.i c.args.readers.now c.readers.readers (map (λ v. v.items) c.readers.texts.items)
     (get_or c.readers.readers c.readers.i c.index-readers-i.result) c.read_text.new.reader c.readers.invariant
     (ap (get_or c.readers.readers c.readers.i) c.index-readers-i.is) c.read_text.ensures.turns
@@ -28,7 +28,7 @@ pub readers-preserved : goal.readers-preserved
 readers-preserved g c =
     subst (λ fs. SoFar text_input g.R.Read.remaining (c.readers.i + 1) c.args.readers.now
     (set c.readers.readers c.readers.i c.read_text.new.reader) fs)
-    (sym c.in_ok-keep.ensures)
+    (sym (ap (map (λ v. v.items)) c.in_ok-push_item.ensures.added ∙ map-append (λ v. v.items) c.readers.texts.items (c.in-Ok.text ∷ [])))
     (goes_on text_input g.R.Read.remaining c.readers.i c.args.readers.now c.readers.readers (map (λ v. v.items) c.readers.texts.items)
     (get_or c.readers.readers c.readers.i c.index-readers-i.result) c.read_text.new.reader c.in-Ok.text.items c.readers.invariant
     (omega (arith, c.readers-test.true, c.readers.auto.readers))

@@ -1,4 +1,4 @@
-use Rattle.t1_cmd.{specs.{Mergers.{inputs_of}, Documents.{text_input}, Extracts.{ExtractsTo}}, proofs.{RunLemmas.{ends_succeeds}, DocumentWords.{extracts_apart}}}
+use Rattle.t1_cmd.{specs.{Mergers.{inputs_of}, Documents.{text_input}, Extracts.{ExtractsTo}}, proofs.{RunLemmas.{ends_succeeds}, DocumentCommands.{extracts_apart}}}
 use Rattle.t1_cmd.proofs.extracts.run_extract.Goals as goal
 
 pub returns-clause-succeeds : goal.returns-clause-succeeds

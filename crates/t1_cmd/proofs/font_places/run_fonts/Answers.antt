@@ -1,5 +1,5 @@
 use Rattle.t1_subset.specs.NameSets.{lent}
-use Rattle.t1_cmd.{specs.{Mergers.{inputs_of}, Documents.{text_input}, FontPlaces.{ListsTo}}, proofs.{RunLemmas.{ends_succeeds}, DocumentWords.{lists_apart}}}
+use Rattle.t1_cmd.{specs.{Mergers.{inputs_of}, Documents.{text_input}, FontPlaces.{ListsTo}}, proofs.{RunLemmas.{ends_succeeds}, DocumentCommands.{lists_apart}}}
 use Rattle.t1_cmd.proofs.font_places.run_fonts.Goals as goal
 
 pub returns-clause-succeeds : goal.returns-clause-succeeds

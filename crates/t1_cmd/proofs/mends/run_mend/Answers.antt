@@ -16,33 +16,33 @@ returns-in-Err-clause-succeeds g c =
     ends_well mended_input (file_answer c.args.form) g.W.Write.contents (input_of g.R.Read.remaining c.args.reader.now c.read_file.new.reader)
     c.args.writer.now c.args.writer.now (Err (Refused c.in-Err.reason)) (returns-in-Err-clause-ends g c)
 
-pub returns-in-Ok-write_word-clause-ends : goal.returns-in-Ok-write_word-clause-ends
-returns-in-Ok-write_word-clause-ends g c =
+pub returns-in-Ok-write_command-clause-ends : goal.returns-in-Ok-write_command-clause-ends
+returns-in-Ok-write_command-clause-ends g c =
     let i = input_of g.R.Read.remaining c.args.reader.now c.read_file.new.reader in
-    let ends = c.write_word.ensures i c.in_ok-file.ensures.file in
-    subst (RunEnds mended_input (Prints (file_answer c.args.form)) g.W.Write.contents (i ∷ []) c.args.writer.now c.write_word.new.writer)
-    c.in-Ok-write_word.is (subst (λ (f : Form). RunEnds mended_input (Prints (file_answer f)) g.W.Write.contents (i ∷ [])
-    c.args.writer.now c.write_word.new.writer c.write_word.result) c.to.ensures ends)
+    let ends = c.write_command.ensures i c.in_ok-file.ensures.file in
+    subst (RunEnds mended_input (Prints (file_answer c.args.form)) g.W.Write.contents (i ∷ []) c.args.writer.now c.write_command.new.writer)
+    c.in-Ok-write_command.is (subst (λ (f : Form). RunEnds mended_input (Prints (file_answer f)) g.W.Write.contents (i ∷ [])
+    c.args.writer.now c.write_command.new.writer c.write_command.result) c.to.ensures ends)
 
-pub returns-in-Ok-write_word-clause-succeeds : goal.returns-in-Ok-write_word-clause-succeeds
-returns-in-Ok-write_word-clause-succeeds g c =
+pub returns-in-Ok-write_command-clause-succeeds : goal.returns-in-Ok-write_command-clause-succeeds
+returns-in-Ok-write_command-clause-succeeds g c =
     ends_well mended_input (file_answer c.args.form) g.W.Write.contents (input_of g.R.Read.remaining c.args.reader.now c.read_file.new.reader)
-    c.args.writer.now c.write_word.new.writer (Ok tt) (returns-in-Ok-write_word-clause-ends g c)
+    c.args.writer.now c.write_command.new.writer (Ok tt) (returns-in-Ok-write_command-clause-ends g c)
 
-pub returns-in-Ok-write_word-clause-told : goal.returns-in-Ok-write_word-clause-told
-returns-in-Ok-write_word-clause-told g c =
+pub returns-in-Ok-write_command-clause-told : goal.returns-in-Ok-write_command-clause-told
+returns-in-Ok-write_command-clause-told g c =
     says_so mends_answer (input_of g.R.Read.remaining c.args.reader.now c.read_file.new.reader) c.in_ok-file.file.items (Ok c.in-Ok.lines.items)
     c.in_ok-file.ensures.file (sym c.in-Ok.ensures.text ∙ ap mends_answer c.as_slice.ensures.value)
 
-pub returns-in-Err-write_word-clause-ends : goal.returns-in-Err-write_word-clause-ends
-returns-in-Err-write_word-clause-ends g c =
+pub returns-in-Err-write_command-clause-ends : goal.returns-in-Err-write_command-clause-ends
+returns-in-Err-write_command-clause-ends g c =
     let i = input_of g.R.Read.remaining c.args.reader.now c.read_file.new.reader in
-    let ends = c.write_word.ensures i c.in_ok-file.ensures.file in
-    subst (RunEnds mended_input (Prints (file_answer c.args.form)) g.W.Write.contents (i ∷ []) c.args.writer.now c.write_word.new.writer)
-    c.in-Err-write_word.is (subst (λ (f : Form). RunEnds mended_input (Prints (file_answer f)) g.W.Write.contents (i ∷ [])
-    c.args.writer.now c.write_word.new.writer c.write_word.result) c.to.ensures ends)
+    let ends = c.write_command.ensures i c.in_ok-file.ensures.file in
+    subst (RunEnds mended_input (Prints (file_answer c.args.form)) g.W.Write.contents (i ∷ []) c.args.writer.now c.write_command.new.writer)
+    c.in-Err-write_command.is (subst (λ (f : Form). RunEnds mended_input (Prints (file_answer f)) g.W.Write.contents (i ∷ [])
+    c.args.writer.now c.write_command.new.writer c.write_command.result) c.to.ensures ends)
 
-pub returns-in-Err-write_word-clause-succeeds : goal.returns-in-Err-write_word-clause-succeeds
-returns-in-Err-write_word-clause-succeeds g c =
+pub returns-in-Err-write_command-clause-succeeds : goal.returns-in-Err-write_command-clause-succeeds
+returns-in-Err-write_command-clause-succeeds g c =
     ends_well mended_input (file_answer c.args.form) g.W.Write.contents (input_of g.R.Read.remaining c.args.reader.now c.read_file.new.reader)
-    c.args.writer.now c.write_word.new.writer (Err c.in-Err-write_word.fault) (returns-in-Err-write_word-clause-ends g c)
+    c.args.writer.now c.write_command.new.writer (Err c.in-Err-write_command.fault) (returns-in-Err-write_command-clause-ends g c)

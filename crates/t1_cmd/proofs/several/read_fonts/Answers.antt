@@ -18,8 +18,8 @@ returns-in-Err-clause-turns g c =
     (get_or c.readers.readers c.readers.i c.index-readers-i.result) c.read_font.new.reader c.readers.invariant
     (ap (get_or c.readers.readers c.readers.i) c.index-readers-i.is) c.read_font.ensures.turns
 
-pub returns-in_err-keep-clause-turns : goal.returns-in_err-keep-clause-turns
-returns-in_err-keep-clause-turns g c =
+pub returns-in_err-push_item-clause-turns : goal.returns-in_err-push_item-clause-turns
+returns-in_err-push_item-clause-turns g c =
     turns_at (input_by c.args.taking) g.R.Read.remaining c.readers.i c.args.readers.now c.readers.readers c.readers.sources.items
     (get_or c.readers.readers c.readers.i c.index-readers-i.result) c.read_font.new.reader c.readers.invariant
     (ap (get_or c.readers.readers c.readers.i) c.index-readers-i.is) c.read_font.ensures.turns
@@ -28,7 +28,7 @@ pub readers-preserved : goal.readers-preserved
 readers-preserved g c =
     subst (λ fs. SoFar (input_by c.args.taking) g.R.Read.remaining (c.readers.i + 1) c.args.readers.now
     (set c.readers.readers c.readers.i c.read_font.new.reader) fs)
-    (sym c.in_ok-keep.ensures)
+    (sym c.in_ok-push_item.ensures.added)
     (goes_on (input_by c.args.taking) g.R.Read.remaining c.readers.i c.args.readers.now c.readers.readers c.readers.sources.items
     (get_or c.readers.readers c.readers.i c.index-readers-i.result) c.read_font.new.reader c.in-Ok.source c.readers.invariant
     (omega (arith, c.readers-test.true, c.readers.auto.readers))

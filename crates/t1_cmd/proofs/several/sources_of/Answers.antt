@@ -13,8 +13,8 @@ returns-in-Err-clause-refused c =
 
 pub files-preserved : goal.files-preserved
 files-preserved c =
-    let more : c.keep.new.sources.items ≡ c.files.sources.items ++ c.in-Ok.source ∷ [] =
-    no_error c.keep.result _ (sym c.is_err.ensures.value ∙ c.if-is_err.false) c.keep.ensures in
+    let more : c.push_item.new.items.items ≡ c.files.sources.items ++ c.in-Ok.source ∷ [] =
+    no_error c.push_item.result _ (sym c.is_err.ensures.value ∙ c.if-is_err.false) c.push_item.ensures.added in
     subst (λ (fs : List FontValue). SoFar (input_by c.args.taking) (c.files.place + 1) c.args.files.now fs) (sym more)
     (one_more (input_by c.args.taking) c.args.files.now c.files.place c.files.sources.items _ c.in-Ok.source c.files.invariant
     (omega (arith, c.files-test.true)) c.in-Ok.ensures.source)

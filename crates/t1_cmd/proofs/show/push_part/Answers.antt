@@ -7,7 +7,7 @@ use Rattle.t1_cmd.proofs.show.push_part.Goals as goal
 pub returns : goal.returns
 returns c =
     let place : c.push_pair.new.out.items ≡ c.args.lines.now.text.items ++ line (codes "part") (c.args.part.now.dx ∷ c.args.part.now.dy ∷ []) = search rules in
-    let marks = marks_of (direct (subr_at c.args.font.now) c.args.part.now.charstring.now) in
+    let marks = marks_of (direct (subr_at c.args.font.now) c.args.part.now.marks.now) in
     two_more c.args.lines.now.text.items c.push_pair.new.out.items c.trace.new.pen.text.items
     (line (codes "part") (c.args.part.now.dx ∷ c.args.part.now.dy ∷ [])) (flat_map mark_line marks)
     place

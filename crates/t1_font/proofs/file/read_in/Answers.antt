@@ -5,7 +5,7 @@ use Rattle.t1_font.proofs.file.read_in.Goals as goal
 
 pub invariant_of-result : goal.invariant_of-result
 invariant_of-result c =
-    read_is_font c.args.dialect c.args.file.items c.in-Ok.parts (subst AreBytes c.as_slice.ensures.value c.are_bytes.ensures) c.in-Ok.ensures
+    read_is_font c.args.dialect c.args.file.items c.in-Ok.parts (subst AreBytes c.as_slice.ensures.value c.proof_are_bytes.ensures) c.in-Ok.ensures
 
 pub returns-in-Ok-clause-right : goal.returns-in-Ok-clause-right
 returns-in-Ok-clause-right c = reads c.args.dialect c.args.file.items c.in-Ok.parts c.in-Ok.ensures

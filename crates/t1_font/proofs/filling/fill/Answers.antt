@@ -1,10 +1,11 @@
 use Rattle.std.proofs.Common.{◌≡◌, ℕ, nat_lt, ◌<◌, ◌≤◌, ap, sym, subst, ◌∙◌}
-use Rattle.t1_font.specs.{FontValue.{FontValue, Numbered, weight, weight_limit}, FontModel.{encoding_of, clamp}, Maps.{merged}, Evening.{stubs_at}, Filling.{with_subrs, filled_by}, IsFont.{IsFont}}
-use Rattle.t1_font.proofs.{Weights.{clamp_light, clamp_heavy}, even_fonts.Filled.{unfilled, parts_filled, filled_by_is_font}, even_fonts.FilledWeights.{kept_stubs}}
+use Rattle.t1_font.specs.{FontValue.{FontValue, SparseArray, weight, weight_limit}, FontModel.{encoding_of, clamp}, Maps.{merged}}
+use Rattle.t1_font.specs.{Normalizing.{stubs_at}, Filling.{with_subrs, filled_by}, IsFont.{IsFont}}
+use Rattle.t1_font.proofs.{Weights.{clamp_light, clamp_heavy}, normal_fonts.Filled.{unfilled, parts_filled, filled_by_is_font}, normal_fonts.FilledWeights.{kept_stubs}}
 use Rattle.t1_font.proofs.filling.fill.Goals as goal
 
 -- what is said of a font with other Subrs is said of one that it equals
-seen_so : (f h : FontValue) → f ≡ h → (m stubs : Numbered) → m ≡ merged f.subrs stubs → (n : ℕ) →
+seen_so : (f h : FontValue) → f ≡ h → (m stubs : SparseArray) → m ≡ merged f.subrs stubs → (n : ℕ) →
     (m ≡ merged h.subrs stubs → n ≡ clamp (weight (with_subrs h m))) → n ≡ clamp (weight (with_subrs f m))
 seen_so f h e m stubs is n said =
     said (is ∙ ap (λ (g : FontValue). merged g.subrs stubs) e) ∙ ap (λ (g : FontValue). clamp (weight (with_subrs g m))) (sym e)

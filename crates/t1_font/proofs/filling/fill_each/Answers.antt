@@ -1,7 +1,7 @@
 use Rattle.std.{proofs.{Common.{◌≡◌, refl, sym, ap, subst, ◌∙◌, List, ℕ, map}, lemmas.List.{nil_from_length}}, specs.{Vec.Iter.{into_iter_items}, Ordering.{nat_cmp}}}
 use Rattle.t1_join.specs.TableMeaning.{Rises}
-use Rattle.t1_font.specs.{Lent.{stub_at}, FontValue.{FontValue}, Evening.{stubs_at, indices_of_all}, Filling.{Fills, FillRefuses}}
-use Rattle.t1_font.proofs.{FilledTables.{keys_rise}, even_fonts.Filled.{stubs_listed, none_filled, all_filled, fills_on, refused_there}}
+use Rattle.t1_font.specs.{Lent.{stub_at}, FontValue.{FontValue}, Normalizing.{stubs_at, indices_of_all}, Filling.{Fills, FillRefuses}}
+use Rattle.t1_font.proofs.{FilledTables.{keys_rise}, normal_fonts.Filled.{stubs_listed, none_filled, all_filled, fills_on, refused_there}}
 use Rattle.t1_font.proofs.filling.fill_each.Goals as goal
 
 pub fonts-init : goal.fonts-init
@@ -15,7 +15,7 @@ fonts-preserved c =
     ∙ ap (λ (gs : List FontValue). stubs_at (indices_of_all gs)) (sym c.into_iter-font-iterator.ensures.into_iter_gives.0)) in
     fills_on (stubs_at c.args.indices.now) fs c.fonts.all.items (into_iter_items c.fonts.font-iterator)
     (into_iter_items c.next.new.self) c.in-Some.font c.fonts.invariant c.in-Some.ensures.steps.0 at
-    c.keep.new.fonts.items c.in-Ok.font c.in-Ok.ensures.filled c.in-Ok.ensures.light c.in_ok-keep.ensures
+    c.push_item.new.items.items c.in-Ok.font c.in-Ok.ensures.filled c.in-Ok.ensures.light c.in_ok-push_item.ensures.added
 
 pub returns-in-Err : goal.returns-in-Err
 returns-in-Err c =

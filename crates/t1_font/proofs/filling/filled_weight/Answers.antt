@@ -1,5 +1,5 @@
 use Rattle.std.proofs.Common.{◌≡◌, ◌+◌, ◌*◌, ◌-◌, ℕ, min, sym, ap, ◌∙◌, arith}
-use Rattle.t1_font.{specs.{FontValue.{FontValue, weight}, FontModel.{clamp}}, proofs.even_fonts.FilledWeights.{filled_weighs}}
+use Rattle.t1_font.{specs.{FontValue.{FontValue, weight}, FontModel.{clamp}}, proofs.normal_fonts.FilledWeights.{filled_weighs}}
 use Rattle.std.specs.FinMap as fin
 use Rattle.t1_font.proofs.filling.filled_weight.Goals as goal
 

@@ -1,6 +1,6 @@
 use Rattle.std.proofs.{Common.{◌≡◌, true, false, ap, sym, subst, ◌∙◌, refl, List, ℕ, Option, Some, None, is_some, Bor}, lemmas.Map.Iter.{rest_more, rest_all}}
 use Rattle.std.specs.{Option.{option_map}, FinMap.{contains_key}}
-use Rattle.t1_font.{specs.Lent.{lent_number}, proofs.even_fonts.Filled.{EachLeft, all_left, one_known, one_unknown, all_known}}
+use Rattle.t1_font.{specs.Lent.{lent_number}, proofs.normal_fonts.Filled.{EachLeft, all_left, one_known, one_unknown, all_known}}
 use Rattle.t1_font.proofs.filling.has_all.Goals as goal
 
 pub others-init : goal.others-init

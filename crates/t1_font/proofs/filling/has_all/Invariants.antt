@@ -1,4 +1,4 @@
-use Rattle.t1_font.proofs.even_fonts.Filled.{EachLeft}
+use Rattle.t1_font.proofs.normal_fonts.Filled.{EachLeft}
 use Rattle.t1_font.proofs.filling.has_all.Given as goal
 
 abbrev pub invariant-others : goal.invariant-others

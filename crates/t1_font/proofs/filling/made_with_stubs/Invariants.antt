@@ -1,5 +1,5 @@
 use Rattle.std.proofs.Common.{◌≡◌, ◌++◌, map, drop}
-use Rattle.t1_font.specs.{Evening.{below_count}, Lent.{lent_number, stub_at}}
+use Rattle.t1_font.specs.{Normalizing.{below_count}, Lent.{lent_number, stub_at}}
 use Rattle.t1_font.proofs.filling.made_with_stubs.Given as goal
 
 abbrev pub invariant-indices : goal.invariant-indices

@@ -1,5 +1,5 @@
 use Rattle.std.{proofs.Common.{◌≡◌, ◌++◌, map}, specs.FinMap.{keys}}
-use Rattle.t1_font.specs.Evening.{stubs_at, indices_of_all}
+use Rattle.t1_font.specs.Normalizing.{stubs_at, indices_of_all}
 use Rattle.t1_font.proofs.filling.stub_indices.Given as goal
 
 abbrev pub invariant-stubs : goal.invariant-stubs

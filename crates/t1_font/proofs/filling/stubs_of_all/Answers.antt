@@ -1,8 +1,8 @@
 use Rattle.std.proofs.{Common.{◌≡◌, ◌+◌, ap, sym, subst, ◌∙◌, map, drop, List, ℕ, true}, lemmas.Result.{IfOk-weaker}, lemmas.List.{drop_all}}
 use Rattle.std.specs.{Ordering.{nat_cmp}, FinMap.{contains_key, from_sorted}}
 use Rattle.t1_join.proofs.Sorted.{no_entries}
-use Rattle.t1_font.specs.{declared.font.Font.TheInside.{Inside}, FontValue.{FontValue, Numbered}, Lent.{lent_number}, Maps.{merged}}
-use Rattle.t1_font.proofs.even_fonts.Filled.{IndicesSoFar, none_so_far, one_more_font, no_more_font, has_keys, stubs_of, all_stubs}
+use Rattle.t1_font.specs.{declared.font.Font.TheInside.{Inside}, FontValue.{FontValue, SparseArray}, Lent.{lent_number}, Maps.{merged}}
+use Rattle.t1_font.proofs.normal_fonts.Filled.{IndicesSoFar, none_so_far, one_more_font, no_more_font, has_keys, stubs_of, all_stubs}
 use Rattle.t1_font.proofs.filling.stubs_of_all.Goals.{then-not-has_all+in_ok-all, else-not-has_all}
 use Rattle.t1_font.proofs.filling.stubs_of_all.Goals as goal
 
@@ -18,12 +18,12 @@ fonts-preserved c =
     let subrs : c.font-inside.inside.0.0.subrs ≡ f.subrs =
     ap (λ (s : Inside). s.parts.subrs) c.font-inside.view_is ∙ ap (λ (f : FontValue). f.subrs) c.font.view_is in
     elim c.if-not-has_all.branch [
-      | then-not-has_all+in_ok-all w ↦ subst (λ (m : Numbered). IndicesSoFar m (drop (i + 1) fs) fs) (sym w.all-is)
+      | then-not-has_all+in_ok-all w ↦ subst (λ (m : SparseArray). IndicesSoFar m (drop (i + 1) fs) fs) (sym w.all-is)
           (one_more_font c.fonts.all fs fs i f f c.fonts-test.true
           (sym c.font-item.is) c.fonts.invariant w.in_ok-all.all (w.in_ok-all.ensures ∙ ap (merged c.fonts.all) subrs))
-      | else-not-has_all w ↦ subst (λ (m : Numbered). IndicesSoFar m (drop (i + 1) fs) fs) (sym w.all-is)
+      | else-not-has_all w ↦ subst (λ (m : SparseArray). IndicesSoFar m (drop (i + 1) fs) fs) (sym w.all-is)
           (no_more_font c.fonts.all fs fs i f f c.fonts-test.true (sym c.font-item.is) c.fonts.invariant
-          (subst (λ (n : Numbered). (q : ℕ) → contains_key n q ≡ true → contains_key c.fonts.all q ≡ true) subrs
+          (subst (λ (n : SparseArray). (q : ℕ) → contains_key n q ≡ true → contains_key c.fonts.all q ≡ true) subrs
           (has_keys c.fonts.all _ (sym c.has_all.ensures ∙ w.if-not-has_all.false))))
     ]
 

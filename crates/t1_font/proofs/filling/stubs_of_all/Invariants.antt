@@ -1,5 +1,5 @@
 use Rattle.std.proofs.Common.{drop}
-use Rattle.t1_font.proofs.even_fonts.Filled.{IndicesSoFar}
+use Rattle.t1_font.proofs.normal_fonts.Filled.{IndicesSoFar}
 use Rattle.t1_font.proofs.filling.stubs_of_all.Given as goal
 
 abbrev pub invariant-fonts : goal.invariant-fonts

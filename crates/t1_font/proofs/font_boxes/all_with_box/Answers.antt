@@ -11,8 +11,8 @@ sources-preserved c =
     let g = if_can (box_view c.args.sides) in
     moved c.sources.all.items (map g (into_iter_items c.sources.source-iterator))
     (map g (into_iter_items c.into_iter-source-iterator.result)) c.sources.invariant
-    c.keep.new.sources.items (map g (into_iter_items c.next.new.self)) (g c.in-Some.source)
-    (c.in_ok-keep.ensures ∙ ap (λ (f : FontValue). c.sources.all.items ++ f ∷ []) c.in-Ok.ensures)
+    c.push_item.new.items.items (map g (into_iter_items c.next.new.self)) (g c.in-Some.source)
+    (c.in_ok-push_item.ensures.added ∙ ap (λ (f : FontValue). c.sources.all.items ++ f ∷ []) c.in-Ok.ensures)
     (ap (map g) c.in-Some.ensures.steps.0)
 
 pub returns : goal.returns

@@ -1,5 +1,5 @@
 use Rattle.std.proofs.Common.{rules, ◌≡◌, None, ℕ, take, sym, ap, ◌∙◌}
-use Rattle.t1_font.{specs.{FontBoxes.{font_box}, BoxViews.{numbers_view}}, proofs.even_fonts.BoxTexts.{box_read, not_opened, not_four, not_closed}}
+use Rattle.t1_font.{specs.{FontBoxes.{font_box}, BoxViews.{numbers_view}}, proofs.normal_fonts.BoxTexts.{box_read, not_opened, not_four, not_closed}}
 use Rattle.t1_font.proofs.font_boxes.font_box_at.Goals as goal
 
 pub returns-in_err-bracket : goal.returns-in_err-bracket

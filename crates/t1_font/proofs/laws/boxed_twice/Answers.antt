@@ -1,4 +1,4 @@
-use Rattle.t1_font.proofs.even_fonts.Boxes.{boxed_twice, boxed_keeps}
+use Rattle.t1_font.proofs.normal_fonts.Boxes.{boxed_twice, boxed_keeps}
 use Rattle.t1_font.proofs.laws.boxed_twice.Goals as goal
 
 pub returns-clause-twice : goal.returns-clause-twice

@@ -1,4 +1,4 @@
-use Rattle.t1_font.proofs.even_fonts.BoxOrder.{holds_each, held_by_all}
+use Rattle.t1_font.proofs.normal_fonts.BoxOrder.{holds_each, held_by_all}
 use Rattle.t1_font.proofs.laws.holds_each.Goals as goal
 
 pub returns-clause-each : goal.returns-clause-each

@@ -1,4 +1,4 @@
-use Rattle.t1_font.proofs.even_fonts.BoxPlaces.{one_for_another}
+use Rattle.t1_font.proofs.normal_fonts.BoxPlaces.{one_for_another}
 use Rattle.t1_font.proofs.laws.one_box_for_another.Goals as goal
 
 pub returns : goal.returns

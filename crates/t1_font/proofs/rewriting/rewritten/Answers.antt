@@ -1,5 +1,5 @@
 use Rattle.std.proofs.Common.{List, ℕ, sym, ◌∙◌, subst}
-use Rattle.t1_font.{specs.Steps.{piece_of}, proofs.even_fonts.RewritingLemmas.{Walked, none_walked, walks_less, walks_on, all_walked, step_takes}}
+use Rattle.t1_font.{specs.Steps.{piece_of}, proofs.normal_fonts.RewritingLemmas.{Walked, none_walked, walks_less, walks_on, all_walked, step_takes}}
 use Rattle.t1_font.proofs.rewriting.rewritten.Goals as goal
 
 pub pieces-init : goal.pieces-init

@@ -1,5 +1,5 @@
 use Rattle.std.proofs.Common.{length}
-use Rattle.t1_font.{specs.Steps.{piece_of}, proofs.even_fonts.RewritingLemmas.{Walked}}
+use Rattle.t1_font.{specs.Steps.{piece_of}, proofs.normal_fonts.RewritingLemmas.{Walked}}
 use Rattle.t1_font.proofs.rewriting.rewritten.Given as goal
 
 abbrev pub invariant-pieces : goal.invariant-pieces

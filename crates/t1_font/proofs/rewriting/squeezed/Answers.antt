@@ -1,5 +1,5 @@
 use Rattle.std.proofs.Common.{Bool, true, false, cond, suc, ◌≤◌, length, arith, [], ◌∷◌, List, ℕ, sym, ap, subst, ◌∙◌, ◌++◌, take, drop}
-use Rattle.t1_font.{specs.Squeezing.{stays, staying, squeezed}, proofs.even_fonts.RewritingLemmas.{SqueezedSoFar, squeezed_on, squeezed_less, all_squeezed}}
+use Rattle.t1_font.{specs.Squeezing.{stays, staying, squeezed}, proofs.normal_fonts.RewritingLemmas.{SqueezedSoFar, squeezed_on, squeezed_less, all_squeezed}}
 use Rattle.t1_font.proofs.rewriting.squeezed.Goals as goal
 
 pub runs-init : goal.runs-init

@@ -1,5 +1,5 @@
 use Rattle.std.proofs.Common.{length}
-use Rattle.t1_font.proofs.even_fonts.RewritingLemmas.{SqueezedSoFar}
+use Rattle.t1_font.proofs.normal_fonts.RewritingLemmas.{SqueezedSoFar}
 use Rattle.t1_font.proofs.rewriting.squeezed.Given as goal
 
 abbrev pub invariant-runs : goal.invariant-runs

@@ -1,5 +1,5 @@
 use Rattle.std.proofs.Common.{refl, arith, length}
-use Rattle.t1_font.proofs.even_fonts.TagLemmas.{walked_on, walked_through}
+use Rattle.t1_font.proofs.normal_fonts.TagLemmas.{walked_on, walked_through}
 use Rattle.t1_font.proofs.tags.untagged.Goals as goal
 
 pub tags-init : goal.tags-init

@@ -1,5 +1,5 @@
 use Rattle.std.proofs.Common.{length}
-use Rattle.t1_font.proofs.even_fonts.TagLemmas.{Walked}
+use Rattle.t1_font.proofs.normal_fonts.TagLemmas.{Walked}
 use Rattle.t1_font.proofs.tags.untagged.Given as goal
 
 abbrev pub invariant-tags : goal.invariant-tags

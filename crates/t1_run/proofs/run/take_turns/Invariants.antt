@@ -8,4 +8,5 @@ decreases-turns g l = left_of l.allowance
 abbrev pub invariant-turns : goal.invariant-turns
 invariant-turns g l =
     Between (g.S.Subroutines.subrs l.subrs) l.hints l.charstring l.initial.called l.is_one
-    (Draws g.P.Pen.marked (g.P.Pen.page l.initial.pen) (g.P.Pen.page l.pen)) (l.callers.items ++ l.top ∷ []) l.machine l.called l.initial.allowance l.allowance
+    (Draws g.P.Pen.marked (g.P.Pen.page l.initial.pen) (g.P.Pen.page l.pen)) (l.call_stack.items ++ l.top ∷ [])
+    l.machine l.called l.initial.allowance l.allowance

@@ -5,5 +5,5 @@ use Rattle.t1_subset.proofs.differences.add_codes.Given as goal
 
 abbrev pub invariant-codes : goal.invariant-codes
 invariant-codes l = Adding l.initial.all.items l.all.items
-    (each_told (code_clashes l.own.callers.font.now l.other.callers.font.now) CodeDiffers (numbers_from 0 256))
-    (each_told (code_clashes l.own.callers.font.now l.other.callers.font.now) CodeDiffers (numbers_from l.code (256 - l.code)))
+    (each_told (code_clashes l.own.references.font.now l.other.references.font.now) CodeDiffers (numbers_from 0 256))
+    (each_told (code_clashes l.own.references.font.now l.other.references.font.now) CodeDiffers (numbers_from l.code (256 - l.code)))

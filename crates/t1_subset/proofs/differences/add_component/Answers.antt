@@ -6,9 +6,9 @@ use Rattle.t1_subset.proofs.differences.add_component.Goals as goal
 pub returns-in-Some : goal.returns-in-Some
 returns-in-Some c =
     let own = c.args.own.now in let other = c.args.other.now in let p = c.args.component.now in
-    let seeker = seeker_is own.callers other.callers own.states other.states c.requires.own c.requires.other p _ _ (Some c.in-Some.glyph.now)
+    let seeker = seeker_is own.references other.references own.states other.states c.requires.own c.requires.other p _ _ (Some c.in-Some.glyph.now)
     c.seeker_in.ensures c.seeker_in-2.ensures c.in-Some.ensures in
-    let clashes = component_is own.callers.font.now other.callers.font.now p in
+    let clashes = component_is own.references.font.now other.references.font.now p in
     on_ok_weaker c.add.result (λ h. adds_passing c.lacks_component.result _ _ _ _
     (grind (cases, clashes, seeker, c.is_in_either.ensures, c.if-not-is_in_either.false))
     (subst (λ x. Tells c.lacks_component.result (Some (LacksComponent (unwrap_or x []) p))) seeker c.lacks_component.ensures) h) c.add.ensures
@@ -16,7 +16,7 @@ returns-in-Some c =
 pub returns-in-None : goal.returns-in-None
 returns-in-None c =
     let own = c.args.own.now in let other = c.args.other.now in let p = c.args.component.now in
-    let seeker = seeker_is own.callers other.callers own.states other.states c.requires.own c.requires.other p _ _ None
+    let seeker = seeker_is own.references other.references own.states other.states c.requires.own c.requires.other p _ _ None
     c.seeker_in.ensures c.seeker_in-2.ensures c.in-None.ensures in
-    let clashes = component_is own.callers.font.now other.callers.font.now p in
+    let clashes = component_is own.references.font.now other.references.font.now p in
     adds_failing _ _ _ (grind (cases, clashes, seeker))

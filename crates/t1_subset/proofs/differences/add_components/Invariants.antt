@@ -12,5 +12,5 @@ told f g ps = each_told (component_clashes profile f g) (lacks_component profile
 
 abbrev pub invariant-sought : goal.invariant-sought
 invariant-sought l = Adding l.initial.all.items l.all.items
-    (told l.own.callers.font.now l.other.callers.font.now (maps.keys (joined_table l.own.callers.seekers l.other.callers.seekers)))
-    (told l.own.callers.font.now l.other.callers.font.now (map (λ e. e.0) l.component-iterator))
+    (told l.own.references.font.now l.other.references.font.now (maps.keys (joined_table l.own.references.seekers l.other.references.seekers)))
+    (told l.own.references.font.now l.other.references.font.now (map (λ e. e.0) l.component-iterator))

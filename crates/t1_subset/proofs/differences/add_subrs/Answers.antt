@@ -5,13 +5,13 @@ use Rattle.t1_subset.proofs.differences.add_subrs.Goals as goal
 
 pub indices-preserved : goal.indices-preserved
 indices-preserved c =
-    let f = c.args.own.now.callers.font.now in let g = c.args.other.now.callers.font.now in
+    let f = c.args.own.now.references.font.now in let g = c.args.other.now.references.font.now in
     let left : c.in-Some.index ∷ c.next.new.self ≡ c.indices.index-iterator = search rules in
     adding_next (subr_clashes profile f g) (subr_differs profile f g) _ _ _ _ c.in-Some.index c.next.new.self c.indices.index-iterator (sym left)
     c.indices.invariant c.in_ok-add_subr.ensures
 
 pub returns : goal.returns
 returns c =
-    let f = c.args.own.now.callers.font.now in let g = c.args.other.now.callers.font.now in
+    let f = c.args.own.now.references.font.now in let g = c.args.other.now.references.font.now in
     subst (Adds c.args.all.now.items c.indices.all.items) (ap (map (subr_differs profile f g)) (subrs_passing f g)) (adding_ends _ _ _ _
     (ap (λ (is : List ℕ). each_told (subr_clashes profile f g) (subr_differs profile f g) is) c.in-None.ensures.steps.0) c.indices.invariant)

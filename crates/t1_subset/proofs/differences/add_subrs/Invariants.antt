@@ -5,7 +5,9 @@ use Rattle.t1_subset.proofs.differences.add_subrs.Given as goal
 
 abbrev pub invariant-indices : goal.invariant-indices
 invariant-indices l = Adding l.initial.all.items l.all.items
-    (each_told (subr_clashes profile l.own.callers.font.now l.other.callers.font.now) (subr_differs profile l.own.callers.font.now l.other.callers.font.now)
-    (maps.keys l.own.callers.font.now.subrs))
-    (each_told (subr_clashes profile l.own.callers.font.now l.other.callers.font.now) (subr_differs profile l.own.callers.font.now l.other.callers.font.now)
+    (each_told (subr_clashes profile l.own.references.font.now l.other.references.font.now)
+    (subr_differs profile l.own.references.font.now l.other.references.font.now)
+    (maps.keys l.own.references.font.now.subrs))
+    (each_told (subr_clashes profile l.own.references.font.now l.other.references.font.now)
+    (subr_differs profile l.own.references.font.now l.other.references.font.now)
     l.index-iterator)

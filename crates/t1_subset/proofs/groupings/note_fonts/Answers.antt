@@ -2,15 +2,15 @@ use Rattle.t1_run.specs.declared.budget.Stop.TheVariants.{TooManyTokens}
 use Rattle.std.proofs.Common.{rules, ◌≡◌, ◌+◌, ◌∙◌, ap, map, sym, subst, take_all}
 use Rattle.t1_algebra.specs.{Profile.{profile}, StateTables.{states_of}}
 use Rattle.t1_run.{specs.Budgets.{Takes}, proofs.Taken.{takes_nothing}}
-use Rattle.t1_subset.specs.{Callers.{AreNoted, fonts_of}, Budgets.{font_least, font_tokens, fonts_least, fonts_tokens}}
+use Rattle.t1_subset.specs.{References.{AreNoted, fonts_of}, Budgets.{font_least, font_tokens, fonts_least, fonts_tokens}}
 use Rattle.t1_subset.proofs.{state_tables.Walks.{noted_more, shown, shown_more}, Tokens.{takes_more, refused_on, sum_taken}}
 use Rattle.t1_subset.proofs.groupings.note_fonts.Goals as goal
 
 pub fonts-init : goal.fonts-init
 fonts-init c = (
   record {
-    fonts = ap fonts_of c.in_ok-callers.ensures.items;
-    noted = subst AreNoted (sym c.in_ok-callers.ensures.items) tt;
+    fonts = ap fonts_of c.in_ok-references.ensures.items;
+    noted = subst AreNoted (sym c.in_ok-references.ensures.items) tt;
     states = c.in_ok-states.ensures.items;
   },
   takes_nothing c.args.budget.now.left,
@@ -20,8 +20,8 @@ pub fonts-preserved : goal.fonts-preserved
 fonts-preserved c =
     let noted = c.in_ok-own in
     let next = shown_more c.args.fonts.now c.fonts.font-index _ c.fonts-test.true c.font-item.is in (
-      noted_more _ _ _ _ _ _ _ _ _ c.fonts.invariant.0 next c.proof_is_font.ensures noted.ensures.font noted.ensures.callers noted.ensures.states
-          c.in_ok-keep.ensures.callers c.in_ok-keep.ensures.states,
+      noted_more _ _ _ _ _ _ _ _ _ c.fonts.invariant.0 next c.proof_is_font.ensures noted.ensures.font noted.ensures.references noted.ensures.states
+          c.in_ok-keep.ensures.references c.in_ok-keep.ensures.states,
       takes_more font_tokens font_least _ _ _ _ _ _ (sym next) c.fonts.invariant.1 noted.ensures.takes,
     )
 

@@ -5,5 +5,5 @@ use Rattle.t1_subset.proofs.groupings.note_fonts.Given as goal
 
 abbrev pub invariant-fonts : goal.invariant-fonts
 invariant-fonts l =
-    NotedSoFar l.callers.items l.states.items (shown (take l.font-index l.fonts))
+    NotedSoFar l.references.items l.states.items (shown (take l.font-index l.fonts))
     × Takes (fonts_least (shown (take l.font-index l.fonts))) (fonts_tokens (shown (take l.font-index l.fonts))) l.initial.budget.left l.budget.left

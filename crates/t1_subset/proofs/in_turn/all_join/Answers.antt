@@ -19,13 +19,13 @@ returns-in-Some-get-clause-err c =
     let there = c.in-Some-get.ensures.lookup.3 in
     let apart = if_some _ _ _ c.in-Some.is c.in_ok-joined.ensures.apart next
     (slice_get-get_or ss n next there.0 ∙ ap (λ (s : StatesValue). Some s) (sym (there.1 next))) in
-    refused_next c.args.callers.now c.requires.noted ss c.requires.states n c.in-Some.joined
+    refused_next c.args.references.now c.requires.noted ss c.requires.states n c.in-Some.joined
     (match_some _ _ _ _ c.in-Some.is c.in_ok-joined.ensures.joined) next there.0 (there.1 next)
     c.conflict_of.result (λ f g h k. c.conflict_of.ensures f g h k apart)
 
 pub returns-clause-ok : goal.returns-clause-ok
 returns-clause-ok c =
     let ss = c.args.states.now in
-    joined_come c.args.callers.now c.requires.noted ss c.requires.states (Some c.in-Some.joined) c.in-Some.joined refl
+    joined_come c.args.references.now c.requires.noted ss c.requires.states (Some c.in-Some.joined) c.in-Some.joined refl
     (subst (λ (l : List StatesValue). IsJoinOf FontStatesJoin (map (λ s. s) l) (Some c.in-Some.joined)) (take_all c.in-Some.count ss
     c.in-None.ensures.lookup.3) (match_some _ _ _ _ c.in-Some.is c.in_ok-joined.ensures.joined))

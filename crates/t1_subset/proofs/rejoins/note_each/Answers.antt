@@ -1,5 +1,5 @@
 use Rattle.std.proofs.{Common.{rules, ◌≡◌, ◌<◌, ◌+◌, ◌++◌, ◌∷◌, [], ℕ, arith, List, take, length, get_or, sym, ap, subst, take_all, ◌≤◌, ◌∙◌}, lemmas.List.{length-map, take_more}}
-use Rattle.t1_font.specs.{FontValue.{FontValue}, Evening.{filled, filled_all, indices_of_all}}
+use Rattle.t1_font.specs.{FontValue.{FontValue}, Normalizing.{filled, filled_all, indices_of_all}}
 use Rattle.t1_run.{specs.Budgets.{Takes}, proofs.Taken.{takes_nothing}}
 use Rattle.t1_subset.specs.Budgets.{font_least, font_tokens, fonts_least, fonts_tokens}
 use Rattle.t1_subset.proofs.{Tokens.{list_takes, list_refused, takes_enough}, Plain.{plain_err}, state_tables.Walks.{noted_more}, Rejoining.{map_at, lack_behind, lack_first}}
@@ -30,8 +30,8 @@ fonts-preserved c =
     let noted = c.in-Ok.ensures in
     let next : take i gs ++ g ∷ [] ≡ take (i + 1) gs =
     ap (λ (x : FontValue). take i gs ++ x ∷ []) c.index-full-place.is ∙ sym (take_more gs i g c.fonts-test.true) in (
-      noted_more _ _ _ _ _ _ _ _ _ c.fonts.invariant.0 next c.proof_is_font.ensures noted.font noted.callers noted.states
-          c.in_ok-keep.ensures.callers c.in_ok-keep.ensures.states,
+      noted_more _ _ _ _ _ _ _ _ _ c.fonts.invariant.0 next c.proof_is_font.ensures noted.font noted.references noted.states
+          c.in_ok-keep.ensures.references c.in_ok-keep.ensures.states,
       lack_behind fs i c.index-fonts-place.result (in_both fs gs i c.requires c.fonts-test.true) c.index-fonts-place.is c.fonts.invariant.1 noted.none,
       list_takes font_tokens fs i c.index-fonts-place.result (in_both fs gs i c.requires c.fonts-test.true) c.index-fonts-place.is font_least _ _ _
           c.fonts.invariant.2 noted.takes,

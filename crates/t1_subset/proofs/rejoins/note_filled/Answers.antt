@@ -1,6 +1,6 @@
 use Rattle.std.proofs.Common.{◌≡◌, None, option_map, sym, ap, subst, ◌∙◌}
 use Rattle.t1_algebra.specs.Lacks.{lack_in}
-use Rattle.t1_subset.{specs.{Callers.{RunAlike}, Lacks.{lack_view}}, proofs.Rejoining.{filled_alike}}
+use Rattle.t1_subset.{specs.{References.{RunAlike}, Lacks.{lack_view}}, proofs.Rejoining.{filled_alike}}
 use Rattle.t1_subset.proofs.rejoins.note_filled.Goals as goal
 
 pub note_as-requires-clause-alike : goal.note_as-requires-clause-alike

@@ -4,8 +4,8 @@ use Rattle.std.specs.{List.{list_any, AllByRecursion}, Cmp.Lexicographic.{nat_li
 use Rattle.std.specs.FinMap.{entries, nat_cmp-IsAntisymmetric, slice_cmp-IsAntisymmetric}
 use Rattle.t1_algebra.{specs.{Interpreter.{same_bytes}, Keep.{has}, Profile.{profile}, States.{joined_option, executes, executed_at, called_at}, Conflicts.{wants}}, proofs.Sets.{cases}}
 use Rattle.t1_font.{specs.Lent.{lent_name}, proofs.MapLemmas.{entries_all}}
-use Rattle.t1_subset.{specs.{Users.{noted_at}, Callers.{same_charstring}}, proofs.Tokens.{spent_starts, spent_again, spent_more, spent_refused, spent_ends}}
-use Rattle.t1_subset.proofs.state_tables.FontCallers.{executes_so, calls_so, again_same, noting_starts, noting_again, noting_next, noting_ends}
+use Rattle.t1_subset.{specs.{Users.{user_at}, References.{same_charstring}}, proofs.Tokens.{spent_starts, spent_again, spent_more, spent_refused, spent_ends}}
+use Rattle.t1_subset.proofs.state_tables.FontReferences.{executes_so, calls_so, again_same, noting_starts, noting_again, noting_next, noting_ends}
 use Rattle.std.specs.FinMap as maps
 use Rattle.std.specs.FinSet as sets
 use Rattle.t1_subset.proofs.state_making.uses_of.Goals as goal
@@ -48,7 +48,7 @@ glyphs-preserved c =
     let named = ap (map (λ (s : Bor (List ℕ)). s.now)) c.as_slice.ensures.value ∙ c.in_ok-components.ensures.components n there in
     let users = λ (q : ℕ).
     c.in_ok-note_users.ensures q
-    ∙ ap (λ b. joined_option (noted_at c.glyphs.users.items q) (cond b (Some n) None))
+    ∙ ap (λ b. joined_option (user_at c.glyphs.users.items q) (cond b (Some n) None))
     (ap (λ s. sets.contains s q) (c.in_ok-components.ensures.calls n there) ∙ executes_so f n q) in
     let seekers = λ (q : List ℕ).
     c.in_ok-note_seekers.ensures q

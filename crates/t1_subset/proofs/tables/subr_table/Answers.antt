@@ -1,7 +1,7 @@
 use Rattle.std.proofs.{Common.{◌≡◌, ◌∙◌, ap, sym, arith, ℕ, List, Bor, Option, None, is_some, option_map}, lemmas.Map.Iter.{rest_more, rest_all}}
 use Rattle.t1_font.specs.{FontValue.{FontValue}, Lent.{lent_number}}
 use Rattle.t1_algebra.{specs.{Profile.{profile}, States.{subr_state, state_of_entry}, StateTables.{used_subrs}}, proofs.FontStates.{get-used}}
-use Rattle.t1_subset.proofs.{state_tables.FontCallers.{called_is}, state_tables.ByNumber.{before_all, before_next, behind_all, entry_there, entry_is}}
+use Rattle.t1_subset.proofs.{state_tables.FontReferences.{called_is}, state_tables.ByNumber.{before_all, before_next, behind_all, entry_there, entry_is}}
 use Rattle.std.specs.FinMap as maps
 use Rattle.t1_subset.proofs.tables.subr_table.Goals as goal
 
@@ -29,7 +29,7 @@ entries-preserved c =
     before_next c.entries.table (subr_state profile f) f.subrs (no_state f) (i, c.in-Some.body.now) c.next.new.self c.entries.index-iterator more
     c.entries.invariant c.put.new.table _ c.in_ok-put.ensures
     (c.subr_state.ensures ∙ entry_is f i _ _ c.is_some-is_called.result (sym there)
-    (λ t. c.is_some-is_called.ensures ∙ some_lent c.noted_user.result ∙ ap is_some (c.noted_user.ensures ∙ c.requires i t) ∙ sym (called_is f i)))
+    (λ t. c.is_some-is_called.ensures ∙ some_lent c.user_of_array.result ∙ ap is_some (c.user_of_array.ensures ∙ c.requires i t) ∙ sym (called_is f i)))
 
 pub returns : goal.returns
 returns c =

@@ -1,7 +1,7 @@
 use Rattle.std.proofs.Common.{◌≡◌, ◌+◌, refl, sym, ap, ◌∙◌, ℕ, Bool, true, false, ◌||◌, cond, Option, Some, None, List, [], ◌∷◌, get_or, drop, drop-cons, add-one}
 use Rattle.std.specs.{List.{list_any}, Cmp.{nat_cmp_total}}
 use Rattle.t1_algebra.{specs.{Shared.{same_number}, States.{joined_option}}, proofs.Sets.{cases}}
-use Rattle.t1_subset.{specs.Users.{noted_at}, proofs.closing.NumberSets.{any_with}}
+use Rattle.t1_subset.{specs.Users.{user_at}, proofs.closing.NumberSets.{any_with}}
 use Rattle.std.specs.FinSet as sets
 use Rattle.t1_subset.proofs.users.note_users.Goals as goal
 
@@ -25,7 +25,7 @@ calls-preserved c =
     let all : List ℕ = c.as_slice-index-items.result.now in
     let i : ℕ = c.calls.index-index in
     let next : drop i all ≡ get_or all i 0 ∷ drop (i + 1) all = rw (add-one i) (drop-cons all i 0 c.calls-test.true) in
-    λ q. noted_step c.args.glyph.now (noted_at c.calls.users.items q) (noted_at c.note_user.new.users.items q) _ (same_number q (get_or all i 0))
+    λ q. noted_step c.args.glyph.now (user_at c.calls.users.items q) (user_at c.note_user.new.users.items q) _ (same_number q (get_or all i 0))
     (list_any (same_number q) (drop (i + 1) all)) (c.in_ok-note_user.ensures q)
-    (ap (λ (l : List ℕ). joined_option (noted_at c.calls.users.items q) (cond (list_any (same_number q) l) (Some c.args.glyph.now) None)) (sym next)
+    (ap (λ (l : List ℕ). joined_option (user_at c.calls.users.items q) (cond (list_any (same_number q) l) (Some c.args.glyph.now) None)) (sym next)
     ∙ c.calls.invariant q)

@@ -1,5 +1,5 @@
 use Rattle.std.{proofs.Common.{◌≡◌, ◌≤◌, ℕ, List, [], ◌∷◌, length, sym, ap, subst, ◌∙◌, arith}, specs.FinMap.{entries}}
-use Rattle.t1_font.specs.{declared.font.Font.TheInside.{Inside}, FontValue.{Numbered, total, subr_weight, weight_limit}}
+use Rattle.t1_font.specs.{declared.font.Font.TheInside.{Inside}, FontValue.{SparseArray, total, subr_weight, weight_limit}}
 use Rattle.t1_font.proofs.font.Font.indices.Goals as goal
 
 -- Subrs weigh at least one each
@@ -13,4 +13,4 @@ invariant_of-result c =
     let is : c.self-inside.inside.0.0.subrs ≡ f.subrs = ap (λ (s : Inside). s.parts.subrs) c.self-inside.view_is in
     let few = one_each f.shell.len_iv (entries f.subrs) in
     let light = c.self.invariant.light in
-    subst (λ (n : ℕ). n ≤ weight_limit) (ap (λ (m : Numbered). length (entries m)) (sym is) ∙ ap length (sym c.entries.ensures)) (omega (arith, few, light))
+    subst (λ (n : ℕ). n ≤ weight_limit) (ap (λ (m : SparseArray). length (entries m)) (sym is) ∙ ap length (sym c.entries.ensures)) (omega (arith, few, light))

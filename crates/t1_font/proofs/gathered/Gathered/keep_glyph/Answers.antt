@@ -1,7 +1,8 @@
 use Rattle.std.{proofs.{Common.{ℕ, List, ◌≡◌, ◌∙◌, ◌≤◌, ap, arith, sym, subst, ◌+◌, ◌-◌, length, drop, map}, lemmas.Cmp.{nat_list_cmp_total}}, specs.Cmp.Lexicographic.{on_texts}}
 use Rattle.t1_font.specs.{declared.ranges.Range.{Range}, Charstrings.{plain_of}, Entries.{map_of, AreSettled}, FontValue.{name_cmp}, Gathering.{Entries, gathered_codes, gathered_glyphs}}
 use Rattle.t1_font.specs.{Places.{ending, bytes_at_place}, Ranges.{bytes_at, by_name, named_at, IsInside, AllInside, NamesInside}}
-use Rattle.t1_font.proofs.Buffers.{Decrypted, Named, pushed, with_one, names_with_one, all_longer, names_wider, entries_stay, names_stay, rest_stays, plain_at, plain_inside, name_at, name_inside}
+use Rattle.t1_font.proofs.Buffers.{Decrypted, CharStrings, pushed, with_one, names_with_one, all_longer, names_wider, entries_stay}
+use Rattle.t1_font.proofs.Buffers.{names_stay, rest_stays, plain_at, plain_inside, name_at, name_inside}
 use Rattle.t1_font.proofs.{Buffers.{goes_on, same_length}, Lasts.{settled_map, settled_all}, canonical.FontAgain.{name_same}}
 use Rattle.std.specs.FinMap as fin
 use Rattle.t1_font.proofs.gathered.Gathered.keep_glyph.Goals as goal
@@ -23,7 +24,7 @@ decrypted_so c = record {
   plain_end = c.behind_lead-plain.ensures.end;
 }
 
-named_so : (c : goal.After-self-3-1) → Named c.self.inside.buffer.items c.self.inside.at c.args.name c.args.body c.part_at-name.result
+named_so : (c : goal.After-self-3-1) → CharStrings c.self.inside.buffer.items c.self.inside.at c.args.name c.args.body c.part_at-name.result
 named_so c = record {
   room = subst (λ (g : Entries). c.args.name.len + c.args.name.behind ≤ length g.rest) (sym c.self.view_is) c.requires.name;
   order = c.requires.body;

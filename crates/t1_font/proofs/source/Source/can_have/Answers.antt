@@ -1,5 +1,5 @@
 use Rattle.std.proofs.Common.{ℕ, List, ap, ◌∙◌}
-use Rattle.t1_font.{specs.{declared.even_texts.ClearTexts.{ClearTexts}, FontBoxes.{clear_with, can_have}, BoxViews.{box_view}}, proofs.even_fonts.BoxLists.{some_so}}
+use Rattle.t1_font.{specs.{declared.normal_texts.ClearTexts.{ClearTexts}, FontBoxes.{clear_with, can_have}, BoxViews.{box_view}}, proofs.normal_fonts.BoxLists.{some_so}}
 use Rattle.t1_font.proofs.source.Source.can_have.Goals as goal
 
 -- the two texts that were made

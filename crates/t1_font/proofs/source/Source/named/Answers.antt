@@ -1,8 +1,8 @@
 use Rattle.std.{proofs.{Common.{◌≡◌, ℕ, List, sym, ap, subst, ◌∙◌}, lemmas.Bool.{cond-true, cond-false, and_parts}}, specs.Prelude.{nat_le}}
 use Rattle.t1_bytes.specs.Laws.{AreBytes}
-use Rattle.t1_font.specs.{declared.even_texts.ClearTexts.{ClearTexts}, FontValue.{FontValue, weight, weight_limit}, IsFont.{IsFont}, EvenTexts.{both_fit}, FontBoxes.{with_texts}}
+use Rattle.t1_font.specs.{declared.normal_texts.ClearTexts.{ClearTexts}, FontValue.{FontValue, weight, weight_limit}, IsFont.{IsFont}, NormalTexts.{both_fit}, FontBoxes.{with_texts}}
 use Rattle.t1_font.specs.FontNames.{clear_named, font_named, can_be_named}
-use Rattle.t1_font.proofs.{even_fonts.BoxFonts.{fitting_is_font}, even_fonts.BoxLists.{some_is, none_is}}
+use Rattle.t1_font.proofs.{normal_fonts.BoxFonts.{fitting_is_font}, normal_fonts.BoxLists.{some_is, none_is}}
 use Rattle.t1_font.proofs.source.Source.named.Goals as goal
 
 -- the two texts that were made
@@ -19,8 +19,8 @@ with_texts-requires c =
     let k = some_is both (can_be_named name f) c.in-Ok.texts c.in-Some.texts y c.in-Ok.ensures c.in-Some.is in
     let made : x ≡ y = k.1 in
     let tests = and_parts (both_fit y) (nat_le (weight (font_named name f)) weight_limit) k.0 in
-    let head : AreBytes x.0 = subst AreBytes c.as_slice.ensures.value c.are_bytes.ensures in
-    let tail : AreBytes x.1 = subst AreBytes c.as_slice-in-Some.ensures.value c.are_bytes-in-Some.ensures in
+    let head : AreBytes x.0 = subst AreBytes c.as_slice.ensures.value c.proof_are_bytes.ensures in
+    let tail : AreBytes x.1 = subst AreBytes c.as_slice-in-Some.ensures.value c.proof_are_bytes-in-Some.ensures in
     let font = fitting_is_font f y tests.0 tests.1 (subst (λ (v : List ℕ × List ℕ). AreBytes v.0) made head)
     (subst (λ (v : List ℕ × List ℕ). AreBytes v.1) made tail) c.self.invariant in
     subst IsFont (λ i. with_texts (is i) (sym made i)) font

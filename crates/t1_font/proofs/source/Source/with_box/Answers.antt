@@ -1,8 +1,8 @@
 use Rattle.std.proofs.{Common.{◌≡◌, ℕ, List, sym, ap, subst, ◌∙◌, refl}, lemmas.Bool.{cond-true, cond-false}}
 use Rattle.t1_bytes.specs.Laws.{AreBytes}
-use Rattle.t1_font.specs.{declared.even_texts.ClearTexts.{ClearTexts}, FontValue.{FontValue}, IsFont.{IsFont}, FontBoxes.{side_in, clear_of, clear_with, with_texts, font_with, can_have}}
+use Rattle.t1_font.specs.{declared.normal_texts.ClearTexts.{ClearTexts}, FontValue.{FontValue}, IsFont.{IsFont}, FontBoxes.{side_in, clear_of, clear_with, with_texts, font_with, can_have}}
 use Rattle.t1_font.specs.BoxViews.{box_view}
-use Rattle.t1_font.proofs.{even_fonts.BoxFonts.{had_is_font}, even_fonts.BoxLists.{some_is, none_is}}
+use Rattle.t1_font.proofs.{normal_fonts.BoxFonts.{had_is_font}, normal_fonts.BoxLists.{some_is, none_is}}
 use Rattle.t1_font.proofs.source.Source.with_box.Goals as goal
 
 -- the two texts that were made
@@ -17,8 +17,8 @@ with_texts-requires c =
     let x : List ℕ × List ℕ = both c.in-Some.texts in
     let k = some_is both (can_have u f) c.in-Ok.texts c.in-Some.texts (clear_with u f.shell) c.in-Ok.ensures c.in-Some.is in
     let made : x ≡ clear_with u f.shell = k.1 in
-    let head : AreBytes x.0 = subst AreBytes c.as_slice.ensures.value c.are_bytes.ensures in
-    let tail : AreBytes x.1 = subst AreBytes c.as_slice-in-Some.ensures.value c.are_bytes-in-Some.ensures in
+    let head : AreBytes x.0 = subst AreBytes c.as_slice.ensures.value c.proof_are_bytes.ensures in
+    let tail : AreBytes x.1 = subst AreBytes c.as_slice-in-Some.ensures.value c.proof_are_bytes-in-Some.ensures in
     let font = had_is_font u f (side_in (clear_of f.shell)) refl k.0 (subst (λ (v : List ℕ × List ℕ). AreBytes v.0) made head)
     (subst (λ (v : List ℕ × List ℕ). AreBytes v.1) made tail) c.self.invariant in
     subst IsFont (λ i. with_texts (is i) (sym made i)) font

@@ -1,6 +1,6 @@
 use Rattle.std.proofs.{Common.{◌≡◌, ℕ, Bool, true, false, ◌||◌, List, [], ◌∷◌, ◌++◌, map, Option, Some, None, is_some, refl, sym, ◌∙◌, ap, true≢false}, lemmas.List.{map-append}}
 use Rattle.std.specs.{Borrow.{Bor}, Global.{Vec}, Option.{option_copied}, Ordering.{eq_by_cmp, is_eq}, Cmp.{Equal-is, tied_itself}, Cmp.Lexicographic.{nat_list_cmp_total}}
-use Rattle.t1_font.specs.{FontValue.{Named, name_cmp, notdef}, Cut.{set_of_names}}
+use Rattle.t1_font.specs.{FontValue.{CharStrings, name_cmp, notdef}, Cut.{set_of_names}}
 use Rattle.t1_font.proofs.{canonical.FontAgain.{name_same}, tests.cuts.known.Goals.{then-is_some+in_ok-from_slice-2+in_ok-push-2, else-is_some}}
 use Rattle.std.specs.FinMap as fin
 use Rattle.std.specs.FinSet as sets
@@ -23,7 +23,7 @@ more vs v q =
     ∙ sets.contains-insert nat_list_cmp_total (set_of_names vs) v.items q)
 
 -- a list of names that a map has, and one more
-known_more : (m : Named) (vs : List (Vec ℕ)) (v : Vec ℕ) → ((n : List ℕ) → sets.contains (set_of_names vs) n ≡ true → fin.contains_key m n ≡ true) →
+known_more : (m : CharStrings) (vs : List (Vec ℕ)) (v : Vec ℕ) → ((n : List ℕ) → sets.contains (set_of_names vs) n ≡ true → fin.contains_key m n ≡ true) →
     fin.contains_key m v.items ≡ true
     → (n : List ℕ) → sets.contains (set_of_names (vs ++ v ∷ [])) n ≡ true → fin.contains_key m n ≡ true
 known_more m vs v all one n h = by_test (eq_by_cmp name_cmp n v.items) refl (sym (more vs v n) ∙ h)
@@ -32,7 +32,7 @@ known_more m vs v all one n h = by_test (eq_by_cmp name_cmp n v.items) refl (sym
     by_test true e t = ap (fin.contains_key m) (name_same n v.items ((Equal-is (name_cmp n v.items)).0 e)) ∙ one
     by_test false e t = all n t
 
-none_known : (m : Named) (n : List ℕ) → sets.contains (set_of_names []) n ≡ true → fin.contains_key m n ≡ true
+none_known : (m : CharStrings) (n : List ℕ) → sets.contains (set_of_names []) n ≡ true → fin.contains_key m n ≡ true
 none_known m n h = absurd (true≢false (sym h ∙ sets.contains-empty name_cmp n))
 
 notdef_first : (v : Vec ℕ) → v.items ≡ notdef → sets.contains (set_of_names ([] ++ v ∷ [])) notdef ≡ true

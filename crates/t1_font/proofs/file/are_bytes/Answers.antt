@@ -1,5 +1,0 @@
-use Rattle.t1_font.proofs.AnswersRight.{bytes_of_slice}
-use Rattle.t1_font.proofs.file.are_bytes.Goals as goal
-
-pub returns : goal.returns
-returns c = bytes_of_slice c.args.bytes.now c.type_inv.bytes

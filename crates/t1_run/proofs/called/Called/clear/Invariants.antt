@@ -1,9 +1,0 @@
-use Rattle.std.proofs.Common.{length}
-use Rattle.t1_run.specs.Called.{AreListed}
-use Rattle.t1_run.proofs.called.Called.clear.Given as goal
-
-abbrev pub invariant-order : goal.invariant-order
-invariant-order l = AreListed l.self-inside.places.items l.self-inside.order.items
-
-abbrev pub decreases-order : goal.decreases-order
-decreases-order l = length l.self-inside.order.items
