@@ -22,10 +22,13 @@ module _ (f : FontValue) (h : IsFont f) where
   makes (Subset a form) i k = subset_again a form i k
   makes (Merge s t) i k =
       let both = two_subsets profile f h (all_of (grouped_sets s)) (all_of (grouped_sets t))
-        (all_is_of f (grouped_sets s) i.0) (all_is_of f (grouped_sets t) i.1) in
+      (all_is_of f (grouped_sets s) i.0) (all_is_of f (grouped_sets t) i.1) in
       (subset profile f (all_of (grouped_sets s)), subset profile f (all_of (grouped_sets t)), makes s i.0 k.0, makes t i.1 k.1, (both.0, both.1))
-  makes (Again form s) i k = (subset profile f (all_of (grouped_sets s)), makes s i k.1,
-      subset_again (all_of (grouped_sets s)) form (all_is_of f (grouped_sets s) i) k.0)
+  makes (Again form s) i k = (
+    subset profile f (all_of (grouped_sets s)),
+    makes s i k.1,
+    subset_again (all_of (grouped_sets s)) form (all_is_of f (grouped_sets s) i) k.0,
+  )
 
   -- a making comes to no other font
   makes_one : (m : Making) → EachLeaf (IsOf f) (grouped_sets m) → FormsFit f m → (j : FontValue) → Makes f m j → j ≡ subset profile f (all_of (grouped_sets m))
@@ -39,7 +42,7 @@ module _ (f : FontValue) (h : IsFont f) where
       let on_the_way = makes_one s i k.1 d.0 d.1 in
       let same =
       sym d.2 ∙ ap (λ (p : FontValue). read_font (canon p form)) on_the_way
-        ∙ subset_again (all_of (grouped_sets s)) form (all_is_of f (grouped_sets s) i) k.0 in
+      ∙ subset_again (all_of (grouped_sets s)) form (all_is_of f (grouped_sets s) i) k.0 in
       cc
 
   -- a making from sets in any order comes to the subset over all of them
