@@ -3,9 +3,9 @@ use Rattle.std.proofs.Common.{◌≡◌, refl, sym, ap, subst, ◌∙◌, ℕ, �
 use Rattle.std.proofs.lemmas.List.{append_assoc, map_push, length-append, length-drop, length-take-le, take-append-le, drop-append-le, drop-drop, drop_at, take-append-drop}
 use Rattle.std.proofs.{lemmas.Slice.{drop-append-drop}, lemmas.List.Elements.{All-nil, All-cons, All-head, All-tail, All-append}}
 use Rattle.std.specs.{declared.cmp.Ordering.{Ordering}, Cmp.{IsTotalOrder}, FinMap.{IsAntisymmetric}}
-use Rattle.t1_bytes.{specs.Cipher.{decrypted}, proofs.Ciphers.{length-decrypted}}
+use Rattle.t1_bytes.{specs.Cipher.{decrypted, plain_of}, proofs.Ciphers.{length-decrypted}}
 use Rattle.t1_join.specs.Entries.{entries_by}
-use Rattle.t1_font.specs.{declared.ranges.Range.{Range}, declared.places.Place.{Place}, Places.{ending, bytes_at_place}, Charstrings.{plain_of}, Entries.{map_of}}
+use Rattle.t1_font.specs.{declared.ranges.Range.{Range}, declared.places.Place.{Place}, Places.{ending, bytes_at_place}, Entries.{map_of}}
 use Rattle.t1_font.specs.Ranges.{bytes_at, IsInside, AllInside, NamesInside, named_at}
 use Rattle.t1_font.proofs.MapLaws.{map_of-append}
 use Rattle.std.specs.FinMap as fin

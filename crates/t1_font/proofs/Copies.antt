@@ -2,13 +2,13 @@
 use Rattle.std.proofs.{Common.{◌≡◌, ℕ, zero, suc, ◌+◌, ◌-◌, ◌<◌, List, [], ◌∷◌, ◌++◌, length, refl, sym, ap, ◌∙◌, append_assoc, arith}, lemmas.List.{append-nil}}
 use Rattle.std.specs.{Prelude.{map, unwrap_or}, Ordering.{nat_cmp}, Cmp.{nat_cmp_total}, FinSet.{nat_cmp-IsAntisymmetric}, FinMap.{insert}}
 use Rattle.t1_font.specs.{FontValue.{SparseArray, notdef}, Encoding.{CodeEntry, Put, Copy, name_after, copied, put_by, puts_after, puts_of}, Entries.{map_of}}
-use Rattle.t1_font.specs.Gathering.{name_in, copied_names, named_from, kept_by}
+use Rattle.t1_font.specs.Gathering.{gathered_name, copied_names, named_from, kept_by}
 use Rattle.t1_font.proofs.{MapLaws.{get-map_of}, HeldLemmas.{one_code_more}}
 
 -- ---- names in turn
 
 -- one more name of so many
-pub names_turn : (codes : SparseArray) (from n i : ℕ) (done : List (List ℕ)) (name : List ℕ) (all : List (List ℕ)) → i < n → name ≡ name_in codes (from + i) →
+pub names_turn : (codes : SparseArray) (from n i : ℕ) (done : List (List ℕ)) (name : List ℕ) (all : List (List ℕ)) → i < n → name ≡ gathered_name codes (from + i) →
     done ++ copied_names codes (from + i) (n - i) ≡ all → (done ++ name ∷ []) ++ copied_names codes (from + (i + 1)) (n - (i + 1)) ≡ all
 names_turn codes from n i done name all below is so_far =
     let more : n - i ≡ suc (n - (i + 1)) = omega (arith, below) in
@@ -41,10 +41,10 @@ copies_kept : (n from to : ℕ) (old now : SparseArray) (before puts : List (ℕ
 copies_kept zero from to old now before puts o h = h ∙ ap (map_of {R = nat_cmp}) (sym (append-nil puts))
 copies_kept (suc n) from to old now before puts o h =
     let put : ℕ × List ℕ = (to, name_after before from) in
-    let name : name_in old from ≡ name_after before from =
-    ap (λ m. name_in m from) o ∙ ap (λ x. unwrap_or x notdef) (get-map_of nat_cmp_total nat_cmp-IsAntisymmetric before from) in
-    let one : insert now to (name_in old from) ≡ map_of (puts ++ put ∷ []) = one_code_more puts put now _ (ap (insert now to) name) h in
-    copies_kept n (suc from) (suc to) old (insert now to (name_in old from)) before (puts ++ put ∷ []) o one
+    let name : gathered_name old from ≡ name_after before from =
+    ap (λ m. gathered_name m from) o ∙ ap (λ x. unwrap_or x notdef) (get-map_of nat_cmp_total nat_cmp-IsAntisymmetric before from) in
+    let one : insert now to (gathered_name old from) ≡ map_of (puts ++ put ∷ []) = one_code_more puts put now _ (ap (insert now to) name) h in
+    copies_kept n (suc from) (suc to) old (insert now to (gathered_name old from)) before (puts ++ put ∷ []) o one
     ∙ ap (map_of {R = nat_cmp}) (append_assoc puts (put ∷ []) (copied before (suc from) n (suc to)))
 
 -- what one entry puts is held with what is held before

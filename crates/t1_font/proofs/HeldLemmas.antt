@@ -2,9 +2,10 @@
 use Rattle.std.proofs.{Common.{◌≡◌, Ordering, ℕ, ◌||◌, Bool, true, false, List, [], ◌∷◌, ◌++◌, Some, refl, sym, ap, ◌∙◌}, lemmas.List.{map_push}}
 use Rattle.std.specs.{Prelude.{unwrap_or, filter}, Str.{bytes_eq}, Ordering.{nat_cmp}, Cmp.{IsTotalOrder, nat_cmp_total}, Cmp.Lexicographic.{nat_list_cmp_total}}
 use Rattle.std.specs.{FinSet.{IsAntisymmetric, slice_cmp-IsAntisymmetric, nat_cmp-IsAntisymmetric}, FinMap.{FinMap, insert, empty, from_sorted}}
-use Rattle.t1_font.specs.{FontValue.{SparseArray, CharStrings, name_cmp, notdef}, Charstrings.{plain_of}}
+use Rattle.t1_bytes.specs.Cipher.{plain_of}
+use Rattle.t1_font.specs.FontValue.{SparseArray, CharStrings, name_cmp, notdef}
 use Rattle.t1_font.specs.{Entries.{map_of, names_of, has_name}, Entry.{Entry, plain_entries}, Subrs.{Subr}, Glyphs.{Glyph}}
-use Rattle.t1_font.specs.{Held.{first_words, HoldsSubrs, HoldsGlyphs, names_notdef}, Gathering.{named}}
+use Rattle.t1_font.specs.{Held.{first_words, HoldsSubrs, HoldsGlyphs, names_notdef}, Gathering.{without_notdef}}
 use Rattle.t1_font.proofs.MapLaws.{map_of-append, map_of-nil, entries-map_of}
 
 -- no Subrs are held at first
@@ -21,9 +22,9 @@ pub one_code_more : (es : List (ℕ × List ℕ)) (e : ℕ × List ℕ) (codes n
 one_code_more es e codes next put same = put ∙ (ap (λ m. insert m e.0 e.1) same ∙ sym (map_of-append nat_cmp_total nat_cmp-IsAntisymmetric es e))
 
 -- the names among the last puts
-pub names_put : (es : List (ℕ × List ℕ)) (codes : SparseArray) → codes ≡ map_of es → named codes ≡ names_of es
+pub names_put : (es : List (ℕ × List ℕ)) (codes : SparseArray) → codes ≡ map_of es → without_notdef codes ≡ names_of es
 names_put es codes same =
-    ap named same ∙ ap (λ last. from_sorted {R = nat_cmp} (filter has_name last)) (entries-map_of nat_cmp_total nat_cmp-IsAntisymmetric es)
+    ap without_notdef same ∙ ap (λ last. from_sorted {R = nat_cmp} (filter has_name last)) (entries-map_of nat_cmp_total nat_cmp-IsAntisymmetric es)
 
 -- the words of the first entry stay
 pub first_more : {K : Type 0} (es : List (Entry K)) (e : Entry K) → first_words (es ++ e ∷ []) ≡ Some (unwrap_or (first_words es) (e.body.rd, e.body.phrase))

@@ -6,8 +6,8 @@ use Rattle.t1_bytes.specs.{Cipher.{decrypted, private_text}, Limits.{file_limit}
 use Rattle.t1_font.specs.{declared.dialect.Spacing.{Spacing}, declared.dialect.Dialect.{Dialect}, declared.fault.ReadFault.{ReadFault}, Glyphs.{Glyph, glyph, glyphs_end}}
 use Rattle.t1_font.specs.{Encoding.{Opening, Whole, OpensPuts, OpensNames, encoding_start}, Markers.{subrs_marker, closefile, len_iv_marker}}
 use Rattle.t1_font.specs.Pieces.{FlatPieces, EncodingText, OneWord, Puts, ClearPieces, SubrsPieces, PrivatePieces, flat_pieces, encoding_from, clear_pieces, iv_at, iv_of, through, tail_after}
-use Rattle.t1_font.specs.{Pieces.{glyphs_from, before_place, tables_from, private_pieces}, FontValue.{FontValue, notdef, IsWithin}, ReadFont.{font_of, flat_text, font_from, font_texts, font_file}}
-use Rattle.t1_font.specs.Spelling.{SpellsEncoding, IsClear, IsLenIV, said, unsaid, nowhere, later, Start, SpellsTables, HasGlyphs, IsPrivate, Texts, HasPieces, SpellsIn}
+use Rattle.t1_font.specs.{Pieces.{glyphs_from, before_place, tables_from, private_pieces}, FontValue.{FontValue, notdef, FitsLimits}, ReadFont.{font_of, flat_reading, font_from, font_texts, font_file}}
+use Rattle.t1_font.specs.Spelling.{SpellsEncoding, IsClear, IsLenIV, said, unsaid, nowhere, later, Start, SpellsTables, HasGlyphs, IsPrivate, HasTexts, HasPieces, SpellsIn}
 use Rattle.t1_font.proofs.{FileParts.{split_lead}, ValueLaws.{notdef_is, within_of, within_again, private_enciphers, private_again, lead_length}}
 use Rattle.std.specs.FinMap as maps
 
@@ -193,7 +193,7 @@ is_private d text p s = by_subrs p.subrs refl b.tables.tables
 record IsFontOf (c : ClearPieces) (p : PrivatePieces) (f : FontValue) : Type 0 where
   pub value : f ≡ font_of c p
   pub has_notdef : maps.contains_key f.glyphs notdef ≡ true
-  pub within : IsWithin f
+  pub within : FitsLimits f
 
 font_is : (c : ClearPieces) (p : PrivatePieces) (f : FontValue) → (font_from c p).Spells f → IsFontOf c p f
 unfolding font_from
@@ -204,14 +204,14 @@ unfolding font_from
 is_font c p f s =
     let there : maps.contains_key (font_of c p).glyphs notdef ≡ true =
     subst (λ (g : FontValue). maps.contains_key g.glyphs notdef ≡ true) s.value s.has_notdef in
-    (tt, sym (notdef_is c p) ∙ there, (tt, within_again c p (subst IsWithin s.value s.within), sym s.value))
+    (tt, sym (notdef_is c p) ∙ there, (tt, within_again c p (subst FitsLimits s.value s.within), sym s.value))
 
 -- ---- the file
 
 texts_are : (file flat : List ℕ) (parts : FlatPieces) → length file ≤ file_limit → IsFlat file flat → (flat_pieces flat).Spells parts →
-    Texts file parts.clear (private_text parts.cipher)
+    HasTexts file parts.clear (private_text parts.cipher)
 unfolding flat_pieces
-texts_are file flat parts short flat_is s = subst (λ (q : FlatPieces). Texts file q.clear (private_text q.cipher)) s.2 (record {
+texts_are file flat parts short flat_is s = subst (λ (q : FlatPieces). HasTexts file q.clear (private_text q.cipher)) s.2 (record {
   flat = flat;
   at = s.0.0;
   cipher = s.0.1;
@@ -226,7 +226,7 @@ texts_are file flat parts short flat_is s = subst (λ (q : FlatPieces). Texts fi
 
 -- what the reading spells is spelled by the file
 pub file_spells : (d : Dialect) (file : List ℕ) (font : FontValue) → (font_file d file).Spells font → SpellsIn d file font
-unfolding font_file flat_text
+unfolding font_file flat_reading
 file_spells d file font s =
     let parts = s.2.2.0 in
     let texts = texts_are file s.2.0 parts (leb-true (length file) file_limit s.1) s.2.1 s.2.2.1 in
@@ -240,7 +240,7 @@ file_spells d file font s =
 
 -- and the other way round
 pub spells_file : (d : Dialect) (file : List ℕ) (font : FontValue) → SpellsIn d file font → (font_file d file).Spells font
-unfolding font_file flat_text flat_pieces
+unfolding font_file flat_reading flat_pieces
 spells_file d file font s =
     let h = s.pieces in
     let t = h.texts in

@@ -3,10 +3,10 @@ use Rattle.std.proofs.Common.{◌≡◌, ℕ, ◌≤◌, Bool, true, false, cond
 use Rattle.std.proofs.{lemmas.Map.Text.{is_eq-slice_cmp}, lemmas.Bool.{leb-true, le-leb, and_parts, and_from}, lemmas.List.{take-append-drop, drop_at, length-take-le}}
 use Rattle.std.specs.{Prelude.{is_some}, List.{list_any}, Str.{bytes_eq}, FinSet.{IsAntisymmetric, slice_cmp-IsAntisymmetric, nat_cmp-IsAntisymmetric}, Ordering.{nat_cmp, is_eq}, Cmp.{nat_cmp_total}}
 use Rattle.std.specs.Cmp.Lexicographic.{nat_list_cmp_total}
-use Rattle.t1_bytes.{specs.Cipher.{Enciphers, decrypted, private_text}, proofs.Ciphers.{Enciphers-decrypted, decrypted-is, length-decrypted}}
+use Rattle.t1_bytes.{specs.Cipher.{Enciphers, decrypted, private_text, plain_of}, proofs.Ciphers.{Enciphers-decrypted, decrypted-is, length-decrypted}}
 use Rattle.t1_grammar.specs.Grammar.{choice}
-use Rattle.t1_font.specs.{Charstrings.{plain_of}, Entry.{plain_entries}, Glyphs.{Glyph}, Pieces.{ClearPieces, PrivatePieces}}
-use Rattle.t1_font.specs.{FontValue.{name_cmp, notdef, weight_of, IsWithin, declared_count, count_limit, weight_limit}, Entries.{last_entries, last_value}}
+use Rattle.t1_font.specs.{Entry.{plain_entries}, Glyphs.{Glyph}, Pieces.{ClearPieces, PrivatePieces}}
+use Rattle.t1_font.specs.{FontValue.{name_cmp, notdef, weight_of, FitsLimits, declared_count, count_limit, weight_limit}, Entries.{last_entries, last_value}}
 use Rattle.t1_font.specs.ReadFont.{subr_entries, glyph_entries, shell_of, font_of, has_notdef, is_within}
 use Rattle.t1_font.proofs.MapLaws.{get-map_of, entries-map_of, len-map_of}
 use Rattle.std.specs.FinMap as maps
@@ -32,7 +32,7 @@ notdef_is c p = ap is_some (get-map_of nat_list_cmp_total name_same (glyph_entri
 
 -- entries that are tested to be within the limits make a font within them
 pub within_of : (c : ClearPieces) (p : PrivatePieces) →
-    is_within (shell_of c p) (last_entries nat_cmp (subr_entries p)) (last_entries name_cmp (glyph_entries p)) ≡ true → IsWithin (font_of c p)
+    is_within (shell_of c p) (last_entries nat_cmp (subr_entries p)) (last_entries name_cmp (glyph_entries p)) ≡ true → FitsLimits (font_of c p)
 within_of c p h =
     let s = last_entries nat_cmp (subr_entries p) in
     let g = last_entries name_cmp (glyph_entries p) in
@@ -47,7 +47,7 @@ within_of c p h =
     }
 
 -- the entries of a font within the limits pass the test
-pub within_again : (c : ClearPieces) (p : PrivatePieces) → IsWithin (font_of c p) →
+pub within_again : (c : ClearPieces) (p : PrivatePieces) → FitsLimits (font_of c p) →
     is_within (shell_of c p) (last_entries nat_cmp (subr_entries p)) (last_entries name_cmp (glyph_entries p)) ≡ true
 within_again c p h =
     let s = last_entries nat_cmp (subr_entries p) in

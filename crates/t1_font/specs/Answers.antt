@@ -3,7 +3,7 @@ use Rattle.std.specs.{Prelude.{◌≡◌, ℕ, List, Option, Some, None, Result,
 use Rattle.t1_font.specs.{declared.fault.ReadFault.{ReadFault}, declared.fault.ReadFault.TheVariants.{Memory}, declared.encoding.EncodingParts.{EncodingParts}}
 use Rattle.t1_font.specs.{declared.encoding.ClearParts.{ClearParts}, declared.subrs.SubrsParts.{SubrsParts}, declared.glyphs.GlyphsParts.{GlyphsParts}, declared.private.Before.{Before}}
 use Rattle.t1_font.specs.{declared.private.PrivateParts.{PrivateParts}, FontValue.{SparseArray, Encoding, Word, Codes}, Pieces.{ClearPieces, SubrsPieces, PrivatePieces}, Glyphs.{Glyph}}
-use Rattle.t1_font.specs.{ReadFont.{encoding_value, subrs_of}, Views.{words_view}, Gathering.{Entries, named}, Held.{first_words, names_notdef, HoldsSubrs, HoldsGlyphs}}
+use Rattle.t1_font.specs.{ReadFont.{encoding_value, subrs_of}, Views.{words_view}, Gathering.{Entries, without_notdef}, Held.{first_words, names_notdef, HoldsSubrs, HoldsGlyphs}}
 use Rattle.t1_font.specs.declared.encoding.EncodingParts.TheVariants as parts
 
 -- want of memory may come in place of each answer
@@ -24,7 +24,7 @@ Answers view (Err e) r = Refused e r
 -- the Encoding of what was read, with what is gathered of codes
 abbrev pub encoding_view : EncodingParts → SparseArray → Encoding
 encoding_view (parts.OneWord w) codes = Word w.now
-encoding_view parts.Puts codes = Codes (named codes)
+encoding_view parts.Puts codes = Codes (without_notdef codes)
 
 pub record ShowsClear (x : ClearParts) (codes : SparseArray) (c : ClearPieces) : Type 0 where
   pub head : x.head.now ≡ c.head

@@ -94,11 +94,11 @@ abbrev pub code_count : ℕ
 code_count = 256
 
 -- in decimal or in octal digits
-abbrev pub number : Grammar ℕ
-number = either decimal octal
+abbrev pub decimal_or_octal : Grammar ℕ
+decimal_or_octal = either decimal octal
 
 unfoldable pub code : Grammar ℕ
-code = that (λ n. nat_le n 255) number
+code = that (λ n. nat_le n 255) decimal_or_octal
 
 -- an entry of the table: a name at a code; or the names of so many codes, from one on, at the codes from another one on
 pub data CodeEntry : Type 0 where
@@ -155,9 +155,9 @@ within_codes (Copy from count to) = are_codes from count && are_codes to count
 unfoldable pub copied_range : Spacing → Grammar (ℕ × ℕ)
 copied_range d = do
   copy_start d
-  from ← number
+  from ← decimal_or_octal
   gap_in d
-  count ← number
+  count ← decimal_or_octal
   gap_in d
   keyword (codes "getinterval")
   pure (from, count)
@@ -167,7 +167,7 @@ unfoldable pub copy_of_range : Spacing → Grammar CodeEntry
 copy_of_range d = do
   range ← copied_range d
   gap_in d
-  to ← number
+  to ← decimal_or_octal
   gap_in d
   keyword (codes "exch")
   gap_in d

@@ -1,8 +1,8 @@
 -- An entry of the table of subroutines or of glyphs: a key, and behind it an encrypted charstring between its words.
 use Rattle.std.specs.Prelude.{ℕ, ◌&&◌, nat_le, true, List, map}
 use Rattle.t1_grammar.specs.Grammar.{Grammar, pure, ◌>>=◌, ◌>>◌, that, count}
-use Rattle.t1_bytes.specs.White.{white, gap}
-use Rattle.t1_font.specs.{Words.{one_white, word, decimal, phrase_of, passes}, Charstrings.{plain_of}}
+use Rattle.t1_bytes.specs.{Cipher.{plain_of}, White.{white, gap}}
+use Rattle.t1_font.specs.Words.{one_white, word, decimal, phrase_of, passes}
 
 -- what stands behind a key: the word before the encrypted bytes, these, and the phrase after them
 pub record Body : Type 0 where

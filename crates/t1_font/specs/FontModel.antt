@@ -32,10 +32,10 @@ encoding_of (lent.Codes names) = Codes names
 
 -- ---- codes: a font as lists and numbers
 
-abbrev pub Texts : Type 0
-Texts = List ℕ × (List ℕ × (List ℕ × (List ℕ × List ℕ)))
+abbrev pub ShellTexts : Type 0
+ShellTexts = List ℕ × (List ℕ × (List ℕ × (List ℕ × List ℕ)))
 
-abbrev pub texts_code : Coded Texts
+abbrev pub texts_code : Coded ShellTexts
 texts_code = coded× bytes_code (coded× bytes_code (coded× bytes_code (coded× bytes_code bytes_code)))
 
 abbrev pub subrs_shell_code : Coded SubrsShell
@@ -43,7 +43,7 @@ subrs_shell_code = code_by (ℕ × (List ℕ × (List ℕ × List ℕ))) (coded�
     (λ s. (s.declared, (s.rd, (s.put, s.closing)))) (λ p. record { declared = p.0; rd = p.1.0; put = p.1.1.0; closing = p.1.1.1 }) (λ s. refl)
 
 abbrev pub shell_code : Coded Shell
-shell_code = code_by (Texts × (ℕ × (Option SubrsShell × (List ℕ × List ℕ))))
+shell_code = code_by (ShellTexts × (ℕ × (Option SubrsShell × (List ℕ × List ℕ))))
     (coded× texts_code (coded× coded_ℕ (coded× (coded_option subrs_shell_code) (coded× bytes_code bytes_code))))
     (λ s. ((s.head, (s.clear_tail, (s.private, (s.middle, s.tail)))), (s.len_iv, (s.subrs, (s.glyphs_rd, s.glyphs_def)))))
     (λ p. record {

@@ -95,7 +95,7 @@ declared_count None = 0
 declared_count (Some s) = s.declared
 
 -- the limits of a font
-pub record IsWithin (f : FontValue) : Type 0 where
+pub record FitsLimits (f : FontValue) : Type 0 where
   pub declared : declared_count f.shell.subrs ≤ count_limit
   pub glyphs : len f.glyphs ≤ count_limit
   pub weight : weight f ≤ weight_limit

@@ -46,19 +46,19 @@ pub record IsGathered (g : Inside) : Type 0 where
   pub glyphs : AllInside g.at g.glyphs.items
 
 -- the names of codes, but for `.notdef`
-abbrev pub named : SparseArray → SparseArray
-named m = from_sorted (filter has_name (entries m))
+abbrev pub without_notdef : SparseArray → SparseArray
+without_notdef m = from_sorted (filter has_name (entries m))
 
 -- ---- what an entry of an Encoding puts
 
 -- the name of a code among those that are gathered
-abbrev pub name_in : SparseArray → ℕ → List ℕ
-name_in codes c = unwrap_or (get codes c) notdef
+abbrev pub gathered_name : SparseArray → ℕ → List ℕ
+gathered_name codes c = unwrap_or (get codes c) notdef
 
 -- the names of so many codes from one on
 abbrev pub copied_names : SparseArray → ℕ → ℕ → List (List ℕ)
 copied_names codes from zero = []
-copied_names codes from (suc n) = name_in codes from ∷ copied_names codes (suc from) n
+copied_names codes from (suc n) = gathered_name codes from ∷ copied_names codes (suc from) n
 
 -- names put at the codes from one on
 abbrev pub named_from : SparseArray → ℕ → List (List ℕ) → SparseArray

@@ -8,7 +8,6 @@ pub mod Views
 pub mod Faults
 pub mod FaultTexts
 pub mod Markers
-pub mod Charstrings
 pub mod Reading
 pub mod EntryLaws
 pub mod Pieces

@@ -59,13 +59,13 @@ font_of c p = record { shell = shell_of c p; encoding = encoding_value c.encodin
 -- ---- reading
 
 -- the flat text of a file, or the place of its bad segment
-unfoldable pub flat_text : List ℕ → Reading (List ℕ)
-flat_text file = faulted BadSegment (files.flat_text file)
+unfoldable pub flat_reading : List ℕ → Reading (List ℕ)
+flat_reading file = faulted BadSegment (files.flat_text file)
 
 -- the clear text of a file, and its cipher
 abbrev pub file_pieces : List ℕ → Reading FlatPieces
 file_pieces file = do
-  flat ← flat_text file
+  flat ← flat_reading file
   flat_pieces flat
 
 abbrev pub has_notdef : PrivatePieces → Bool
@@ -93,7 +93,7 @@ font_texts d clear private = do
 unfoldable pub font_file : Dialect → List ℕ → Reading FontValue
 font_file d file = do
   must TooLong (nat_le (length file) file_limit)
-  flat ← flat_text file
+  flat ← flat_reading file
   parts ← flat_pieces flat
   font_texts d parts.clear (private_text parts.cipher)
 

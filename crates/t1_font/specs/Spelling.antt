@@ -5,7 +5,7 @@ use Rattle.t1_grammar.specs.{Grammar.{first, AtFront, Lacks}, Tables.{TableAt, C
 use Rattle.t1_font.specs.{declared.dialect.Spacing.{Spacing}, declared.dialect.Dialect.{Dialect}, Dialect.{strict, wide}, Subrs.{subr, subrs_end}}
 use Rattle.t1_font.specs.{Markers.{encoding_marker, subrs_marker, chars_marker, len_iv_marker, len_iv, closefile}, Words.{next_name}}
 use Rattle.t1_font.specs.{Encoding.{Whole, OpensPuts, OpensNames, encoding_start, CodeEntry, code_entry, encoding_end, puts_of, code_count, array_end, from_code}, Glyphs.{glyph, glyphs_end}}
-use Rattle.t1_font.specs.{Pieces.{EncodingText, OneWord, Puts, ClearPieces, SubrsPieces, PrivatePieces}, FontValue.{FontValue, notdef, IsWithin}, ReadFont.{font_of}}
+use Rattle.t1_font.specs.{Pieces.{EncodingText, OneWord, Puts, ClearPieces, SubrsPieces, PrivatePieces}, FontValue.{FontValue, notdef, FitsLimits}, ReadFont.{font_of}}
 use Rattle.std.specs.FinMap as maps
 
 -- a table: the puts are those of its entries
@@ -74,7 +74,7 @@ pub record IsPrivate (d : Spacing) (text : List ℕ) (p : PrivatePieces) : Type 
   pub single : Lacks subrs_marker p.middle × Lacks subrs_marker p.tail
 
 -- the clear text of a file, through its first `currentfile eexec`, and the private text, whose cipher follows
-pub record Texts (file clear text : List ℕ) : Type 0 where
+pub record HasTexts (file clear text : List ℕ) : Type 0 where
   pub flat : List ℕ
   pub at : ℕ
   pub cipher : List ℕ
@@ -90,7 +90,7 @@ pub record Texts (file clear text : List ℕ) : Type 0 where
 pub record HasPieces (d : Dialect) (file : List ℕ) (outside : ClearPieces) (inside : PrivatePieces) : Type 0 where
   pub clear : List ℕ
   pub text : List ℕ
-  pub texts : Texts file clear text
+  pub texts : HasTexts file clear text
   pub clear_is : IsClear d clear outside
   pub private_is : IsPrivate d.subrs text inside
 
@@ -101,7 +101,7 @@ pub record SpellsIn (d : Dialect) (file : List ℕ) (font : FontValue) : Type 0 
   pub pieces : HasPieces d file outside inside
   pub value : font ≡ font_of outside inside
   pub has_notdef : maps.contains_key font.glyphs notdef ≡ true
-  pub within : IsWithin font
+  pub within : FitsLimits font
 
 -- the font that a file spells
 abbrev pub Spells : List ℕ → FontValue → Type 0

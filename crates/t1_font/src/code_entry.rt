@@ -1,7 +1,7 @@
 //! The entries of an Encoding's table.
 
 ghost use Rattle.std.specs.{Prelude.{◌≡◌, ◌+◌, ◌≤◌, true, map, OnOk, IfOk, IfSome, Some, None, length, if◌then◌else◌}, Option.{option_map}};
-ghost use Rattle.t1_font.specs.Encoding.{is_octal, octal_after, octal, number, code, put_entry, copy_start, one_copy, copied_range, copy_of_range, are_codes};
+ghost use Rattle.t1_font.specs.Encoding.{is_octal, octal_after, octal, decimal_or_octal, code, put_entry, copy_start, one_copy, copied_range, copy_of_range, are_codes};
 ghost use Rattle.t1_font.specs.{Encoding.{range_copy, code_entry, within_codes, Copy}, Gathering.{CodesAlone, copied_names, named_from, kept_by}};
 ghost use Rattle.t1_font.specs.Views.{code_entry_view};
 
@@ -41,7 +41,7 @@ fn octal_at(bytes: &[u8]) -> Option<(u32, &[u8])>
 
 /// A number, in decimal or in octal digits.
 fn number_at(bytes: &[u8]) -> Option<(u32, &[u8])>
-    ensures { option_map (λ x. (x.0, x.1.now)) result ≡ number.read bytes.now }
+    ensures { option_map (λ x. (x.0, x.1.now)) result ≡ decimal_or_octal.read bytes.now }
 {
     match decimal_at(bytes) {
         Some(found) => Some(found),

@@ -4,7 +4,7 @@ ghost use Rattle.std.specs.{Prelude.{◌≡◌, ◌≤◌, ◌+◌, length, take
 ghost use Rattle.t1_bytes.specs.{Cipher.{decrypted}, Split.{cipher_in, last_bytes}, Limits.{file_limit}, Laws.{AreBytes}};
 ghost use Rattle.t1_join.specs.TableMeaning.{Rises};
 ghost use Rattle.t1_font.specs.{FontValue.{count_limit}, Gathering.{gathered_codes}, Pieces.{ClearPieces, PrivatePieces, flat_pieces}};
-ghost use Rattle.t1_font.specs.ReadFont.{font_of, flat_text, file_pieces, font_from, font_texts, font_file, read_font, read_font_widely};
+ghost use Rattle.t1_font.specs.ReadFont.{font_of, flat_reading, file_pieces, font_from, font_texts, font_file, read_font, read_font_widely};
 ghost use Rattle.t1_font.specs.{Answers.{Answers, Shown, ShowsClear, ShowsPrivate, encoding_view, declared_in}, Sources.{kept_encoding, codes_of}};
 ghost use Rattle.t1_font.specs.{Spelling.{SpellsIn, Spells, SpellsWidely}, Reasons.{RefusesIn, Refuses, RefusesWidely}};
 
@@ -23,9 +23,9 @@ use std::alloc::{AllocError, Global};
 use t1_bytes::{Cipher, EEXEC_KEY, EEXEC_LEAD, FILE_LIMIT, decrypt, find_cipher, flatten_vec};
 
 /// The flat text of a file, in the file's own vector.
-#[tactic(auto, unfolding(crate::specs::ReadFont::flat_text))]
+#[tactic(auto, unfolding(crate::specs::ReadFont::flat_reading))]
 fn flat_text(file: Vec<u8>) -> Result<Vec<u8>, ReadFault>
-    ensures value { Answers (λ v. v.items) result (flat_text file.items).read }
+    ensures value { Answers (λ v. v.items) result (flat_reading file.items).read }
     ensures no_longer { IfOk result (λ v. length v.items ≤ length file.items) }
 {
     match flatten_vec(file) {

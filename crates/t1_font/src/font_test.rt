@@ -10,10 +10,9 @@ ghost use Rattle.t1_bytes.specs.Eexec.{blank_comes};
 ghost use Rattle.t1_font.specs.Words.{is_regular, keyword};
 ghost use Rattle.t1_font.specs.FontTest.{is_brace, get_number, is_same, then_save, token, test_tokens, literal, known_name, known_number, font_test};
 ghost use Rattle.t1_font.specs.FontTest.{found_test, place_and_around, eexec_there, test_begins, eexec_begins, has_marker, is_untested, untested, taken_test};
-ghost use Rattle.t1_font.specs.FontTest.{untested_shell, untested_font};
+ghost use Rattle.t1_font.specs.{FontTest.{untested_font}, FontBoxes.{with_texts}, IsFont.{IsFont}};
 
 use crate::markers::{EncodingMarker, Marker, first};
-use crate::shell::Shell;
 use crate::source::{Source, SourceParts};
 use crate::words::{decimal_at, is_regular, next_name_at, regular_at, regular_comes};
 use std::alloc::{AllocError, Global};
@@ -286,11 +285,12 @@ fn joined_head(alloc: Global, before: &[u8], behind: &[u8]) -> Result<Option<Vec
     whole_head(text)
 }
 
-/// A head without its test, if it loses one.
-fn untested(alloc: Global, head: &[u8]) -> Result<Option<Vec<u8>>, AllocError>
-    ensures { IfOk result (λ o. MatchOption o (untested head.now ≡ head.now) (λ v. v.items ≡ untested head.now)) }
+/// The head without its test, if it loses one.
+fn untested(alloc: Global, parts: &SourceParts) -> Result<Option<Vec<u8>>, AllocError>
+    ensures { IfOk result (λ o. MatchOption o (untested parts.now.shell.head
+        ≡ parts.now.shell.head) (λ v. v.items ≡ untested parts.now.shell.head)) }
 {
-    match found_test(head) {
+    match found_test(parts.shell.head.as_slice()) {
         Some((before, behind)) => joined_head(alloc, before, behind),
         None => Ok(None),
     }
@@ -309,19 +309,6 @@ pub(crate) fn taken_test(alloc: Global, head: &[u8]) -> Result<Option<usize>, Al
     }
 }
 
-/// A shell whose head loses its test, if it loses one.
-fn untested_shell(shell: Shell, head: Option<Vec<u8>>) -> Shell
-    requires { MatchOption head (untested shell.head
-        ≡ shell.head) (λ v. v.items ≡ untested shell.head) }
-    ensures { result ≡ untested_shell shell }
-{
-    let mut shell = shell;
-    if let Some(head) = head {
-        shell.head = head;
-    }
-    shell
-}
-
 impl Source {
     /// The font without the test in its head whether it was loaded before. What the test answers is for a `restore` behind
     /// the font's `cleartomark`, which isn't kept, so where a font keeps its test an operand is left on PostScript's stack.
@@ -336,31 +323,26 @@ impl Source {
     pub fn untested(self, alloc: Global) -> Result<Source, AllocError>
         ensures { IfOk result (λ f. f ≡ untested_font self) }
     {
-        let head = match untested(alloc, self.parts.shell.head.as_slice()) {
+        let head = match untested(alloc, &self.parts) {
             Ok(head) => head,
             Err(fault) => {
                 drop(self);
                 return Err(fault);
             }
         };
-        let SourceParts {
-            shell,
-            encoding,
-            buffer,
-            subrs,
-            likely,
-            glyphs,
-        } = self.parts;
-        let shell = untested_shell(shell, head);
-        Ok(Source {
-            parts: SourceParts {
-                shell,
-                encoding,
-                buffer,
-                subrs,
-                likely,
-                glyphs,
-            },
-        })
+        match head {
+            Some(head) => Ok(self.with_head(head)),
+            None => Ok(self),
+        }
+    }
+
+    /// The font with this head.
+    fn with_head(self, head: Vec<u8>) -> Source
+        requires { IsFont (with_texts self (head.items, self.shell.clear_tail)) }
+        ensures { result ≡ with_texts self (head.items, self.shell.clear_tail) }
+    {
+        let mut parts = self.parts;
+        parts.shell.head = head;
+        Source { parts }
     }
 }

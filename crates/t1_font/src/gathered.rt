@@ -1,8 +1,8 @@
 //! What is gathered of a font while it is read.
 
 ghost use Rattle.std.specs.{Prelude.{◌≡◌, ◌≤◌, ◌+◌, ◌-◌, ◌++◌, length, take, drop, unwrap_or, OnOk}, Ordering.{nat_cmp}};
-ghost use Rattle.t1_bytes.specs.{Cipher.{decrypted}, Limits.{file_limit}};
-ghost use Rattle.t1_font.specs.{Charstrings.{plain_of}, Entries.{last_value}, FontValue.{notdef}, Gathering.{name_in}, Places.{ending, bytes_at_place}};
+ghost use Rattle.t1_bytes.specs.{Cipher.{decrypted, plain_of}, Limits.{file_limit}};
+ghost use Rattle.t1_font.specs.{Entries.{last_value}, FontValue.{notdef}, Gathering.{gathered_name}, Places.{ending, bytes_at_place}};
 ghost use Rattle.t1_font.specs.Ranges.{bytes_at, IsInside};
 ghost use Rattle.t1_join.specs.Entries.{entries_by};
 ghost use Rattle.std.specs.FinMap as fin;
@@ -158,7 +158,7 @@ impl<'a> Gathered<'a> {
 
     /// The name of a code: `.notdef` where it has none.
     pub(crate) fn name_at(&self, code: u32) -> &'a [u8]
-        ensures { result.now ≡ name_in self.now.codes code }
+        ensures { result.now ≡ gathered_name self.now.codes code }
     {
         last_name(self.codes.as_slice(), code)
     }

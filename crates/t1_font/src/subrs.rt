@@ -1,8 +1,9 @@
 //! The table of subroutines.
 
 ghost use Rattle.std.specs.{Prelude.{◌≡◌, ◌<◌, ◌≤◌, ◌+◌, OnOk, IfSome, length}, Option.{option_map}};
+ghost use Rattle.t1_bytes.specs.Cipher.{plain_of};
 ghost use Rattle.t1_font.specs.{Answers.{ShowsTable}, Gathering.{SubrsAlone}, Held.{HoldsSubrs, TableHeld}, Subrs.{subr, subr_key, subrs_end, subrs_at}};
-ghost use Rattle.t1_font.specs.{FontValue.{count_limit}, Charstrings.{plain_of}, Places.{StandsIn, ending, bytes_at_place}, Views.{entry_view, phrase_view}};
+ghost use Rattle.t1_font.specs.{FontValue.{count_limit}, Places.{StandsIn, ending, bytes_at_place}, Views.{entry_view, phrase_view}};
 ghost use Rattle.std.specs.FinMap as fin;
 
 use crate::dialect::Spacing;

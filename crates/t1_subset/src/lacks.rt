@@ -7,7 +7,7 @@ ghost use Rattle.t1_subset.specs.{Lacks.{lack_view, have_same_subrs}, Users.{use
 ghost use Rattle.t1_run.specs.{Budgets.{Takes, HasFewer}, declared.budget.Stop.TheVariants.{TooManyTokens}};
 
 use crate::state_making::uses_of;
-use crate::users::{UserArray, places_below, user_of_array};
+use crate::users::{UserArray, first_user, reached_below};
 use std::alloc::Global;
 use t1_font::Font;
 use t1_run::{Budget, Stop, Subroutines};
@@ -74,8 +74,8 @@ pub(crate) fn lack_by<'a>(
         → user_at users.now.items i ≡ user_of font.now i }
     ensures { option_map lack_view result ≡ lack_in fonts.now font.now }
 {
-    'indices: for index in 0..places_below(users, font.count()) {
-        let lack = lack_at(fonts, font, user_of_array(users, index), index);
+    'indices: for index in 0..reached_below(users, font.count()) {
+        let lack = lack_at(fonts, font, first_user(users, index), index);
         if lack.is_some() {
             return lack;
         }

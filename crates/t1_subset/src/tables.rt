@@ -7,7 +7,7 @@ ghost use Rattle.t1_algebra.specs.{Profile.{profile}, StateTables.{numbered, cod
 ghost use Rattle.t1_subset.specs.{Differences.{with_state, entry_state}, Users.{user_at}};
 ghost use Rattle.std.specs.FinMap as maps;
 
-use crate::users::{UserArray, Users, places_below, user_of_array};
+use crate::users::{UserArray, Users, first_user, reached_below};
 use std::alloc::{AllocError, Global};
 use t1_font::{Font, STUB};
 use t1_join::{Kept, Key, Table};
@@ -67,7 +67,7 @@ pub(crate) fn subr_table<'a>(
 {
     let mut table = Table::new(alloc);
     'entries: for (index, body) in font.subrs().entries() {
-        let is_called = user_of_array(users, index).is_some();
+        let is_called = first_user(users, index).is_some();
         put(&mut table, index, subr_state(Some(body), is_called))?;
     }
     Ok(table)
@@ -84,8 +84,8 @@ pub(crate) fn used<'a>(
         → maps.get used (of_number q) ≡ user_at users.now.items q) }
 {
     let mut used = Table::new(alloc);
-    'indices: for index in 0..places_below(users, font.count()) {
-        put(&mut used, index, user_of_array(users, index))?;
+    'indices: for index in 0..reached_below(users, font.count()) {
+        put(&mut used, index, first_user(users, index))?;
     }
     Ok(used)
 }

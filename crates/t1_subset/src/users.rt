@@ -72,7 +72,7 @@ pub(crate) fn note_users<'a>(
 }
 
 /// The glyph that is noted for the index.
-pub(crate) fn user_of_array<'a>(users: &UserArray<'a>, index: u16) -> Option<&'a [u8]>
+pub(crate) fn first_user<'a>(users: &UserArray<'a>, index: u16) -> Option<&'a [u8]>
     ensures { option_map (λ n. n.now) result ≡ user_at users.now.items index }
 {
     match users.get(index as usize) {
@@ -82,7 +82,7 @@ pub(crate) fn user_of_array<'a>(users: &UserArray<'a>, index: u16) -> Option<&'a
 }
 
 /// How many of so many indices have a place. None has a user behind these.
-pub(crate) fn places_below(users: &UserArray<'_>, count: u16) -> u16
+pub(crate) fn reached_below(users: &UserArray<'_>, count: u16) -> u16
     ensures places { result ≡ min (length users.now.items) count }
     ensures none { (q : ℕ) → result ≤ q → q < count → user_at users.now.items q ≡ None }
 {

@@ -3,7 +3,8 @@ use Rattle.std.proofs.{Common.{◌≡◌, ℕ, ◌+◌, ◌<◌, Ordering, true,
 use Rattle.std.specs.{List.{AllByRecursion}, Option.{option_map}, Str.{bytes_eq}, Ordering.{nat_cmp}, Cmp.{IsTotalOrder, nat_cmp_total}, Cmp.Lexicographic.{nat_list_cmp_total}}
 use Rattle.std.specs.FinMap.{FinMap, find, get, entries, entries_sorted, len-entries, contains_key, get-entries, same_map, IsAntisymmetric, nat_cmp-IsAntisymmetric, slice_cmp-IsAntisymmetric}
 use Rattle.t1_bytes.proofs.Ciphers.{opened-sealed, length-sealed}
-use Rattle.t1_font.specs.{Charstrings.{plain_of}, FontValue.{FontValue, Shell, SubrsShell, Encoding, Word, Codes, SparseArray, CharStrings, name_cmp, notdef}}
+use Rattle.t1_bytes.specs.Cipher.{plain_of}
+use Rattle.t1_font.specs.FontValue.{FontValue, Shell, SubrsShell, Encoding, Word, Codes, SparseArray, CharStrings, name_cmp, notdef}
 use Rattle.t1_font.specs.{Entries.{map_of, names_of, last_value, unless_notdef}, ReadFont.{encoding_value, of_first, subrs_shell, subr_entries, font_of}, Entry.{plain_entries}}
 use Rattle.t1_font.specs.Canon.{sealed_body, sealed_entry, subr_entry, glyph_entry, subrs_pieces, inside_of, outside_of, encoding_pieces}
 use Rattle.t1_font.specs.IsFont.{IsFont, IsWord, IsPhrase, IsCharstring, SubrsFit, SubrWords, IsCode, IsEncoding}

@@ -7,8 +7,8 @@ use Rattle.t1_bytes.specs.{Eexec.{eexec_marker, hex_or_white, hex_text, cipher_t
 use Rattle.t1_bytes.proofs.{Ciphers.{decrypted_front, length-sealed}, HexLines.{lines_read, binary_read, hex_run, run_secret, run_digits}, PfbLemmas.{pfb_flat}}
 use Rattle.t1_grammar.specs.{Formats.{with_fault}, Grammar.{Stops, first_at, front_again}}
 use Rattle.t1_font.specs.{declared.fault.ReadFault.TheVariants.{BadSegment}, declared.dialect.Spacing.TheVariants.{White}, declared.fault.ReadFault.{ReadFault}}
-use Rattle.t1_font.specs.FontValue.{FontValue, SubrsShell, SparseArray, notdef, count_limit, declared_count, IsWithin}
-use Rattle.t1_font.specs.{Pieces.{EncodingText, OneWord, Puts, ClearPieces, PrivatePieces, flat_pieces, private_pieces}, ReadFont.{font_of, has_notdef, flat_text, font_from, font_file, read_font}}
+use Rattle.t1_font.specs.FontValue.{FontValue, SubrsShell, SparseArray, notdef, count_limit, declared_count, FitsLimits}
+use Rattle.t1_font.specs.{Pieces.{EncodingText, OneWord, Puts, ClearPieces, PrivatePieces, flat_pieces, private_pieces}, ReadFont.{font_of, has_notdef, flat_reading, font_from, font_file, read_font}}
 use Rattle.t1_font.specs.{Writing.{encoding_text}, Canon.{encoding_pieces, inside_of, outside_of, canon_clear, canon_private, canon, Fits}, IsFont.{IsFont, SubrsFit}}
 use Rattle.t1_font.proofs.{ValueLaws.{notdef_is, within_again}, canonical.ClearWritten.{clear_again}, canonical.PrivateWritten.{private_again}}
 use Rattle.t1_font.proofs.{canonical.SplitWritten.{IsBorder, eexec_found, split_again}, canonical.FontAgain.{font_again, font_writable, encoding_writable}, ByteLemmas.{has_bytes, cipher_bytes}}
@@ -62,8 +62,8 @@ value_again f h =
     let p : PrivatePieces = inside_of f.shell (entries f.subrs) (entries f.glyphs) in
     let same = font_again f h in
     let notdef_there : has_notdef p ≡ true = sym (notdef_is c p) ∙ (ap (λ (g : FontValue). maps.contains_key g.glyphs notdef) same ∙ h.glyphs.notdef) in
-    let limits : IsWithin f = record { declared = count f.shell.subrs f.subrs h.subrs; glyphs = h.glyphs.few; weight = h.light } in
-    let within : IsWithin (font_of c p) = subst IsWithin (sym same) limits in
+    let limits : FitsLimits f = record { declared = count f.shell.subrs f.subrs h.subrs; glyphs = h.glyphs.few; weight = h.light } in
+    let within : FitsLimits (font_of c p) = subst FitsLimits (sym same) limits in
     rw (notdef_there, within_again c p within) (ap (λ (g : FontValue). Ok g) same)
   where
     count : (o : Option SubrsShell) (m : SparseArray) → SubrsFit f.shell o m → declared_count o ≤ count_limit
@@ -82,7 +82,7 @@ module _ (f : FontValue) where
 
   -- a file with this flat text spells the font, where the cipher that is read begins with the one that was written
   file_again : (file v more rest : List ℕ) → IsFont f → IsBorder v → cipher_text.read v ≡ Some (private_cipher (canon_private f) ++ more, rest) →
-      length file ≤ file_limit → (flat_text file).read ≡ Ok (canon_clear f ++ v) → read_font file ≡ Ok f
+      length file ≤ file_limit → (flat_reading file).read ≡ Ok (canon_clear f ++ v) → read_font file ≡ Ok f
   unfolding font_file
   file_again file v more rest h border c short flat =
       let x = eexec_found f.shell.head (encoding_pieces f.encoding) f.shell.clear_tail v h.clear.head_eexec
@@ -100,14 +100,14 @@ head_starts [] rest (OneWord w) h = refl
 head_starts [] rest (Puts es) h = refl
 head_starts (b ∷ head) rest e h = h
 
-plain_flat : (file : List ℕ) → starts_segment file ≡ false → (flat_text file).read ≡ Ok file
-unfolding flat_text
+plain_flat : (file : List ℕ) → starts_segment file ≡ false → (flat_reading file).read ≡ Ok file
+unfolding flat_reading
 plain_flat file s = ap (λ (b : Bool). with_fault BadSegment (flat_when b file).read) s
 
 -- a PFB within the file limit is read as its three parts
 joined_flat : (clear cipher trailer : List ℕ) → length (pfb_text clear cipher trailer) ≤ file_limit →
-    (flat_text (pfb_text clear cipher trailer)).read ≡ Ok (clear ++ (cipher ++ trailer))
-unfolding flat_text
+    (flat_reading (pfb_text clear cipher trailer)).read ≡ Ok (clear ++ (cipher ++ trailer))
+unfolding flat_reading
 joined_flat clear cipher trailer h =
     let e : List ℕ = 128 ∷ 3 ∷ [] in
     let t : List ℕ = segment_text 1 trailer ++ e in

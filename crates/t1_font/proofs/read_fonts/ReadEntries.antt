@@ -3,11 +3,11 @@ use Rattle.std.proofs.Common.{◌+◌, zero, suc, inl, inr, ◌≡◌, ℕ, ◌�
 use Rattle.std.proofs.{lemmas.Bool.{leb-true, ltb-true, and_parts}, lemmas.List.{length-drop}}
 use Rattle.std.specs.{Prelude.{codes, unwrap_or}, List.{AllByRecursion}, Ordering.{is_eq, nat_cmp}, FinSet.{nat_cmp-IsAntisymmetric}, Cmp.{IsTotalOrder, Equal-is}, FinMap.{get, IsAntisymmetric}}
 use Rattle.t1_grammar.specs.Grammar.{Grammar, choice}
-use Rattle.t1_bytes.{specs.{Laws.{AreBytes}, Cipher.{decrypted}}, proofs.Ciphers.{length-decrypted}}
+use Rattle.t1_bytes.{specs.{Laws.{AreBytes}, Cipher.{decrypted, plain_of}}, proofs.Ciphers.{length-decrypted}}
 use Rattle.t1_font.specs.{declared.dialect.Spacing.{Spacing}, declared.dialect.Dialect.{Dialect}, declared.dialect.Spacing.TheVariants.{White}}
 use Rattle.t1_font.specs.{Words.{word, name, phrase_of, phrase_after, is_access, passes, next_name}, Entry.{Body, Entry, length_from, body, entry, plain_entries}, Subrs.{Subr, subr_key, subr}}
 use Rattle.t1_font.specs.Encoding.{code, CodeEntry, Put, Copy, put_entry, one_copy, within_codes, are_codes, copy_of_range, range_copy, name_after, copied, put_by, puts_after, entry_with}
-use Rattle.t1_font.specs.{Encoding.{code_entry}, Glyphs.{Glyph, glyph}, Charstrings.{plain_of}, FontValue.{notdef}, Entries.{last_value, map_of}, IsFont.{IsWord, IsPhrase, IsCharstring}}
+use Rattle.t1_font.specs.{Encoding.{code_entry}, Glyphs.{Glyph, glyph}, FontValue.{notdef}, Entries.{last_value, map_of}, IsFont.{IsWord, IsPhrase, IsCharstring}}
 use Rattle.t1_font.proofs.{MapLemmas.{Some_same, Some_None}, ByteLemmas.{AreBytes-append}, read_fonts.ReadBytes.{parts_bytes, drop_bytes, decrypted_bytes}, read_fonts.ReadBack.{whole_of}}
 use Rattle.t1_font.proofs.{MapLaws.{get-map_of}, canonical.EntriesWritten.{IsBody}}
 use Rattle.t1_join.proofs.OrderLemmas.{all_of_both}

@@ -3,13 +3,13 @@ use Rattle.std.proofs.lemmas.List.{take-append-drop}
 use Rattle.std.proofs.Common.{◌≡◌, ℕ, ◌≤◌, ◌<◌, true, cond, List, [], ◌∷◌, ◌++◌, take, drop, Option, Some, None, is_some, Ok, refl, sym, ap, subst, ◌∙◌, append_assoc, arith, true≢false}
 use Rattle.std.specs.{List.{AllByRecursion, list_any}, Option.{option_map}, Str.{bytes_eq}, Ordering.{nat_cmp, is_eq}, Cmp.{nat_cmp_total, tied_itself}, Cmp.Lexicographic.{nat_list_cmp_total}}
 use Rattle.std.specs.FinMap.{find, contains_key, nat_cmp-IsAntisymmetric}
-use Rattle.t1_bytes.specs.{declared.form.Form.TheVariants.{Pfb}, Cipher.{decrypted}, Laws.{AreBytes}, FlatText.{starts_segment, IsFlat}, Split.{split, IsSplit}}
+use Rattle.t1_bytes.specs.{declared.form.Form.TheVariants.{Pfb}, Cipher.{decrypted, plain_of}, Laws.{AreBytes}, FlatText.{starts_segment, IsFlat}, Split.{split, IsSplit}}
 use Rattle.t1_bytes.proofs.{ContainerLaws.{one_flat}, Ciphers.{decrypted-is}}
 use Rattle.t1_grammar.specs.Grammar.{Stops, first, choice, front_again}
 use Rattle.t1_font.specs.{declared.dialect.Spacing.{Spacing}, declared.dialect.Dialect.{Dialect}, Words.{is_regular}, Entry.{plain_entries}, Subrs.{Subr}, Markers.{closefile}, Glyphs.{Glyph, glyph}}
-use Rattle.t1_font.specs.{Charstrings.{plain_of}, Pieces.{ClearPieces, SubrsPieces, PrivatePieces}, FontValue.{FontValue, SubrsShell, notdef, declared_count, count_limit, IsWithin}}
+use Rattle.t1_font.specs.{Pieces.{ClearPieces, SubrsPieces, PrivatePieces}, FontValue.{FontValue, SubrsShell, notdef, declared_count, count_limit, FitsLimits}}
 use Rattle.t1_font.specs.{Entries.{map_of, last_entries, last_value}, ReadFont.{font_file, of_first, subrs_of, subrs_shell, glyph_entries, shell_of, font_of, read_font}}
-use Rattle.t1_font.specs.{Spelling.{IsPrivate, Texts, SpellsIn}, Canon.{canon}, IsFont.{IsWord, IsPhrase, IsPrivateShell, SubrWords, SubrsFit, AreGlyphs, IsFont, HasBytes}, Dialect.{strict}}
+use Rattle.t1_font.specs.{Spelling.{IsPrivate, HasTexts, SpellsIn}, Canon.{canon}, IsFont.{IsWord, IsPhrase, IsPrivateShell, SubrWords, SubrsFit, AreGlyphs, IsFont, HasBytes}, Dialect.{strict}}
 use Rattle.t1_font.proofs.{MapLaws.{entries-map_of, find-last}, MarkerLemmas.{close_parts}, Spelled.{reads, is_iv}, ValueLaws.{notdef_is}, canonical.FontAgain.{name_same}}
 use Rattle.t1_font.proofs.{ByteLemmas.{has_bytes, canon_bytes}, canonical.RoundTrip.{round_trip}, read_fonts.ReadBack.{tail_ends_of}}
 use Rattle.t1_font.proofs.{read_fonts.ReadBytes.{parts_bytes, flat_bytes, cipher_bytes_of, decrypted_bytes, entries_have}, read_fonts.ReadEntries.{IsRead, glyph_of, map_fits}}
@@ -63,7 +63,7 @@ glyph_words iv (g ∷ gs) all some = (all.0.1.rd, all.0.1.phrase)
 
 -- the glyphs that were read are glyphs of a font
 pub glyphs_of_font : (c : ClearPieces) (p : PrivatePieces) → AllByRecursion (IsRead (IsWord 127) p.len_iv) p.glyphs →
-    contains_key (font_of c p).glyphs notdef ≡ true → IsWithin (font_of c p) → AreGlyphs (shell_of c p) (map_of (glyph_entries p))
+    contains_key (font_of c p).glyphs notdef ≡ true → FitsLimits (font_of c p) → AreGlyphs (shell_of c p) (map_of (glyph_entries p))
 glyphs_of_font c p h some within =
     let has = map_fits nat_list_cmp_total name_same (IsWord 127) p.len_iv p.glyphs h in
     let words = glyph_words p.len_iv p.glyphs h (sym (notdef_is c p) ∙ some) in
@@ -126,7 +126,7 @@ cut_bytes flat at cipher s h =
     let clear = parts_bytes flat (take at flat) (drop at flat) (sym (take-append-drop at flat)) h in
     (clear.0, subst AreBytes (ap (λ (x : ℕ × List ℕ). x.1) s.2.2) (cipher_bytes_of s.2.0.0 secret.0 s.2.0.1 secret.2 b.0))
 
-texts_bytes : (file clear text : List ℕ) → Texts file clear text → AreBytes file → AreBytes clear × AreBytes text
+texts_bytes : (file clear text : List ℕ) → HasTexts file clear text → AreBytes file → AreBytes clear × AreBytes text
 texts_bytes file clear text s h =
     let both = cut_bytes s.flat s.at s.cipher s.split (flat_bytes file s.flat s.flat_is h) in
     let plain = parts_bytes (decrypted 55665 s.cipher) s.lead text
@@ -143,7 +143,7 @@ spelled_font d file f h s =
     let clear = clear_of d t.flat t.at s.pieces.clear t.cipher c p t.split t.clear_is s.pieces.clear_is bytes.0 in
     let private = private_of d.subrs s.pieces.text c p s.pieces.private_is bytes.1 in
     let some : contains_key (font_of c p).glyphs notdef ≡ true = subst (λ (f : FontValue). contains_key f.glyphs notdef ≡ true) s.value s.has_notdef in
-    let within : IsWithin (font_of c p) = subst IsWithin s.value s.within in
+    let within : FitsLimits (font_of c p) = subst FitsLimits s.value s.within in
     subst IsFont (sym s.value) (record {
       clear = clear.shell;
       private = private.shell;

@@ -8,7 +8,7 @@ use Rattle.t1_font.specs.{declared.fault.ReadFault.TheVariants.{BadSegment, NoEe
 use Rattle.t1_font.specs.{Entry.{length_from, body, entry}, Subrs.{subr_key, subrs_end}, Markers.{encoding_marker, subrs_marker, chars_marker, len_iv_marker, len_iv, closefile}}
 use Rattle.t1_font.specs.{Encoding.{encoding_word, encoding_table, encoding_loop, encoding_start, octal, code, put_entry, encoding_end}, Glyphs.{glyphs_end}}
 use Rattle.t1_font.specs.Pieces.{Puts, flat_pieces, encoding_from, clear_pieces, iv_at, iv_of, tail_after, glyphs_from, tables_from, private_pieces}
-use Rattle.t1_font.specs.{ReadFont.{flat_text, font_from, font_file, read_font}, Writing.{clear_written, private_written}, Canon.{outside_of, inside_of, canon}, IsFont.{IsFont}, Dialect.{strict}}
+use Rattle.t1_font.specs.{ReadFont.{flat_reading, font_from, font_file, read_font}, Writing.{clear_written, private_written}, Canon.{outside_of, inside_of, canon}, IsFont.{IsFont}, Dialect.{strict}}
 use Rattle.t1_font.proofs.{ByteLemmas.{small_bytes}, canonical.RoundTrip.{round_trip}, read_fonts.ReadFontLaws.{read_is_font}}
 use Rattle.t1_font.proofs.rows.TinyNumbers.{n0, n1, n2, n3, n4, n5, n6, n7, n8, n9, n10, n11, n12, n14, n15, n16, n18, n19, n50, n65, n66, n194}
 use Rattle.t1_font.proofs.rows.Tiny.{lines, puts, shell, subrs, glyphs, tiny, clear, private_text}
@@ -103,25 +103,25 @@ pfa_reads : read_font pfa ≡ Ok tiny
 unfolding table_within first_at gap one_white word keyword decimal name phrase_of length_from body entry subr_key subrs_end
     eexec_marker encoding_marker subrs_marker chars_marker len_iv_marker len_iv closefile encoding_word encoding_table
     encoding_loop encoding_start octal code put_entry encoding_end next_name glyphs_end cipher_text split flat_pieces
-    encoding_from clear_pieces iv_at iv_of tail_after glyphs_from tables_from private_pieces flat_text font_from font_file
+    encoding_from clear_pieces iv_at iv_of tail_after glyphs_from tables_from private_pieces flat_reading font_from font_file
 pfa_reads = refl
 
 pfb_reads : read_font pfb ≡ Ok tiny
 unfolding table_within first_at gap one_white word keyword decimal name phrase_of length_from body entry subr_key subrs_end
     eexec_marker encoding_marker subrs_marker chars_marker len_iv_marker len_iv closefile encoding_word encoding_table
     encoding_loop encoding_start octal code put_entry encoding_end next_name glyphs_end cipher_text split flat_pieces
-    encoding_from clear_pieces iv_at iv_of tail_after glyphs_from tables_from private_pieces flat_text font_from font_file
+    encoding_from clear_pieces iv_at iv_of tail_after glyphs_from tables_from private_pieces flat_reading font_from font_file
 pfb_reads = refl
 
 pfb_cut : read_font (take 1000 pfb) ≡ Err (BadSegment 319)
-unfolding flat_text font_file split flat_pieces table_within first_at gap eexec_marker cipher_text
+unfolding flat_reading font_file split flat_pieces table_within first_at gap eexec_marker cipher_text
 pfb_cut = refl
 
 pfb_at_border : read_font (take 1333 pfb) ≡ Ok tiny
 unfolding table_within first_at gap one_white word keyword decimal name phrase_of length_from body entry subr_key subrs_end
     eexec_marker encoding_marker subrs_marker chars_marker len_iv_marker len_iv closefile encoding_word encoding_table
     encoding_loop encoding_start octal code put_entry encoding_end next_name glyphs_end cipher_text split flat_pieces
-    encoding_from clear_pieces iv_at iv_of tail_after glyphs_from tables_from private_pieces flat_text font_from font_file
+    encoding_from clear_pieces iv_at iv_of tail_after glyphs_from tables_from private_pieces flat_reading font_from font_file
 pfb_at_border = refl
 
 -- upper-case digits, and CR behind each line of them
@@ -136,23 +136,23 @@ upper_hex : read_font (clear ++ (10 ∷ (upper_lines cipher_lines ++ end_lines))
 unfolding table_within first_at gap one_white word keyword decimal name phrase_of length_from body entry subr_key subrs_end
     eexec_marker encoding_marker subrs_marker chars_marker len_iv_marker len_iv closefile encoding_word encoding_table
     encoding_loop encoding_start octal code put_entry encoding_end next_name glyphs_end cipher_text split flat_pieces
-    encoding_from clear_pieces iv_at iv_of tail_after glyphs_from tables_from private_pieces flat_text font_from font_file
+    encoding_from clear_pieces iv_at iv_of tail_after glyphs_from tables_from private_pieces flat_reading font_from font_file
 upper_hex = refl
 
 empty : read_font [] ≡ Err NoEexec
-unfolding flat_text font_file split flat_pieces table_within first_at gap eexec_marker cipher_text
+unfolding flat_reading font_file split flat_pieces table_within first_at gap eexec_marker cipher_text
 empty = refl
 
 through_eexec : read_font (take 312 pfa) ≡ Err NoEexec
-unfolding flat_text font_file split flat_pieces table_within first_at gap eexec_marker cipher_text
+unfolding flat_reading font_file split flat_pieces table_within first_at gap eexec_marker cipher_text
 through_eexec = refl
 
 through_line : read_font (take 313 pfa) ≡ Err ShortCipher
-unfolding flat_text font_file split flat_pieces table_within first_at gap eexec_marker cipher_text
+unfolding flat_reading font_file split flat_pieces table_within first_at gap eexec_marker cipher_text
 through_line = refl
 
 two_bytes : read_font (take 313 pfa ++ codes "d9d6") ≡ Err ShortCipher
-unfolding flat_text font_file split flat_pieces table_within first_at gap eexec_marker cipher_text
+unfolding flat_reading font_file split flat_pieces table_within first_at gap eexec_marker cipher_text
 two_bytes = refl
 
 -- ---- Tiny is a font

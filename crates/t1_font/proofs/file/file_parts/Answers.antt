@@ -1,7 +1,7 @@
 use Rattle.std.proofs.{Common.{rules, ◌+◌, ◌≡◌, ◌≤◌, ◌∙◌, ap, arith, sym, drop, ℕ, List, Result, Ok, length}, lemmas.Bool.{le-leb}, lemmas.List.{drop-drop}}
 use Rattle.t1_bytes.specs.{Cipher.{private_text}, Limits.{file_limit}}
 use Rattle.t1_font.specs.{declared.dialect.Dialect.{Dialect}, declared.fault.ReadFault.{ReadFault}, FontValue.{FontValue}, Pieces.{FlatPieces, flat_pieces}}
-use Rattle.t1_font.specs.ReadFont.{flat_text, file_pieces, font_texts, font_file}
+use Rattle.t1_font.specs.ReadFont.{flat_reading, file_pieces, font_texts, font_file}
 use Rattle.t1_font.proofs.AnswersRight.{answers_same}
 use Rattle.t1_grammar.specs.Formats.{if_ok, if_ok_twice}
 use Rattle.t1_font.proofs.file.file_parts.Goals as goal
@@ -12,7 +12,7 @@ file_is : (d : Dialect) (file : List ℕ) (p : FlatPieces) → length file ≤ f
 unfolding font_file
 file_is d file p short cut =
     let texts : FlatPieces → Result FontValue ReadFault = λ parts. (font_texts d parts.clear (private_text parts.cipher)).read in
-    rw (le-leb (length file) file_limit short) (if_ok_twice (flat_text file).read (λ flat. (flat_pieces flat).read) texts ∙ ap (if_ok texts) cut)
+    rw (le-leb (length file) file_limit short) (if_ok_twice (flat_reading file).read (λ flat. (flat_pieces flat).read) texts ∙ ap (if_ok texts) cut)
 
 pub returns : goal.returns
 returns c =

@@ -29,7 +29,7 @@ entries-preserved c =
     before_next c.entries.table (subr_state profile f) f.subrs (no_state f) (i, c.in-Some.body.now) c.next.new.self c.entries.index-iterator more
     c.entries.invariant c.put.new.table _ c.in_ok-put.ensures
     (c.subr_state.ensures ∙ entry_is f i _ _ c.is_some-is_called.result (sym there)
-    (λ t. c.is_some-is_called.ensures ∙ some_lent c.user_of_array.result ∙ ap is_some (c.user_of_array.ensures ∙ c.requires i t) ∙ sym (called_is f i)))
+    (λ t. c.is_some-is_called.ensures ∙ some_lent c.first_user.result ∙ ap is_some (c.first_user.ensures ∙ c.requires i t) ∙ sym (called_is f i)))
 
 pub returns : goal.returns
 returns c =

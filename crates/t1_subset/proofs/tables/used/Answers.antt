@@ -11,7 +11,7 @@ indices-init c = has_none _ (user_at c.args.users.now.items) c.new-used.ensures
 
 pub indices-preserved : goal.indices-preserved
 indices-preserved c =
-    has_next c.indices.used (user_at c.args.users.now.items) c.indices.index c.indices.invariant c.put.new.table _ c.in_ok-put.ensures c.user_of_array.ensures
+    has_next c.indices.used (user_at c.args.users.now.items) c.indices.index c.indices.invariant c.put.new.table _ c.in_ok-put.ensures c.first_user.ensures
 
 pub returns : goal.returns
 returns c = λ q below. by q below (nat_lt q c.indices.index) refl
@@ -21,6 +21,6 @@ returns c = λ q below. by q below (nat_lt q c.indices.index) refl
     by q below true t = has_at c.indices.used (user_at c.args.users.now.items) c.indices.index c.indices.invariant q (ltb-true q c.indices.index t)
     by q below false t =
         let from : c.indices.index ≤ q = ltb-false q c.indices.index t in
-        let past : c.places_below-index-end.result ≤ c.indices.index = let p = c.indices-test.false in omega (arith, p) in
+        let past : c.reached_below-index-end.result ≤ c.indices.index = let p = c.indices-test.false in omega (arith, p) in
         has_no c.indices.used (user_at c.args.users.now.items) c.indices.index c.indices.invariant q from
-        ∙ sym (c.places_below-index-end.ensures.none q (omega (arith, from, past)) (omega (arith, below, c.count.ensures)))
+        ∙ sym (c.reached_below-index-end.ensures.none q (omega (arith, from, past)) (omega (arith, below, c.count.ensures)))

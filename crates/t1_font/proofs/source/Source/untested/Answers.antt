@@ -1,10 +1,13 @@
-use Rattle.std.proofs.Common.{◌≡◌, sym, ap, subst}
-use Rattle.t1_font.{specs.{declared.source.Source.TheInside.{Inside}, FontValue.{FontValue}, IsFont.{IsFont}, Sources.{source_value}}, proofs.Untested.{untested_is_font}}
+use Rattle.std.{proofs.Common.{◌≡◌, Option, sym, subst}, specs.Prelude.{MatchOption}}
+use Rattle.t1_font.specs.{FontValue.{FontValue}, FontTest.{untested}, FontBoxes.{with_texts}, IsFont.{IsFont}}
+use Rattle.t1_font.proofs.Untested.{untested_is_font}
 use Rattle.t1_font.proofs.source.Source.untested.Goals as goal
 
-pub invariant_of-result-2 : goal.invariant_of-result-2
-invariant_of-result-2 c =
-    let p : FontValue = source_value c.self-inside.inside.0.0 in
-    let is : p ≡ c.self.inside.parts = ap (λ (s : Inside). s.parts) c.self-inside.view_is in
-    subst IsFont (sym (λ i. record { shell = c.untested_shell-shell.ensures i; encoding = p.encoding; subrs = p.subrs; glyphs = p.glyphs }))
-    (untested_is_font p (subst IsFont (sym is) c.self.invariant)).0
+pub with_head-requires : goal.with_head-requires
+with_head-requires c =
+    let f : FontValue = c.self.inside.parts in
+    let head = f.shell.head in
+    let is : f ≡ c.args.self = c.self.view_is in
+    let made : c.in-Some.head.items ≡ untested head =
+    subst (λ (o : Option _). MatchOption o (untested head ≡ head) (λ v. v.items ≡ untested head)) c.in-Some.is c.in-Ok.ensures in
+    subst IsFont (λ i. with_texts (is i) (sym made i, (is i).shell.clear_tail)) (untested_is_font f c.self.invariant).0
