@@ -8,7 +8,8 @@ use Rattle.t1_font.proofs.{MapLaws.{get-map_of}, HeldLemmas.{one_code_more}}
 -- ---- names in turn
 
 -- one more name of so many
-pub names_turn : (codes : SparseArray) (from n i : ℕ) (done : List (List ℕ)) (name : List ℕ) (all : List (List ℕ)) → i < n → name ≡ gathered_name codes (from + i) →
+pub names_turn : (codes : SparseArray) (from n i : ℕ) (done : List (List ℕ)) (name : List ℕ) (all : List (List ℕ)) → i < n →
+    name ≡ gathered_name codes (from + i) →
     done ++ copied_names codes (from + i) (n - i) ≡ all → (done ++ name ∷ []) ++ copied_names codes (from + (i + 1)) (n - (i + 1)) ≡ all
 names_turn codes from n i done name all below is so_far =
     let more : n - i ≡ suc (n - (i + 1)) = omega (arith, below) in

@@ -6,7 +6,8 @@ use Rattle.t1_bytes.specs.{Cipher.{decrypted, private_text}, Limits.{file_limit}
 use Rattle.t1_font.specs.{declared.dialect.Spacing.{Spacing}, declared.dialect.Dialect.{Dialect}, declared.fault.ReadFault.{ReadFault}, Glyphs.{Glyph, glyph, glyphs_end}}
 use Rattle.t1_font.specs.{Encoding.{Opening, Whole, OpensPuts, OpensNames, encoding_start}, Markers.{subrs_marker, closefile, len_iv_marker}}
 use Rattle.t1_font.specs.Pieces.{FlatPieces, EncodingText, OneWord, Puts, ClearPieces, SubrsPieces, PrivatePieces, flat_pieces, encoding_from, clear_pieces, iv_at, iv_of, through, tail_after}
-use Rattle.t1_font.specs.{Pieces.{glyphs_from, before_place, tables_from, private_pieces}, FontValue.{FontValue, notdef, FitsLimits}, ReadFont.{font_of, flat_reading, font_from, font_texts, font_file}}
+use Rattle.t1_font.specs.{Pieces.{glyphs_from, before_place, tables_from, private_pieces}, FontValue.{FontValue, notdef, FitsLimits}}
+use Rattle.t1_font.specs.ReadFont.{font_of, flat_reading, font_from, font_texts, font_file}
 use Rattle.t1_font.specs.Spelling.{SpellsEncoding, IsClear, IsLenIV, said, unsaid, nowhere, later, Start, SpellsTables, HasGlyphs, IsPrivate, HasTexts, HasPieces, SpellsIn}
 use Rattle.t1_font.proofs.{FileParts.{split_lead}, ValueLaws.{notdef_is, within_of, within_again, private_enciphers, private_again, lead_length}}
 use Rattle.std.specs.FinMap as maps
