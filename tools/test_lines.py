@@ -1,16 +1,18 @@
 #!/usr/bin/env python3
-"""Checks the sizes that CONTRIBUTING.md states, over the code, the definitions and the proofs of crates/.
+"""Checks the sizes that CONTRIBUTING.md states, and the layout, over the code, the definitions and the proofs of crates/.
 
 A line has at most 160 columns, an import (`use`, `ghost use`) at most 200, a file at most 600 lines, and the body of a
 function at most 40 lines, where the rows of a table, a `const` slice inside a test, don't count. A column is a character.
-An attribute may be longer: `rt fmt` keeps it on one line.
+An attribute may be longer: `rt fmt` keeps it on one line. Each file stands as `rt fmt` writes it.
 
 usage: tools/test_lines.py
-Ends with status 1 if one is larger.
+Ends with status 1 if one is larger, or is in another layout.
 """
 import glob
 import os
 import re
+import shutil
+import subprocess
 import sys
 
 from common import TOP, text_of
@@ -83,14 +85,23 @@ def faults(path):
         yield len(lines), f"{len(lines)} lines, at most {FILE_LINES}"
 
 
+def other_layouts(paths):
+    """The lines that the formatter, which stands beside `rt`, prints of files that it would change."""
+    formatter = os.path.join(os.path.dirname(os.path.realpath(shutil.which("rt"))), "rattle")
+    done = subprocess.run([formatter, "fmt", "--check", *paths], capture_output=True, text=True)
+    said = (done.stdout + done.stderr).replace(TOP + os.sep, "").splitlines()
+    return said if done.returncode else []
+
+
 def main():
     paths = [path for part in ("src/**/*.rt", "specs/**/*.antt", "proofs/**/*.antt")
              for path in glob.glob(os.path.join(TOP, "crates/*", part), recursive=True)]
     found = [(os.path.relpath(path, TOP), number, what) for path in sorted(paths) for number, what in faults(path)]
-    for path, number, what in found:
-        print(f"{path}:{number}: {what}", file=sys.stderr)
-    print(f"{len(paths)} files of code, definitions and proofs were measured, {len(found)} faults")
-    return 1 if found else 0
+    told = [f"{path}:{number}: {what}" for path, number, what in found] + other_layouts(paths)
+    for line in told:
+        print(line, file=sys.stderr)
+    print(f"{len(paths)} files of code, definitions and proofs were measured, {len(told)} faults")
+    return 1 if told else 0
 
 
 if __name__ == "__main__":
