@@ -11,8 +11,10 @@ CALL is a function or `Type::method`, ANSWER is `Ok`, `Some` or `None`, or a var
 second form says that the lines above it hold for other calls, too. This script reads the calls, the variants and the
 constants from the code, and these lines from the tests. It wants for each call each of its answers; for each call a size of
 at most 100 and one that is large; and a size beyond each constant with which code chooses between two ways, for each call
-that comes there. A call that answers by another of its name behind which `_within` stands meets for both. A size above 100 has to stand in the test's file, as a number or as the value of a constant of the code
-that the file names. A constant of the code that is not told of here is a fault, so that a new one is.
+that comes there. A call that answers by another of its name behind which `_within` stands meets for both. A size above 100
+has to stand in the test's file, as a number or as the value of a constant of the code that the file names. A constant of
+the code that is not told of here is a fault, so that a new one is. And each of these calls stands in a test whose name
+begins with `growths` or `no_growth`, which tools/sweep_growths.py runs with one growth after another refused.
 
 usage: tools/test_answers.py
 """
@@ -24,6 +26,8 @@ import sys
 from common import TOP, text_of
 
 CRATES = ["t1_bytes", "t1_char", "t1_run", "t1_join", "t1_font", "t1_document", "t1_subset", "t1_cmd"]
+# Crates whose tests are run with growths refused. The calls of t1_example are examples, whose answers are not told of.
+GROWING = [*CRATES, "t1_example"]
 MEETS = re.compile(r"^// meets (\w+(?:::\w+)?) (\w+)(?: at ([\d, ]+) ([a-z]+))?$")
 LIKE = re.compile(r"^// like (\w+(?:::\w+)?): ([\w:, ]+)$")
 CALL = re.compile(r"^( *)pub fn (\w+)(?:<[^(]*>)?\(([^)]*)\)(?: -> ([^{\n]*))?", re.M)
@@ -292,6 +296,35 @@ def check(crate, enums, wrong):
     return count
 
 
+def bodies_of_tests(crate):
+    """The body of each function of a test module that starts at the margin, by its file and its name."""
+    pattern = re.compile(r"^(?:pub(?:\(\w+\))? )?fn (\w+)(.*?)^}", re.M | re.S)
+    source = os.path.join(TOP, "crates", crate, "src")
+    for path in glob.glob(source + "/tests/*.rt") + [source + "/tests.rt"]:
+        for name, body in pattern.findall(text_of(path)):
+            yield (path, name), body
+
+
+def called_in(crate):
+    """The names that the tests of growths of a crate call, and those that these call in the test module."""
+    bodies = dict(bodies_of_tests(crate))
+    found = [(path, name) for path, name in bodies if name.startswith(("growths", "no_growth"))]
+    called = set()
+    for path, name in found:
+        for word in re.findall(r"(\w+)\(", bodies[path, name]):
+            called.add(word)
+            here = [(path, word)] if (path, word) in bodies else [key for key in bodies if key[1] == word]
+            found.extend(key for key in here if key not in found)
+    return called
+
+
+def lacking(crate):
+    """The public calls of a crate that may need memory and that no test of growths makes."""
+    called = called_in(crate)
+    called |= {below for name, below in stand_over(crate) if name in called}
+    return sorted({call.split("::")[-1] for call, _ in calls(crate)} - called)
+
+
 # What tests meet beside the calls that need memory by their names: methods of traits, and a call that goes two ways by a size.
 MORE = {"join_if_agreed", "decrypt", "likely_places"}
 
@@ -299,6 +332,7 @@ MORE = {"join_if_agreed", "decrypt", "likely_places"}
 def main():
     enums, wrong = variants(), []
     count = sum(check(crate, enums, wrong) for crate in CRATES)
+    wrong += [f"{crate}: no test of growths calls {name}" for crate in GROWING for name in lacking(crate)]
     for line in wrong:
         print(line, file=sys.stderr)
     print(f"{count} answers of public calls that may need memory are met by tests", file=sys.stderr)
