@@ -3,7 +3,7 @@ use Rattle.std.proofs.Common.{◌≡◌, ℕ, refl, sym, ap, subst, ◌∙◌, r
 use Rattle.std.specs.{Prelude.{filter}, List.Sorted.{IsStableByKey, ties}}
 use Rattle.std.specs.{Ordering.{nat_cmp, is_lt, is_eq}, Cmp.{Equal-is}, Cmp.Lexicographic.{nat_list_cmp_total}}
 use Rattle.std.specs.FinSet.{slice_cmp-IsAntisymmetric, nat_cmp-IsAntisymmetric}
-use Rattle.t1_font.{specs.{declared.ranges.Range.{Range}, FontValue.{name_cmp}, Ranges.{bytes_at, by_name, front}}, proofs.Lasts.{tie_is}}
+use Rattle.t1_font.{specs.{declared.ranges.Range.{Range}, FontValue.{name_cmp}, Ranges.{bytes_at, by_name}}, proofs.Lasts.{tie_is}}
 
 -- what passes one test passes another, too: then only what passes that has to be tested
 filter_within : {X : Type 0} (p q : X → Bool) → ((x : X) → p x ≡ true → q x ≡ true) → (xs : List X) → filter p (filter q xs) ≡ filter p xs
@@ -18,26 +18,26 @@ filter_within p q within (x ∷ xs) =
       ] refl
     ] refl
 
-module _ {V : Type 0} (buffer : List ℕ) where
+module _ {V : Type 0} (key : List ℕ → ℕ) (buffer : List ℕ) where
   abbrev by_names : Range × V → Range × V → Bool
   by_names x y = is_lt (by_name buffer x.0 y.0)
 
-  abbrev by_fronts : Range × V → Range × V → Bool
-  by_fronts x y = is_lt (nat_cmp (front (bytes_at buffer x.0)) (front (bytes_at buffer y.0)))
+  abbrev by_keys : Range × V → Range × V → Bool
+  by_keys x y = is_lt (nat_cmp (key (bytes_at buffer x.0)) (key (bytes_at buffer y.0)))
 
-  -- equal names begin with the same bytes
-  same_front : (x y : Range × V) → ties by_names x y ≡ true → ties by_fronts x y ≡ true
-  same_front x y h =
+  -- equal names have one key
+  same_key : (x y : Range × V) → ties by_names x y ≡ true → ties by_keys x y ≡ true
+  same_key x y h =
       let m = bytes_at buffer x.0 in
       let n = bytes_at buffer y.0 in
       let tied : is_eq (name_cmp m n) ≡ true = tie_is (name_cmp m n) (name_cmp n m) (nat_list_cmp_total.antisymm n m) ∙ h in
       let same : m ≡ n = slice_cmp-IsAntisymmetric nat_cmp-IsAntisymmetric m n ((Equal-is (name_cmp m n)).0 tied) in
       let alike : (k : ℕ) → (not (is_lt (nat_cmp k k)) && not (is_lt (nat_cmp k k))) ≡ true = λ k. search rules in
-      subst (λ t. (not (is_lt (nat_cmp (front m) (front t))) && not (is_lt (nat_cmp (front t) (front m)))) ≡ true) same (alike (front m))
+      subst (λ t. (not (is_lt (nat_cmp (key m) (key t))) && not (is_lt (nat_cmp (key t) (key m)))) ≡ true) same (alike (key m))
 
-  -- so lists that keep the order of those that begin alike keep that of equal names
-  pub stable_by_front : (es near : List (Range × V)) → IsStableByKey (λ (e : Range × V). front (bytes_at buffer e.0)) nat_cmp es near →
+  -- so lists that keep the order of those of one key keep that of equal names
+  pub stable_by : (es near : List (Range × V)) → IsStableByKey (λ (e : Range × V). key (bytes_at buffer e.0)) nat_cmp es near →
       IsStableByKey (λ (e : Range × V). e.0) (by_name buffer) es near
-  stable_by_front es near stable x =
-      sym (filter_within (ties by_names x) (ties by_fronts x) (same_front x) near)
-      ∙ (ap (filter (ties by_names x)) (stable x) ∙ filter_within (ties by_names x) (ties by_fronts x) (same_front x) es)
+  stable_by es near stable x =
+      sym (filter_within (ties by_names x) (ties by_keys x) (same_key x) near)
+      ∙ (ap (filter (ties by_names x)) (stable x) ∙ filter_within (ties by_names x) (ties by_keys x) (same_key x) es)

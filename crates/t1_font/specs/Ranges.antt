@@ -1,5 +1,5 @@
 -- Byte strings that stand in a buffer.
-use Rattle.std.specs.{Prelude.{ℕ, ◌+◌, ◌-◌, ◌≤◌, ◌++◌, max, List, take, length, slice_range, replicate}, Int.{w64, from_be_bytes}, List.{All}, declared.cmp.Ordering.{Ordering}}
+use Rattle.std.specs.{Prelude.{ℕ, ◌+◌, ◌-◌, ◌*◌, ◌≤◌, ◌++◌, min, max, List, take, drop, length, slice_range, replicate}, Int.{w64, from_be_bytes}, List.{All}, declared.cmp.Ordering.{Ordering}}
 use Rattle.t1_font.specs.{declared.ranges.Range.{Range}, FontValue.{name_cmp}}
 
 -- the bytes of a range
@@ -33,6 +33,10 @@ by_name buffer r s = name_cmp (bytes_at buffer r) (bytes_at buffer s)
 -- what the first eight bytes of a name spell as a number, the first byte highest: bytes 0 stand behind a shorter name
 abbrev pub front : List ℕ → ℕ
 front name = from_be_bytes w64 (take 8 name ++ replicate (8 - length name) 0)
+
+-- the same of the first sixteen bytes
+abbrev pub long_front : List ℕ → ℕ
+long_front name = front name * 18446744073709551616 + front (drop (min (length name) 8) name)
 
 -- the weight of a Subr, and of a glyph, whose charstring is in a range
 abbrev pub subr_at_weight : ℕ → ℕ → Range → ℕ

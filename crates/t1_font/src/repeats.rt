@@ -2,7 +2,7 @@
 
 ghost use Rattle.std.specs.{Prelude.{◌≡◌, ◌≤◌, ◌↔◌, [], length, drop, IfOk, OnOk, OnErr, IsTrue}, Cmp.{IsTotalOrder, nat_cmp_total}};
 ghost use Rattle.std.specs.{Cmp.Lexicographic.{on_texts}, Ordering.{nat_cmp}, declared.cmp.Ordering.{Ordering}, List.Sorted.{IsPermutation, IsStableByKey}};
-ghost use Rattle.t1_font.specs.{Entries.{comes_again, run_end, run_ends, KeysRise, AreLast, AreSettled}, Ranges.{bytes_at, by_name, front}};
+ghost use Rattle.t1_font.specs.{Entries.{comes_again, run_end, run_ends, KeysRise, AreLast, AreSettled}, Ranges.{bytes_at, by_name, front, long_front}};
 
 use crate::ranges::Range;
 use std::alloc::AllocError;
@@ -26,6 +26,11 @@ pub(crate) trait KeyOrder<K>: Copy + Drop {
     fn presorted<V: Copy + Drop>(self, entries: Vec<(K, V)>) -> Result<Vec<(K, V)>, AllocError>
         ensures same { IfOk result (λ es. IsPermutation entries.items es.items) }
         ensures stable { IfOk result (λ es. IsStableByKey (λ e. e.0) (by self) entries.items es.items) };
+
+    /// The same by more of each key, where `presorted` left something to do.
+    fn resorted<V: Copy + Drop>(self, entries: Vec<(K, V)>) -> Result<Vec<(K, V)>, AllocError>
+        ensures same { IfOk result (λ es. IsPermutation entries.items es.items) }
+        ensures stable { IfOk result (λ es. IsStableByKey (λ e. e.0) (by self) entries.items es.items) };
 }
 
 /// The order of numbers.
@@ -47,6 +52,13 @@ impl KeyOrder<u16> for ByNumber {
     {
         Ok(entries)
     }
+
+    fn resorted<V: Copy + Drop>(self, entries: Vec<(u16, V)>) -> Result<Vec<(u16, V)>, AllocError>
+        ensures same { IfOk result (λ es. IsPermutation entries.items es.items) }
+        ensures stable { IfOk result (λ es. IsStableByKey (λ e. e.0) nat_cmp entries.items es.items) }
+    {
+        Ok(entries)
+    }
 }
 
 /// The number that a name's first eight bytes spell, so that names with different ones are told apart at once.
@@ -57,6 +69,14 @@ fn front(name: &[u8]) -> u64
     let len = name.len().min(8);
     bytes[..len].copy_from_slice(&name[..len]);
     u64::from_be_bytes(bytes)
+}
+
+/// The number that a name's first sixteen bytes spell.
+fn long_front(name: &[u8]) -> u128
+    ensures { result ≡ long_front name.now }
+{
+    let (_, behind) = name.split_at(name.len().min(8));
+    u128::from(front(name)) * (1 << 64) + u128::from(front(behind))
 }
 
 /// The order of names that stand in a buffer.
@@ -84,6 +104,19 @@ impl<'a> KeyOrder<Range> for ByName<'a> {
         let buffer = self.buffer;
         let mut sorted = entries;
         sorted.sort_by_cached_key(|entry| front(entry.0.of(buffer)))?;
+        Ok(sorted)
+    }
+
+    fn resorted<V: Copy + Drop>(
+        self,
+        entries: Vec<(Range, V)>,
+    ) -> Result<Vec<(Range, V)>, AllocError>
+        ensures same { IfOk result (λ es. IsPermutation entries.items es.items) }
+        ensures stable { IfOk result (λ es. IsStableByKey (λ e. e.0) (by_name self.entry.buffer.now) entries.items es.items) }
+    {
+        let buffer = self.buffer;
+        let mut sorted = entries;
+        sorted.sort_by_cached_key(|entry| long_front(entry.0.of(buffer)))?;
         Ok(sorted)
     }
 }
@@ -174,7 +207,11 @@ pub(crate) fn last_entries<K: Copy + Drop, V: Copy + Drop, O: KeyOrder<K>>(
 ) -> Result<Vec<(K, V)>, AllocError>
     ensures { IfOk result (λ last. AreLast (O.by order) entries.items last.items) }
 {
-    let mut last = order.presorted(entries)?;
+    let near = order.presorted(entries)?;
+    if rises(order, near.as_slice()) {
+        return Ok(near);
+    }
+    let mut last = order.resorted(near)?;
     if rises(order, last.as_slice()) {
         return Ok(last);
     }

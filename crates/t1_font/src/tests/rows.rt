@@ -191,3 +191,78 @@ fn a_second_glyph_of_a_name(rt: HostRuntime) -> Result<(), Fail> {
     assert!(rt; has, "X has the bytes of Y");
     Ok(())
 }
+
+/// Tiny with a glyph of each of these names behind its own, with the bytes of Y.
+fn with_names(alloc: Global, names: &[&[u8]]) -> Result<Vec<u8>, AllocError> {
+    let Ok(body) = seal(alloc, Y, CHARSTRING_KEY, 4) else {
+        return Err(AllocError);
+    };
+    let mut entries = Vec::new(alloc);
+    for name in names {
+        entries.push(b'/')?;
+        entries.extend_from_slice(name)?;
+        entries.extend_from_slice(b" 16 RD ")?;
+        entries.extend_from_slice(body.as_slice())?;
+        entries.extend_from_slice(b" ND\n")?;
+    }
+    entries.extend_from_slice(b"end\nend\nreadonly put")?;
+    let text = private(alloc)?;
+    let changed = with(
+        alloc,
+        text.as_slice(),
+        b"end\nend\nreadonly put",
+        entries.as_slice(),
+    )?;
+    file(alloc, &PFA[..313], changed.as_slice())
+}
+
+/// The names of a font's glyphs that begin with `alike`, in their order, a name a line.
+fn names_alike(alloc: Global, source: &Source) -> Result<Vec<u8>, AllocError> {
+    let font = source.font(alloc)?;
+    let mut text = Vec::new(alloc);
+    for name in font.names() {
+        if name.starts_with(b"alike") {
+            text.extend_from_slice(name)?;
+            text.push(b'\n')?;
+        }
+    }
+    Ok(text)
+}
+
+#[test]
+fn names_that_begin_alike(rt: HostRuntime) -> Result<(), Fail> {
+    const ROWS: &[(&[&[u8]], &[u8])] = &[
+        (&[b"alike2", b"alike1"], b"alike1\nalike2\n"),
+        (
+            &[b"alikeness3", b"alikeness1", b"alikeness2"],
+            b"alikeness1\nalikeness2\nalikeness3\n",
+        ),
+        (
+            &[b"alikeness2", b"alikeness1", b"alikeness2"],
+            b"alikeness1\nalikeness2\n",
+        ),
+        (
+            &[b"alikeness", b"alikenes", b"alikeness.b", b"alikeness.a"],
+            b"alikenes\nalikeness\nalikeness.a\nalikeness.b\n",
+        ),
+        (
+            &[b"alikenessalikeness2", b"alikenessalikeness1"],
+            b"alikenessalikeness1\nalikenessalikeness2\n",
+        ),
+        (
+            &[
+                b"alikenessalikeness",
+                b"alikenessalikeness",
+                b"alikenessalikenes",
+            ],
+            b"alikenessalikenes\nalikenessalikeness\n",
+        ),
+    ];
+    for &(names, wanted) in ROWS {
+        let file = with_names(rt.alloc(), names)?;
+        let source = read(rt.alloc(), file.as_slice())?;
+        let text = names_alike(rt.alloc(), &source)?;
+        assert_eq!(rt; text.as_slice(), wanted);
+    }
+    Ok(())
+}
