@@ -86,11 +86,11 @@ def faults(path):
 
 
 def other_layouts(paths):
-    """The lines that the formatter, which stands beside `rt`, prints of files that it would change."""
+    """The lines that the formatter, which stands beside `rt`, prints of files that it would change, or why it tells nothing."""
     formatter = os.path.join(os.path.dirname(os.path.realpath(shutil.which("rt"))), "rattle")
     done = subprocess.run([formatter, "fmt", "--check", *paths], capture_output=True, text=True)
     said = (done.stdout + done.stderr).replace(TOP + os.sep, "").splitlines()
-    return said if done.returncode else []
+    return (said or [f"{formatter} ended with status {done.returncode}"]) if done.returncode else []
 
 
 def main():
