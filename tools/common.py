@@ -123,8 +123,14 @@ def below(names):
     return [crate for crate in needs() if crate in wanted]
 
 
+def home_of_tests(crate):
+    """The crate in which the tests of a crate stand: the one above it that has nothing else, or the crate itself."""
+    above = crate + "_tests"
+    return above if above in needs() else crate
+
+
 def copy_crates(room, names):
-    """A copy of these crates with what was built of their libraries, and without their edits in must-fail."""
+    """A copy of these crates with what was built of their libraries."""
     kept = [line for line in text_of(TOP, "crates.txt").splitlines(True) if re.match(r"\w*", line)[0] in names]
     put("".join(kept).encode(), room, "crates.txt")
     shutil.copy(os.path.join(TOP, "HANDLES"), room)

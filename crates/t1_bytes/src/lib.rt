@@ -38,6 +38,3 @@ pub use hexadecimal::{LINE, hex_lines, trailer};
 pub use limits::FILE_LIMIT;
 pub use lockstep::encrypt_both;
 pub use pfb::{flatten, flatten_vec, segments};
-
-#[cfg(test)]
-mod tests;

@@ -41,8 +41,6 @@ mod rejoins;
 mod several;
 mod show;
 mod subsets;
-#[cfg(test)]
-mod tests;
 mod texts;
 mod writing;
 

@@ -36,6 +36,3 @@ pub use lines::push_document;
 pub use marks::{Kind, Mark, Side};
 pub use names::names_of;
 pub use texts::Texts;
-
-#[cfg(test)]
-mod tests;

@@ -179,6 +179,3 @@ pub fn cut_and_joined(
     let other = other?;
     joined(alloc, one.as_slice(), other.as_slice(), order, form)
 }
-
-#[cfg(test)]
-mod tests;

@@ -17,10 +17,10 @@ use crate::private::{PrivateParts, private_parts};
 use crate::read_shell::kept_shell;
 use crate::repeats::{ByName, ByNumber, last_entries};
 use crate::source::{KeptEncoding, Source, SourceParts, keep_codes};
-use crate::stored::likely_places;
 use crate::subrs::SubrsParts;
 use std::alloc::{AllocError, Global};
 use t1_bytes::{Cipher, EEXEC_KEY, EEXEC_LEAD, FILE_LIMIT, decrypt, find_cipher, flatten_vec};
+use t1_join::likely_places;
 
 /// The flat text of a file, in the file's own vector.
 #[tactic(auto, unfolding(crate::specs::ReadFont::flat_reading))]

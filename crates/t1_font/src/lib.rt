@@ -81,6 +81,3 @@ pub use t1_run::{
 };
 pub use tags::{name_in, untagged};
 pub use writing::write;
-
-#[cfg(test)]
-mod tests;

@@ -23,7 +23,7 @@ pub(crate) enum KeptEncoding {
 }
 
 /// The parts of a font that owns them, which together need not make one. Names of glyphs and charstrings are ranges of
-/// the buffer. Subrs are looked for where they likely stand ([`likely_places`](crate::stored::likely_places)).
+/// the buffer. Subrs are looked for where they likely stand ([`likely_places`](t1_join::likely_places)).
 #[derive(Drop)]
 pub(crate) struct SourceParts {
     pub(crate) shell: Shell,

@@ -7,7 +7,6 @@ ghost use Rattle.std.specs.FinMap as fin;
 
 use crate::ranges::Range;
 use crate::stub::STUB;
-use std::alloc::{AllocError, Global};
 use std::marker::Model;
 
 /// Charstrings by index as they stand in a source: its buffer, and the place of each there; and, by index, where each likely stands
@@ -17,38 +16,6 @@ pub(crate) struct StoredSubrs<'a> {
     buffer: &'a [u8],
     places: &'a [(u16, Range)],
     likely: &'a [u16],
-}
-
-/// How many indices there may be for each entry.
-const INDICES: usize = 8;
-
-/// As many entries are counted at least, so a font of some hundred Subrs has a place for each index, whichever Subrs are left.
-const FEW: usize = 128;
-
-/// Where the entry of each index up to the last one stands, so that a look-up needs no search; an index without an entry has any
-/// place. There are none where each entry's place is its index, and none where few entries have places among very many, so that a
-/// small file takes little room. Whoever takes a place looks whether the index stands there.
-pub(crate) fn likely_places(
-    alloc: Global,
-    entries: &[(u16, Range)],
-) -> Result<Vec<u16>, AllocError> {
-    let mut likely = Vec::new(alloc);
-    let Some((last, _)) = entries.last() else {
-        return Ok(likely);
-    };
-    let count = *last as usize + 1;
-    if count == entries.len() || count / INDICES > entries.len().max(FEW) {
-        return Ok(likely);
-    }
-    likely.resize(count, 0)?;
-    let mut place = 0u16;
-    'entries: for (index, _) in entries {
-        if let Some(at) = likely.get_mut(*index as usize) {
-            *at = place;
-        }
-        place = place.saturating_add(1);
-    }
-    Ok(likely)
 }
 
 impl<'a> Model for StoredSubrs<'a> {
@@ -66,7 +33,7 @@ impl<'a> Model for StoredSubrs<'a> {
 }
 
 impl<'a> StoredSubrs<'a> {
-    /// The table of a source, as it stands there, with the places of [`likely_places`].
+    /// The table of a source, as it stands there, with the places of [`t1_join::likely_places`].
     pub(crate) fn new(buffer: &'a [u8], places: &'a [(u16, Range)], likely: &'a [u16]) -> Self
         requires { Rises nat_cmp (map (numbered_at buffer.now) places.now) }
         ensures { result ≡ fin.from_sorted (map (numbered_at buffer.now) places.now) }

@@ -86,7 +86,7 @@ fn shells_differ(alloc: Global, own: &Font<'_>, fonts: &[Font<'_>]) -> Option<Sh
 
 /// The first part in which the first of the fonts whose shell differs from that of the first font differs from it, whichever
 /// Subrs are present. No glyph is run.
-pub(crate) fn shells_conflict(alloc: Global, fonts: &[Font<'_>]) -> Option<ShellPart>
+pub fn shells_conflict(alloc: Global, fonts: &[Font<'_>]) -> Option<ShellPart>
     ensures { option_map shell_part result ≡ shells_conflict fonts.now }
 {
     match fonts {

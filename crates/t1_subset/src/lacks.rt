@@ -14,11 +14,11 @@ use t1_run::{Budget, Stop, Subroutines};
 
 /// A Subr that a glyph executes, that its font declares and lacks, and that another font has.
 #[derive(Clone, Copy, PartialEq, Eq, Debug)]
-pub(crate) struct Lack<'a> {
+pub struct Lack<'a> {
     /// The index of the Subr.
-    pub(crate) index: u16,
+    pub index: u16,
     /// The name of the glyph.
-    pub(crate) glyph: &'a [u8],
+    pub glyph: &'a [u8],
 }
 
 /// Whether one of the fonts has a Subr at the index.
@@ -104,7 +104,11 @@ fn lack_in<'a>(
 /// the smallest such index, and the smallest such glyph. If a stub stood there, the glyph would draw something else.
 ///
 /// If all fonts have Subrs at the same indices, none lacks any, and no glyph is run.
-pub(crate) fn first_lack<'a>(
+///
+/// # Errors
+///
+/// Want of memory, and [`Stop::TooManyTokens`] only if the budget doesn't cover all glyphs of the fonts.
+pub fn first_lack<'a>(
     alloc: Global,
     fonts: &[Font<'a>],
     budget: Budget,

@@ -48,6 +48,8 @@ pub use closures::closure;
 pub use conflict::{Conflict, ShellPart};
 pub use differences::{conflicts, conflicts_within};
 pub use fault::{RejoinFault, SubsetFault};
+pub use groupings::shells_conflict;
+pub use lacks::{Lack, first_lack};
 pub use merger::{merge, merge_all, merge_all_within};
 pub use needed::Closure;
 pub use rejoins::{fonts_of, rejoin, rejoin_within};
@@ -55,6 +57,3 @@ pub use state_making::states;
 pub use state_value::States;
 pub use subsets::{subset, subset_within};
 pub use t1_run::{Budget, Stop};
-
-#[cfg(test)]
-mod tests;

@@ -1,0 +1,139 @@
+//! Fonts that other programs spell: what they are mended to, and that they rejoin with what is spelled as this program does.
+use super::changed::{tiny_encoded, with_all};
+use super::engines::{Engine, answer, answers};
+use super::lists::{List, listed};
+use std::alloc::{AllocError, Global};
+use std::test::Fail;
+use t1_cmd::{Counted, list_mends, run_mend};
+use t1_font::Form;
+use t1_tiny::{PFA, PFB};
+
+/// How Tiny begins.
+const BEGINS: &[u8] = b"%!";
+
+/// The test whether a font was loaded before, before that.
+const TESTED: &[u8] =
+    b"FontDirectory/Tiny known{/Tiny findfont dup/UniqueID known{dup/UniqueID get 7 eq exch
+/FontType get 1 eq and}{pop false}ifelse{save true}{false}ifelse}{false}ifelse%!";
+
+/// Tiny with a comment in its Encoding.
+fn commented(alloc: Global) -> Result<Vec<u8>, AllocError> {
+    const TEXT: &[u8] = b"/Encoding 256 array
+0 1 255 {1 index exch /.notdef put} for
+dup 65 /X put
+dup 66 /Y put % endarray
+dup 194 /H put
+readonly def";
+    tiny_encoded(alloc, TEXT)
+}
+
+/// Tiny with a code that gets its name by a copy.
+fn copied(alloc: Global) -> Result<Vec<u8>, AllocError> {
+    const TEXT: &[u8] = b"/Encoding 256 array
+0 1 255 {1 index exch /.notdef put} for
+dup 66 /X put
+dup dup 65 exch 66 get put
+dup 66 /Y put
+dup 194 /H put
+readonly def";
+    tiny_encoded(alloc, TEXT)
+}
+
+/// Whether a file is refused as it is, and mended to Tiny in both forms.
+fn is_mended(alloc: Global, file: &[u8]) -> bool {
+    answer(alloc, Engine::Check, file).starts_with(b"refused: bad Encoding at ")
+        && answers(alloc, Engine::Mend(Form::Pfa), file, PFA)
+        && answers(alloc, Engine::Mend(Form::Pfb), file, PFB)
+}
+
+/// What the engine tells of a file's mending.
+fn ran(alloc: Global, file: &[u8]) -> Result<Vec<u8>, AllocError> {
+    let mut out = Vec::new(alloc);
+    let mut reader = Counted::new(file);
+    match run_mend(alloc, &mut reader, Form::Pfa, &mut Counted::new(&mut out)) {
+        Ok(lines) => Ok(lines),
+        Err(fault) => {
+            drop(fault);
+            Err(AllocError)
+        }
+    }
+}
+
+/// What the call tells of it.
+fn told(alloc: Global, file: &[u8]) -> Result<Vec<u8>, AllocError> {
+    match list_mends(alloc, file) {
+        Ok(lines) => Ok(lines),
+        Err(reason) => {
+            drop(reason);
+            Err(AllocError)
+        }
+    }
+}
+
+/// Whether both tell these lines.
+fn tells(alloc: Global, file: &[u8], want: &[u8]) -> Result<bool, AllocError> {
+    let ran = ran(alloc, file)?;
+    let told = told(alloc, file)?;
+    Ok(ran.as_slice() == want && told.as_slice() == want)
+}
+
+#[test]
+fn mending_is_told(rt: HostRuntime) -> Result<(), Fail> {
+    const BOTH: &[u8] = b"comment in Encoding at 387\ntest of FontDirectory taken out at 0\n";
+    let commented = commented(rt.alloc())?;
+    let copied = copied(rt.alloc())?;
+    let tested = with_all(rt.alloc(), commented.as_slice(), BEGINS, TESTED)?;
+    let rows: [(&[u8], &[u8], &str); 5] = [
+        (PFA, b"", "Tiny"),
+        (PFB, b"", "the PFB"),
+        (
+            commented.as_slice(),
+            b"comment in Encoding at 223\n",
+            "a comment",
+        ),
+        (copied.as_slice(), b"code copied at 209\n", "a copy"),
+        (tested.as_slice(), BOTH, "a comment, and the test"),
+    ];
+    for (file, want, what) in rows {
+        let right = tells(rt.alloc(), file, want)?;
+        assert!(rt; right, "{what}");
+    }
+    Ok(())
+}
+
+// meets run_mend Ok at 11 glyphs
+// like run_mend: mend_file, list_mends
+#[test]
+fn tiny_is_mended(rt: HostRuntime) -> Result<(), Fail> {
+    let files = [commented(rt.alloc())?, copied(rt.alloc())?];
+    for file in files.as_slice() {
+        assert!(rt; is_mended(rt.alloc(), file.as_slice()));
+    }
+    assert!(rt; answers(rt.alloc(), Engine::Mend(Form::Pfa), PFB, PFA));
+    assert!(rt; answers(rt.alloc(), Engine::Mend(Form::Pfb), PFA, PFB));
+    Ok(())
+}
+
+/// What Tiny is mended to when the test stands before its first bytes: Tiny with an empty text there.
+#[test]
+fn tests_are_taken_out(rt: HostRuntime) -> Result<(), Fail> {
+    let tested = with_all(rt.alloc(), PFA, BEGINS, TESTED)?;
+    let kept = answer(rt.alloc(), Engine::Convert(Form::Pfa), tested.as_slice());
+    assert!(rt; kept.as_slice() == tested.as_slice(), "pfa leaves it");
+    let file = tested.as_slice();
+    assert!(rt;
+        answers(rt.alloc(), Engine::Mend(Form::Pfa), file, PFA),
+        "mend takes it out"
+    );
+    Ok(())
+}
+
+#[test]
+fn mended_fonts_rejoin(rt: HostRuntime) -> Result<(), Fail> {
+    let tested = with_all(rt.alloc(), PFA, BEGINS, TESTED)?;
+    let commented = commented(rt.alloc())?;
+    let files = [tested.as_slice(), commented.as_slice(), PFB];
+    let list = listed(rt.alloc(), List::Rejoin(Form::Pfa), &files);
+    assert!(rt; list.as_slice() == PFA.as_slice());
+    Ok(())
+}

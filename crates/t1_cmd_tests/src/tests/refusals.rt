@@ -1,0 +1,393 @@
+//! Each refusal of a font by each engine, with the line that is printed: of the engines over one font, and of those over
+//! lists, whose third font is the one that is refused.
+use super::changed::file_of;
+use super::diffs::refuses as diff_refuses;
+use super::engines::{ENGINES, answers, made, run};
+use super::lists::{LISTS, listed, made_of, refused_place, run_list_of};
+use super::word;
+use std::alloc::{AllocError, Global};
+use std::io;
+use std::io::Read;
+use std::test::Fail;
+use t1_cmd::{
+    Counted, FILE_LIMIT, FilesRefusal, Reason, RunFault, diff_files, extract_file, join_listings,
+    level_files, list_fonts, pool_files, read_all, run_diff, run_extract, run_fonts, run_join,
+    run_level, run_pool,
+};
+use t1_tiny::PFA;
+
+/// Files whose containers or clear texts are refused, and the line.
+const CLEAR: &[(&[u8], &[u8])] = &[
+    (b"\x80\x04", b"refused: bad segment at 0\n"),
+    (b"", b"refused: no eexec\n"),
+    (
+        b"currentfile eexec \x81\x82\x83",
+        b"refused: cipher too short\n",
+    ),
+    (
+        b"currentfile eexec \x81\x82\x83\x84",
+        b"refused: no Encoding\n",
+    ),
+    (
+        b"/Encoding def currentfile eexec \x81\x82\x83\x84",
+        b"refused: bad Encoding at 0\n",
+    ),
+];
+
+/// Private texts that are refused, and the line.
+const PRIVATE: &[(&[u8], &[u8])] = &[
+    (b"/lenIV -1 def", b"refused: no CharStrings\n"),
+    (
+        b"/lenIV -1 def /CharStrings 1 dict dup begin ",
+        b"refused: bad lenIV\n",
+    ),
+    (
+        b"/lenIV 0 def /Subrs 1 array dup /CharStrings 1 dict dup begin ",
+        b"refused: bad Subrs at 28\n",
+    ),
+    (
+        b"/CharStrings 1 dict dup begin /.notdef ",
+        b"refused: bad CharStrings at 30\n",
+    ),
+    (
+        b"/CharStrings 0 dict dup begin end /Subrs 0 array ",
+        b"refused: hybrid font\n",
+    ),
+    (
+        b"/CharStrings 0 dict dup begin end close file",
+        b"refused: no closefile\n",
+    ),
+    (
+        b"/CharStrings 0 dict dup begin end closefile",
+        b"refused: no .notdef\n",
+    ),
+    (
+        b"/lenIV 0 def /Subrs 65536 array ND /CharStrings 0 dict dup begin /.notdef 0 RD  ND end closefile",
+        b"refused: over a limit\n",
+    ),
+];
+
+/// Whether each engine over one font, and each over a list with this as its third font, refuses a file with this line.
+fn all_refuse(alloc: Global, file: &[u8], line: &[u8]) -> bool {
+    for &engine in ENGINES {
+        if !answers(alloc, engine, file, line) {
+            return false;
+        }
+    }
+    third_is_refused(alloc, file, line) && diff_refuses(alloc, file, line)
+}
+
+/// Whether each engine over a list refuses a file with this line where it is the third of four, and the call below it tells
+/// its place.
+fn third_is_refused(alloc: Global, file: &[u8], line: &[u8]) -> bool {
+    for &list in LISTS {
+        let files = [PFA, PFA, file, b""];
+        if listed(alloc, list, &files).as_slice() != line {
+            return false;
+        }
+        if refused_place(alloc, list, &files) != Some(2) {
+            return false;
+        }
+    }
+    true
+}
+
+// meets run_check BadSegment
+// meets run_check NoEexec
+// meets run_check ShortCipher
+// meets run_check NoEncoding
+// meets run_check BadEncoding
+// meets run_check NoCharStrings
+// meets run_check BadLenIV
+// meets run_check BadSubrs
+// meets run_check BadGlyphs
+// meets run_check Hybrid
+// meets run_check NoClosefile
+// meets run_check NoNotdef
+// meets run_check Limit
+// like run_check: run_check_of, run_list, run_list_full, run_show, run_convert, run_mend, run_subset, run_subset_with_codes, run_merge, run_rejoin
+// like run_check: check_file, list_file, list_file_full, show_file, convert_file, mend_file, list_mends
+// like run_check: subset_file, subset_file_with_codes, merge_files, rejoin_files, run_diff, diff_files
+#[test]
+fn each_fault_by_each_engine(rt: HostRuntime) -> Result<(), Fail> {
+    for &(file, line) in CLEAR {
+        assert!(rt; all_refuse(rt.alloc(), file, line), "{}", line.len());
+    }
+    for &(private, line) in PRIVATE {
+        let file = file_of(rt.alloc(), 0, private)?;
+        assert!(rt;
+            all_refuse(rt.alloc(), file.as_slice(), line),
+            "{}",
+            line.len()
+        );
+    }
+    Ok(())
+}
+
+/// So many zeros.
+#[derive(Drop)]
+struct Zeros {
+    left: usize,
+}
+
+impl Read for Zeros {
+    fn read(&mut self, buf: &mut [u8]) -> io::Result<usize> {
+        let n = self.left.min(buf.len());
+        buf[..n].fill(0);
+        self.left -= n;
+        Ok(n)
+    }
+}
+
+/// Whether a run is refused for a file over the limit.
+fn is_too_long(ended: &Result<(), RunFault>) -> bool {
+    matches!(ended, Err(RunFault::Refused(Reason::TooLong)))
+}
+
+/// Whether so many zeros are too long for each engine over a list.
+fn are_too_long_in_a_list(alloc: Global, count: usize) -> bool {
+    for &list in LISTS {
+        let mut out = Vec::new(alloc);
+        let mut zeros = [Counted::new(Zeros { left: count })];
+        let ended = run_list_of(alloc, list, &mut zeros, &mut Counted::new(&mut out));
+        let told = is_too_long(&ended);
+        drop(ended);
+        if !told || !out.is_empty() {
+            return false;
+        }
+    }
+    true
+}
+
+/// Whether so many zeros are too long for each engine over one font.
+fn are_too_long(alloc: Global, count: usize) -> Result<bool, AllocError> {
+    for &engine in ENGINES {
+        let mut out = Vec::new(alloc);
+        let mut zeros = Counted::new(Zeros { left: count });
+        let ended = run(alloc, engine, &mut zeros, &mut Counted::new(&mut out));
+        let told = is_too_long(&ended);
+        drop(ended);
+        if !told || !out.is_empty() {
+            return Ok(false);
+        }
+    }
+    Ok(true)
+}
+
+/// Whether a file is too long for the call below each engine.
+fn is_too_long_a_file(alloc: Global, file: &[u8]) -> bool {
+    for &engine in ENGINES {
+        if !matches!(made(alloc, engine, file), Err(Reason::TooLong)) {
+            return false;
+        }
+    }
+    for &list in LISTS {
+        let refused = made_of(alloc, list, &[file]);
+        if !matches!(
+            refused,
+            Err(FilesRefusal {
+                place: Some(0),
+                reason: Reason::TooLong
+            })
+        ) {
+            return false;
+        }
+    }
+    true
+}
+
+/// Whether a text is too long for the call over two texts, at either place.
+fn is_too_long_a_listing(alloc: Global, text: &[u8]) -> bool {
+    let first = join_listings(alloc, text, b"");
+    let second = join_listings(alloc, b"", text);
+    matches!(
+        first,
+        Err(FilesRefusal {
+            place: Some(0),
+            reason: Reason::TooLong
+        })
+    ) && matches!(
+        second,
+        Err(FilesRefusal {
+            place: Some(1),
+            reason: Reason::TooLong
+        })
+    )
+}
+
+/// Whether a file is too long for the call over two fonts, at either place.
+fn is_too_long_to_compare(alloc: Global, file: &[u8]) -> bool {
+    let first = diff_files(alloc, file, b"");
+    let second = diff_files(alloc, PFA, file);
+    matches!(
+        first,
+        Err(FilesRefusal {
+            place: Some(0),
+            reason: Reason::TooLong
+        })
+    ) && matches!(
+        second,
+        Err(FilesRefusal {
+            place: Some(1),
+            reason: Reason::TooLong
+        })
+    )
+}
+
+/// How Tiny and so many zeros are compared, as a word.
+fn compared_zeros(alloc: Global, count: usize) -> &'static str {
+    let mut right = Counted::new(Zeros { left: count });
+    let mut out = Vec::new(alloc);
+    let ended = run_diff(
+        alloc,
+        &mut Counted::new(PFA.as_slice()),
+        &mut right,
+        &mut Counted::new(&mut out),
+    );
+    let ended = ended.map(|_| ());
+    let word = if is_too_long(&ended) {
+        "too long"
+    } else {
+        word(&ended)
+    };
+    drop(ended);
+    word
+}
+
+/// An engine over documents.
+#[derive(Clone, Copy)]
+enum Engine {
+    Pool,
+    Level,
+    Fonts,
+    Extract,
+}
+
+/// How an engine over documents of so many zeros ends, as a word.
+fn zeros_as_documents(alloc: Global, left: usize, right: usize, engine: Engine) -> &'static str {
+    let mut readers = [
+        Counted::new(Zeros { left }),
+        Counted::new(Zeros { left: right }),
+    ];
+    let mut out = Vec::new(alloc);
+    let mut writer = Counted::new(&mut out);
+    let ended = match engine {
+        Engine::Pool => run_pool(alloc, false, &mut readers, &mut writer).map(|_| ()),
+        Engine::Level => run_level(alloc, &mut readers).map(|_| ()),
+        Engine::Fonts => run_fonts(alloc, &[], &mut readers, &mut writer),
+        Engine::Extract => run_extract(alloc, b"Tiny", &mut readers, &mut writer),
+    };
+    let word = if is_too_long(&ended) {
+        "too long"
+    } else {
+        word(&ended)
+    };
+    drop(ended);
+    word
+}
+
+/// Whether it is told that the document at this place is too long, or that all are.
+fn told_too_long<T: Drop>(answer: Result<T, FilesRefusal>, at: Option<usize>) -> bool {
+    match answer {
+        Ok(value) => {
+            drop(value);
+            false
+        }
+        Err(FilesRefusal { place, reason }) => {
+            let long = matches!(&reason, Reason::TooLong);
+            drop(reason);
+            long && place == at
+        }
+    }
+}
+
+/// Whether a document is too long for each call over documents, behind an empty one and before itself.
+fn is_too_long_a_document(alloc: Global, document: &[u8]) -> bool {
+    let documents = [b"".as_slice(), document, document];
+    told_too_long(pool_files(alloc, false, &documents), Some(1))
+        && told_too_long(level_files(alloc, &documents), Some(1))
+        && told_too_long(list_fonts(alloc, &[], &documents), Some(1))
+        && told_too_long(extract_file(alloc, b"Tiny", &documents), Some(1))
+}
+
+/// How many bytes of so many zeros are read, if they are not too long.
+fn read_zeros(alloc: Global, count: usize) -> Option<usize> {
+    match read_all(alloc, &mut Counted::new(Zeros { left: count }), FILE_LIMIT) {
+        Ok(bytes) => Some(bytes.len()),
+        Err(fault) => {
+            drop(fault);
+            None
+        }
+    }
+}
+
+/// How two listings of so many zeros join, as a word.
+fn joined_zeros(alloc: Global, left: usize, right: usize) -> &'static str {
+    let mut left = Counted::new(Zeros { left });
+    let mut right = Counted::new(Zeros { left: right });
+    let mut out = Vec::new(alloc);
+    let ended = run_join(alloc, &mut left, &mut right, &mut Counted::new(&mut out));
+    let word = if is_too_long(&ended) {
+        "too long"
+    } else {
+        word(&ended)
+    };
+    drop(ended);
+    word
+}
+
+// meets read_all Ok at 268435456 bytes
+// meets read_all TooLong at 268435457 bytes
+// meets run_join TooLong at 268435457 bytes
+// like run_join: join_listings
+// meets run_check TooLong at 268435457 bytes
+// like run_check: run_check_of, run_list, run_list_full, run_show, run_convert, run_mend, run_subset, run_subset_with_codes, run_merge, run_rejoin
+// like run_check: check_file, list_file, list_file_full, show_file, convert_file, mend_file, list_mends
+// like run_check: subset_file, subset_file_with_codes, merge_files, rejoin_files, run_diff, diff_files
+#[test]
+fn files_over_the_limit(rt: HostRuntime) -> Result<(), Fail> {
+    // FILE_LIMIT is 268435456.
+    assert_eq!(rt; read_zeros(rt.alloc(), FILE_LIMIT), Some(268_435_456));
+    assert_eq!(rt; read_zeros(rt.alloc(), 268_435_457), None);
+    assert!(rt; are_too_long(rt.alloc(), 268_435_457)?);
+    assert!(rt; are_too_long_in_a_list(rt.alloc(), 268_435_457));
+    let mut zeros = Counted::new(Zeros { left: 268_435_457 });
+    let file = read_all(rt.alloc(), &mut zeros, 268_435_457)?;
+    assert!(rt; is_too_long_a_file(rt.alloc(), file.as_slice()));
+    assert!(rt; is_too_long_a_listing(rt.alloc(), file.as_slice()));
+    assert!(rt; is_too_long_to_compare(rt.alloc(), file.as_slice()));
+    drop(file);
+    assert_eq!(rt; joined_zeros(rt.alloc(), 0, 268_435_457), "too long");
+    assert_eq!(rt; joined_zeros(rt.alloc(), 268_435_457, 0), "too long");
+    assert_eq!(rt; compared_zeros(rt.alloc(), 268_435_457), "too long");
+    Ok(())
+}
+
+// meets run_pool TooLong at 268435457 bytes
+// meets run_level TooLong at 268435457 bytes
+// like run_pool: run_fonts, run_extract, pool_files, level_files, list_fonts, extract_file
+#[test]
+fn documents_over_the_limit(rt: HostRuntime) -> Result<(), Fail> {
+    let alloc = rt.alloc();
+    const CASES: &[(usize, usize, Engine, &str)] = &[
+        (1, 268_435_457, Engine::Pool, "too long"),
+        (268_435_457, 1, Engine::Level, "too long"),
+        (134_217_728, 134_217_728, Engine::Pool, "too long"),
+        (1, 1, Engine::Pool, "ok"),
+        (1, 268_435_457, Engine::Fonts, "too long"),
+        (268_435_457, 1, Engine::Extract, "too long"),
+        (1, 1, Engine::Extract, "refused"),
+    ];
+    for &(left, right, engine, want) in CASES {
+        let word = zeros_as_documents(alloc, left, right, engine);
+        assert!(rt; word == want, "{left} {right}");
+    }
+    let mut zeros = Counted::new(Zeros { left: 268_435_457 });
+    let file = read_all(alloc, &mut zeros, 268_435_457)?;
+    assert!(rt; is_too_long_a_document(alloc, file.as_slice()));
+    match file.as_slice().get(..134_217_728) {
+        Some(half) => assert!(rt; told_too_long(pool_files(alloc, true, &[half, half]), None)),
+        None => assert!(rt; false, "a file that is too short"),
+    }
+    Ok(())
+}
