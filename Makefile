@@ -24,13 +24,13 @@ bin/t1subset: crates.txt $(shell find crates -name out -prune -o -type f -print)
 # The library for C. The crates below it are those of the program.
 lib: lib/libt1subset.a
 
-lib/libt1subset.a: bin/t1subset include/t1subset.h $(wildcard c/t1subset.*) tools/build_library.sh tools/prove_t1_c.sh
+lib/libt1subset.a: bin/t1subset include/t1subset.h $(wildcard c/t1subset.*) tools/build_library.sh tools/build.py
 	tools/build_library.sh lib
 
 # The page of web/: the module, which stands in module.js.
 web: web/module.js
 
-web/module.js: bin/t1subset include/t1subset.h web/heap.c web/int128.c tools/build_web.sh tools/narrow_module.py tools/prove_t1_c.sh
+web/module.js: bin/t1subset include/t1subset.h web/heap.c web/int128.c tools/build_web.sh tools/narrow_module.py tools/build.py
 	tools/build_web.sh web
 
 install: install-program $(LIB)/libt1subset.a docs/t1subset.3

@@ -3,7 +3,7 @@
 #
 # usage: tools/build_library.sh [FOLDER]    by default lib/
 #
-# tools/prove_t1_c.sh proves and compiles t1_c. T1_C names another archive, for example one for another target; CC, CFLAGS,
+# tools/build.py proves and compiles t1_c. T1_C names another archive, for example one for another target; CC, CFLAGS,
 # LDFLAGS, LD, AR and OBJCOPY are those of that target then.
 set -e
 top=$(cd "$(dirname "$0")/.." && pwd)
@@ -14,7 +14,7 @@ version=$(sed -n '1s/.*"t1subset \([0-9.]*\)".*/\1/p' docs/t1subset.3)
 soname=libt1subset.so.${version%%.*}
 
 if [ -z "$T1_C" ]; then
-    tools/prove_t1_c.sh
+    tools/build.py t1_c
     T1_C=crates/t1_c/out/libt1_c.a
 fi
 T1_C=$(cd "$(dirname "$T1_C")" && pwd)/$(basename "$T1_C")

@@ -3,7 +3,7 @@
 #
 # usage: tools/build_web.sh [FOLDER]    by default web/
 #
-# tools/prove_t1_c.sh proves t1_c, and keeps what the kit's compiler gives to clang: a module for x86-64. The kit's clang writes it as
+# tools/build.py proves t1_c, and keeps what the kit's compiler gives to clang: a module for x86-64. The kit's clang writes it as
 # text, tools/narrow_module.py rewrites that text for pointers of 32 bits, and the kit's clang compiles and links it with
 # web/heap.c and web/int128.c. No header and no library of another kit is needed. T1_C_MODULE names another module of t1_c.
 set -e
@@ -11,7 +11,7 @@ top=$(cd "$(dirname "$0")/.." && pwd)
 mkdir -p "${1:-$top/web}"
 out=$(cd "${1:-$top/web}" && pwd)
 module=${T1_C_MODULE:-$top/crates/t1_c/out/t1_c.bc}
-[ -n "$T1_C_MODULE" ] || "$top/tools/prove_t1_c.sh"
+[ -n "$T1_C_MODULE" ] || "$top/tools/build.py" t1_c
 command -v rt > /dev/null || { echo "$0: no rt: install the Rattle kit" >&2; exit 1; }
 kit=$(dirname "$(dirname "$(readlink -f "$(command -v rt)")")")
 work=$(mktemp -d)

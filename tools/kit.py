@@ -6,10 +6,11 @@ that the crates above it read.
 import functools
 import hashlib
 import os
+import re
 import shutil
 import sys
 
-from common import TOP, below, bytes_of, needs
+from common import TOP, below, bytes_of, needs, text_of
 
 # How much memory a check may take, in bytes.
 CHECK = 3_000_000_000
@@ -31,9 +32,16 @@ def is_program(crate):
     return os.path.exists(os.path.join(TOP, "crates", crate, "src/main.rt"))
 
 
+def is_static(crate):
+    """Whether a crate is a static library, for programs in other languages."""
+    return re.search(rf"^{crate} staticlib *:", text_of(TOP, "crates.txt"), re.M) is not None
+
+
 def words_of(crate, root=TOP):
     """The words that name a crate, to be read in its folder, and the libraries below it."""
     words = ["--crate-name", crate, "src/main.rt" if is_program(crate) else "src/lib.rt", "--extern", f"std={library('std')}"]
+    words += ["--crate-type", "staticlib"] if is_static(crate) else []
+    words += ["--links", f"{crate}="] if is_static(crate) or is_program(crate) else []
     for name in needs()[crate]:
         words += ["--extern", f"{name}={library(name, root)}"]
     for folder in [os.path.join(kit(), "rlibs")] + [os.path.dirname(library(name, root)) for name in below([crate]) if name in needs()]:
@@ -55,11 +63,17 @@ def files_of(crate):
                 yield os.path.join(at, name)
 
 
-def sum_of_crate(crate):
-    """A sum of all that the proof of a crate rests on: its files, its line of crates.txt, the kit, and the libraries below it as they stand."""
-    total = hashlib.sha256(repr((needs()[crate], bytes_of(kit(), "KIT-ID"))).encode())
+def sum_of_files(crate):
+    """A sum of what stands in a crate: its files and its line of crates.txt."""
+    total = hashlib.sha256(repr((needs()[crate], is_static(crate))).encode())
     for path in files_of(crate):
         total.update(repr((os.path.relpath(path, TOP), bytes_of(path))).encode())
+    return total.hexdigest()
+
+
+def sum_of_crate(crate):
+    """A sum of all that the proof of a crate rests on: what stands in it, the kit, and the libraries below it as they were built."""
+    total = hashlib.sha256(repr((sum_of_files(crate), bytes_of(kit(), "KIT-ID"))).encode())
     for name in below([crate]):
         # The format of a library holds the sum of its files.
         path = os.path.join(library(name), "format")

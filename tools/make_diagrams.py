@@ -46,8 +46,8 @@ def box(x, y, name, about, width=WIDTH):
 
 
 def ours():
-    """What each crate rests on, of the crates of this repository."""
-    all_needs = needs()
+    """What each crate rests on, of the crates of this repository but for those that have tests alone."""
+    all_needs = {crate: deps for crate, deps in needs().items() if not crate.endswith("_tests")}
     return {crate: [dep for dep in deps if dep in all_needs] for crate, deps in all_needs.items()}
 
 

@@ -16,7 +16,7 @@ import sys
 import tempfile
 from concurrent.futures import ThreadPoolExecutor
 
-from common import BUILDS, EEXEC, TINY, TINY_PFB, TOP, bytes_of, ciphered, compiler, example, put, segments
+from common import BUILDS, EEXEC, TINY, TINY_PFB, TOP, bytes_of, ciphered, compiler, example, home_of_tests, put, segments
 from test_answers import GROWING
 
 PROGRAM = BUILDS[0]
@@ -220,7 +220,8 @@ def listing_cases():
 
 def built_tests(crate):
     """The words that run each test of growths of a crate, and whether it refuses all."""
-    path = os.path.join(TOP, "crates", crate, "out", crate + "_tests")
+    home = home_of_tests(crate)
+    path = os.path.join(TOP, "crates", home, "out", home + "_tests")
     listed = subprocess.run([path, "--list"], capture_output=True, text=True, check=True).stdout
     for name in re.findall(r"^(.*): test$", listed, re.M):
         word = name.rsplit("::", 1)[-1]

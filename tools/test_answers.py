@@ -23,7 +23,7 @@ import os
 import re
 import sys
 
-from common import TOP, text_of
+from common import TOP, home_of_tests, text_of
 
 CRATES = ["t1_bytes", "t1_char", "t1_run", "t1_join", "t1_font", "t1_document", "t1_subset", "t1_cmd"]
 # Crates whose tests are run with growths refused. The calls of t1_example are examples, whose answers are not told of.
@@ -128,11 +128,11 @@ THRESHOLDS = {
     "t1_font/COUNT_LIMIT": ["read", "read_vec", "read_wide", "read_wide_vec", "mends", "join_parts"],
     "t1_font/WEIGHT_LIMIT": ["read", "read_vec", "read_wide", "read_wide_vec", "mends", "join_parts", "fill_all"],
     "t1_font/MARKERS": ["write"],
-    "t1_font/FEW": ["likely_places"],
-    "t1_font/INDICES": ["likely_places"],
     "t1_font/CODES": ["read", "read_vec", "read_wide", "read_wide_vec", "mends"],
     "t1_join/NAME_LIMIT": ["read"],
     "t1_join/DIGITS_LIMIT": ["read"],
+    "t1_join/FEW": ["likely_places"],
+    "t1_join/INDICES": ["likely_places"],
     "t1_run/TOKENS": ["direct", "direct3"],
 }
 # Constants that are part of a format or of a computation, and choose nothing by a size.
@@ -150,7 +150,7 @@ FIXED["t1_bytes"] += ["FILE_LIMIT"]
 
 def sources(crate, tests=False):
     """The paths of a crate's code, or of its tests."""
-    source = os.path.join(TOP, "crates", crate, "src")
+    source = os.path.join(TOP, "crates", home_of_tests(crate) if tests else crate, "src")
     paths = glob.glob(source + "/*.rt") + glob.glob(source + "/tests/*.rt")
     return sorted(path for path in paths if ("/tests" in path[len(source) :]) == tests)
 
@@ -299,8 +299,7 @@ def check(crate, enums, wrong):
 def bodies_of_tests(crate):
     """The body of each function of a test module that starts at the margin, by its file and its name."""
     pattern = re.compile(r"^(?:pub(?:\(\w+\))? )?fn (\w+)(.*?)^}", re.M | re.S)
-    source = os.path.join(TOP, "crates", crate, "src")
-    for path in glob.glob(source + "/tests/*.rt") + [source + "/tests.rt"]:
+    for path in sources(crate, tests=True):
         for name, body in pattern.findall(text_of(path)):
             yield (path, name), body
 
@@ -326,7 +325,7 @@ def lacking(crate):
 
 
 # What tests meet beside the calls that need memory by their names: methods of traits, and a call that goes two ways by a size.
-MORE = {"join_if_agreed", "decrypt", "likely_places"}
+MORE = {"join_if_agreed", "decrypt"}
 
 
 def main():

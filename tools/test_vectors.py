@@ -5,7 +5,7 @@ import os
 import re
 import sys
 
-from common import TOP, text_of
+from common import TOP, home_of_tests, text_of
 
 TEST = re.compile(r"`(\w+)/([\w/]+\.rt)::(\w+)`")
 BODY = re.compile(r"`(\w+)/(\w+)`")
@@ -13,13 +13,13 @@ BODY = re.compile(r"`(\w+)/(\w+)`")
 
 def has_test(crate, path, name):
     try:
-        return re.search(rf"#\[test\]\nfn {name}\(", text_of(TOP, "crates", crate, "src", path)) is not None
+        return re.search(rf"#\[test\]\nfn {name}\(", text_of(TOP, "crates", home_of_tests(crate), "src", path)) is not None
     except OSError:
         return False
 
 
 def has_body(crate, name):
-    places = (f"crates/{crate}/must-fail", f"tools/wrong-bodies/{crate}", f"tools/wrong-bodies/{crate}/*")
+    places = (f"tools/must-fail/{crate}", f"tools/wrong-bodies/{crate}", f"tools/wrong-bodies/{crate}/*")
     return any(glob.glob(os.path.join(TOP, place, name + ".edit")) for place in places)
 
 

@@ -459,7 +459,7 @@ fn prints_refusals(rt: HostRuntime) -> Result<(), Fail> {
     ];
     for &(fault, text) in ROWS {
         let printed = fault.to_string(rt.alloc())?;
-        assert_eq!(rt; printed.as_str(), text);
+        assert!(rt; printed.as_str() == text);
     }
     Ok(())
 }

@@ -69,9 +69,8 @@ fn expected(first: u8) -> Token {
 fn reads_each_first_byte(rt: HostRuntime) {
     for first in 0..=255u8 {
         let bytes = [first, 0, 0, 0, 0];
-        assert_eq!(rt;
-            Tokens::new(&bytes).next(),
-            Some(expected(first)),
+        assert!(rt;
+            Tokens::new(&bytes).next() == Some(expected(first)),
             "first byte {first}"
         );
     }
@@ -83,13 +82,12 @@ fn reads_each_escape(rt: HostRuntime) {
         let bytes = [12, second, 14];
         let want = coded(&ESCAPES, second, 3072 + u16::from(second));
         let mut tokens = Tokens::new(&bytes);
-        assert_eq!(rt; tokens.next(), Some(want), "escape {second}");
-        assert_eq!(rt;
-            tokens.next(),
-            Some(Token::Cmd(Command::Endchar)),
+        assert!(rt; tokens.next() == Some(want), "escape {second}");
+        assert!(rt;
+            tokens.next() == Some(Token::Cmd(Command::Endchar)),
             "after escape {second}"
         );
-        assert_eq!(rt; tokens.next(), None, "end after escape {second}");
+        assert!(rt; tokens.next().is_none(), "end after escape {second}");
     }
 }
 
@@ -109,8 +107,8 @@ fn cut_after_each_byte(rt: HostRuntime) {
     ];
     for bytes in cuts {
         let mut tokens = Tokens::new(bytes);
-        assert_eq!(rt; tokens.next(), Some(Token::Cut), "{bytes:?}");
-        assert_eq!(rt; tokens.next(), None, "after {bytes:?}");
+        assert!(rt; tokens.next() == Some(Token::Cut), "{bytes:?}");
+        assert!(rt; tokens.next().is_none(), "after {bytes:?}");
     }
 }
 
@@ -118,11 +116,14 @@ fn cut_after_each_byte(rt: HostRuntime) {
 fn writes_each_command(rt: HostRuntime) -> Result<(), Fail> {
     for (byte, command) in COMMANDS {
         let written = write(rt.alloc(), &[Token::Cmd(command)])?;
-        assert_eq!(rt; written.as_slice(), [byte].as_slice(), "command {byte}");
+        assert!(rt; written.as_slice() == [byte].as_slice(), "command {byte}");
     }
     for (byte, command) in ESCAPES {
         let written = write(rt.alloc(), &[Token::Cmd(command)])?;
-        assert_eq!(rt; written.as_slice(), [12, byte].as_slice(), "escape {byte}");
+        assert!(rt;
+            written.as_slice() == [12, byte].as_slice(),
+            "escape {byte}"
+        );
     }
     Ok(())
 }
@@ -158,17 +159,17 @@ fn reads_from_each_offset(rt: HostRuntime) {
         (14, None),
     ];
     for (offset, want) in cases {
-        assert_eq!(rt; read_at(&MIXED, offset), want, "at {offset}");
+        assert!(rt; read_at(&MIXED, offset) == want, "at {offset}");
     }
 }
 
 #[test]
 fn offset_after_each_token(rt: HostRuntime) {
     let mut tokens = Tokens::new(&MIXED);
-    assert_eq!(rt; tokens.offset(), 0);
+    assert!(rt; tokens.offset() == 0);
     for want in [1, 3, 4, 6, 11, 12, 14, 14] {
         let _ = tokens.next();
-        assert_eq!(rt; tokens.offset(), want);
+        assert!(rt; tokens.offset() == want);
     }
 }
 

@@ -186,8 +186,8 @@ fn turns_of_read_all(rt: HostRuntime) {
 fn a_reader_that_only_interrupts(rt: HostRuntime) {
     let mut busy = Counted::new(Busy);
     let (got, _) = read_100(rt.alloc(), &mut busy);
-    assert_eq!(rt; got, "read");
-    assert_eq!(rt; (busy.calls(), busy.failed()), (101, 101));
+    assert!(rt; got == "read");
+    assert!(rt; (busy.calls(), busy.failed()) == (101, 101));
 }
 
 // `tools/sweep_growths.py` refuses all growths: what takes no memory gives the right answer.
@@ -471,7 +471,7 @@ fn lines_of_faults(rt: HostRuntime) {
     assert!(rt; is_told(alloc, &RunFault::Write, "failed: write\n", 3));
     assert!(rt; is_refused(alloc, Reason::TooLong, "refused: file too long\n"));
     assert!(rt; is_refused(alloc, Reason::Memory, "refused: out of memory\n"));
-    assert_eq!(rt; told_in_vain(alloc), ("write", 1));
+    assert!(rt; told_in_vain(alloc) == ("write", 1));
 }
 
 #[test]

@@ -69,12 +69,12 @@ fn enciphers_many_blocks(rt: HostRuntime) -> Result<(), Fail> {
     for _ in 0..14_287 {
         bytes.extend_from_slice(b"dup 5 {")?;
     }
-    assert_eq!(rt; mixed(bytes.as_slice()), 5_173_626_962_928_290_255);
+    assert!(rt; mixed(bytes.as_slice()) == 5_173_626_962_928_290_255);
     decrypt(bytes.as_mut_slice(), EEXEC_KEY);
-    assert_eq!(rt; mixed(bytes.as_slice()), 13_730_149_045_740_096_820);
+    assert!(rt; mixed(bytes.as_slice()) == 13_730_149_045_740_096_820);
     encrypt(bytes.as_mut_slice(), EEXEC_KEY);
     encrypt(bytes.as_mut_slice(), EEXEC_KEY);
-    assert_eq!(rt; mixed(bytes.as_slice()), 15_293_045_882_376_853_227);
+    assert!(rt; mixed(bytes.as_slice()) == 15_293_045_882_376_853_227);
     Ok(())
 }
 

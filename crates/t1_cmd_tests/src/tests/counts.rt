@@ -25,7 +25,7 @@ fn reads_in_turn(reader: &mut Counted<&[u8]>) -> bool {
 fn reads_are_handed_on(rt: HostRuntime) {
     let mut reader = Counted::new(b"abcdef".as_slice());
     assert!(rt; reads_in_turn(&mut reader));
-    assert_eq!(rt; (reader.calls(), reader.failed()), (3, 0));
+    assert!(rt; (reader.calls(), reader.failed()) == (3, 0));
 }
 
 /// Whether a write takes this many bytes.
@@ -42,7 +42,7 @@ fn writes_are_handed_on(rt: HostRuntime) {
     let mut writer = Counted::new(Sink::new(Vec::new(rt.alloc()), plan));
     assert!(rt; takes(&mut writer, b"abcdef", 4));
     assert!(rt; takes(&mut writer, b"bcdefg", 4));
-    assert_eq!(rt; (writer.calls(), writer.failed()), (2, 0));
+    assert!(rt; (writer.calls(), writer.failed()) == (2, 0));
     let text = writer.into_inner().text;
     assert!(rt; text.as_slice() == b"abcdbcde".as_slice());
 }
@@ -69,7 +69,7 @@ fn flushes_are_handed_on(rt: HostRuntime) -> Result<(), Fail> {
     let mut writer = Counted::new(Flushes { count: 0 });
     writer.flush()?;
     writer.flush()?;
-    assert_eq!(rt; (writer.calls(), writer.failed()), (2, 0));
-    assert_eq!(rt; writer.into_inner().count, 2);
+    assert!(rt; (writer.calls(), writer.failed()) == (2, 0));
+    assert!(rt; writer.into_inner().count == 2);
     Ok(())
 }

@@ -310,12 +310,12 @@ fn levels(alloc: Global, first: Plan, second: Plan) -> &'static str {
 #[test]
 fn documents_that_fail(rt: HostRuntime) -> Result<(), Fail> {
     let alloc = rt.alloc();
-    assert_eq!(rt; ended(alloc, FINE, FINE, FINE), "ok");
-    assert_eq!(rt; ended(alloc, FAILS, FINE, FINE), "read");
-    assert_eq!(rt; ended(alloc, FINE, FAILS, FINE), "read");
-    assert_eq!(rt; ended(alloc, FINE, FINE, FAILS), "write");
-    assert_eq!(rt; levels(alloc, FINE, FINE), "ok");
-    assert_eq!(rt; levels(alloc, FINE, FAILS), "read");
+    assert!(rt; ended(alloc, FINE, FINE, FINE) == "ok");
+    assert!(rt; ended(alloc, FAILS, FINE, FINE) == "read");
+    assert!(rt; ended(alloc, FINE, FAILS, FINE) == "read");
+    assert!(rt; ended(alloc, FINE, FINE, FAILS) == "write");
+    assert!(rt; levels(alloc, FINE, FINE) == "ok");
+    assert!(rt; levels(alloc, FINE, FAILS) == "read");
     Ok(())
 }
 

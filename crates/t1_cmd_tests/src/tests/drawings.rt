@@ -259,5 +259,5 @@ fn subsets_draw_as_tiny(rt: HostRuntime) {
         assert!(rt; drawn > 0, "{first} and each later name");
         count = count.saturating_add(drawn);
     }
-    assert_eq!(rt; count, 28 + 212, "in subsets of one name and of two");
+    assert!(rt; count == 28 + 212, "in subsets of one name and of two");
 }

@@ -84,5 +84,5 @@ fn each_write_fails(rt: HostRuntime) {
 fn a_writer_that_takes_nothing(rt: HostRuntime) {
     let nothing = Plan { most: 0, ..FINE };
     let got = merged_by(rt.alloc(), FINE, FINE, nothing);
-    assert_eq!(rt; got, ("write", 0, 1, true));
+    assert!(rt; got == ("write", 0, 1, true));
 }

@@ -241,5 +241,5 @@ fn the_heaviest_font(rt: HostRuntime) -> Result<(), Fail> {
 fn nothing_to_merge(rt: HostRuntime) {
     let mut none: [Counted<&[u8]>; 0] = [];
     let got = merged_from(rt.alloc(), &mut none);
-    assert_eq!(rt; got.as_slice(), b"refused: nothing to merge\n".as_slice());
+    assert!(rt; got.as_slice() == b"refused: nothing to merge\n".as_slice());
 }

@@ -148,6 +148,6 @@ fn ended_by(alloc: Global, read: Plan, write: Plan) -> (&'static str, u64) {
 #[test]
 fn failing_calls(rt: HostRuntime) {
     let fails = Plan { fails: 1, ..FINE };
-    assert_eq!(rt; ended_by(rt.alloc(), fails, FINE), ("read", 0));
-    assert_eq!(rt; ended_by(rt.alloc(), FINE, fails), ("write", 1));
+    assert!(rt; ended_by(rt.alloc(), fails, FINE) == ("read", 0));
+    assert!(rt; ended_by(rt.alloc(), FINE, fails) == ("write", 1));
 }

@@ -82,7 +82,7 @@ fn joined_names(alloc: Global, form: Form) -> Result<Vec<u8>, AllocError> {
 fn cuts_of_one_font(rt: HostRuntime) -> Result<(), Fail> {
     for form in [Form::Pfa, Form::Pfb] {
         let names = joined_names(rt.alloc(), form)?;
-        assert_eq!(rt; names.as_slice(), b".notdef A B ".as_slice());
+        assert!(rt; names.as_slice() == b".notdef A B ".as_slice());
     }
     Ok(())
 }

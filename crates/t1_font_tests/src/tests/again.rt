@@ -91,7 +91,7 @@ fn other_words_are_kept(rt: HostRuntime) -> Result<(), Fail> {
     let text = other_words(rt.alloc())?;
     let file = file(rt.alloc(), &PFA[..313], text.as_slice())?;
     let words = words(rt.alloc(), file.as_slice())?;
-    assert_eq!(rt; words.as_slice(), b"-| | |- -| |- ".as_slice());
+    assert!(rt; words.as_slice() == b"-| | |- -| |- ".as_slice());
     let again = is_written_with(rt.alloc(), file.as_slice(), text.as_slice())?;
     assert!(rt; again, "the words are written again");
     Ok(())

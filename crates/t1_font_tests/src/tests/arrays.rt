@@ -84,7 +84,7 @@ fn arrays_of_no_names(rt: HostRuntime) {
     ];
     for &(open, count, close, offset, name) in ROWS {
         let want = offset.map(|at| ReadFault::BadEncoding { at });
-        assert_eq!(rt; refusal(rt.alloc(), open, count, close), want, "{name}");
+        assert!(rt; refusal(rt.alloc(), open, count, close) == want, "{name}");
     }
 }
 
@@ -152,7 +152,7 @@ fn names_of_arrays_at_their_limits(rt: HostRuntime) -> Result<(), Fail> {
     ];
     for &(length, want) in ROWS {
         let got = refusal_of_long_name(rt.alloc(), length)?;
-        assert_eq!(rt; got, want, "a name of {length} bytes");
+        assert!(rt; got == want, "a name of {length} bytes");
     }
     Ok(())
 }

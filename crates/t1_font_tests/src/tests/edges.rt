@@ -74,9 +74,8 @@ fn words_at_their_limits(rt: HostRuntime) -> Result<(), Fail> {
     for &(table, want, name) in ROWS {
         let head = joined(rt.alloc(), b"/lenIV 0 def /Subrs 3 array ", table)?;
         let private = joined(rt.alloc(), head.as_slice(), GLYPHS)?;
-        assert_eq!(rt;
-            fault(rt.alloc(), CLEAR, private.as_slice()),
-            want,
+        assert!(rt;
+            fault(rt.alloc(), CLEAR, private.as_slice()) == want,
             "{name}"
         );
     }
@@ -106,9 +105,8 @@ fn codes_at_their_limits(rt: HostRuntime) -> Result<(), Fail> {
         let start = joined(rt.alloc(), b"%!\n/Encoding 256 array ", table)?;
         let clear = joined(rt.alloc(), start.as_slice(), b" currentfile eexec ")?;
         let private = joined(rt.alloc(), b"/lenIV 0 def ", GLYPHS)?;
-        assert_eq!(rt;
-            fault(rt.alloc(), clear.as_slice(), private.as_slice()),
-            want,
+        assert!(rt;
+            fault(rt.alloc(), clear.as_slice(), private.as_slice()) == want,
             "{name}"
         );
     }
@@ -162,15 +160,14 @@ fn last_entries_and_first_words(rt: HostRuntime) -> Result<(), Fail> {
         b"/lenIV 0 def /lenIV 9 def /Subrs 3 array dup 2 1 a \x01 b dup 2 1 c \x0b d ND\nx \
         /CharStrings 9 dict dup begin /.notdef 1 e \x01 f /.notdef 1 g \x02 end\nend \
         closefileclosefile/Subrs 0 array ";
-    assert_eq!(rt;
-        said(rt.alloc(), clear, private),
-        Some(((true, true, true), (true, 3, false, true, Some(2)), 0)),
+    assert!(rt;
+        said(rt.alloc(), clear, private)
+            == Some(((true, true, true), (true, 3, false, true, Some(2)), 0)),
         "a later .notdef takes a code away, the first lenIV counts, a gap stays"
     );
     let file = file(rt.alloc(), clear, private)?;
-    assert_eq!(rt;
-        counts(rt.alloc(), file.as_slice()),
-        Ok((1, 446)),
+    assert!(rt;
+        counts(rt.alloc(), file.as_slice()) == Ok((1, 446)),
         "one name, and one Subr"
     );
     let again = rewritten(rt.alloc(), file.as_slice(), Form::Pfb);

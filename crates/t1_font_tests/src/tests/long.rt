@@ -42,9 +42,8 @@ fn long_names_and_charstrings(rt: HostRuntime) -> Result<(), Fail> {
     ];
     for &(name, length, want, what) in ROWS {
         let private = glyph(rt.alloc(), name, length)?;
-        assert_eq!(rt;
-            fault(rt.alloc(), CLEAR, private.as_slice()),
-            want,
+        assert!(rt;
+            fault(rt.alloc(), CLEAR, private.as_slice()) == want,
             "{what}"
         );
         let file = file(rt.alloc(), CLEAR, private.as_slice())?;
@@ -66,9 +65,8 @@ fn long_names_of_codes(rt: HostRuntime) -> Result<(), Fail> {
     ];
     for &(name, want) in ROWS {
         let clear = named(rt.alloc(), name)?;
-        assert_eq!(rt;
-            fault(rt.alloc(), clear.as_slice(), private.as_slice()),
-            want,
+        assert!(rt;
+            fault(rt.alloc(), clear.as_slice(), private.as_slice()) == want,
             "{name} bytes"
         );
     }
@@ -90,9 +88,8 @@ fn weights_at_the_limit(rt: HostRuntime) -> Result<(), Fail> {
         let mut clear = Vec::new(rt.alloc());
         clear.resize(head, b' ')?;
         clear.extend_from_slice(b"/Encoding StandardEncoding def\ncurrentfile eexec\n")?;
-        assert_eq!(rt;
-            fault(rt.alloc(), clear.as_slice(), private.as_slice()),
-            want,
+        assert!(rt;
+            fault(rt.alloc(), clear.as_slice(), private.as_slice()) == want,
             "a head of {head} bytes"
         );
     }
@@ -107,23 +104,20 @@ fn weights_at_the_limit(rt: HostRuntime) -> Result<(), Fail> {
 fn nothing_at_the_limit(rt: HostRuntime) -> Result<(), Fail> {
     let mut nothing = Vec::new(rt.alloc());
     nothing.resize(268_435_456, 0)?;
-    assert_eq!(rt;
-        fault_of(rt.alloc(), nothing.as_slice()),
-        Some(ReadFault::NoEexec),
+    assert!(rt;
+        fault_of(rt.alloc(), nothing.as_slice()) == Some(ReadFault::NoEexec),
         "256 MiB"
     );
     nothing.as_mut_slice()[0] = 128;
-    assert_eq!(rt;
-        fault_of(rt.alloc(), nothing.as_slice()),
-        Some(ReadFault::BadSegment { at: 0 }),
+    assert!(rt;
+        fault_of(rt.alloc(), nothing.as_slice()) == Some(ReadFault::BadSegment { at: 0 }),
         "256 MiB that begin with 128"
     );
     nothing.push(0)?;
     const SIZE: usize = 268_435_457;
     assert!(rt; nothing.len() == SIZE);
-    assert_eq!(rt;
-        fault_of(rt.alloc(), nothing.as_slice()),
-        Some(ReadFault::TooLong),
+    assert!(rt;
+        fault_of(rt.alloc(), nothing.as_slice()) == Some(ReadFault::TooLong),
         "a byte more"
     );
     Ok(())

@@ -222,7 +222,7 @@ fn counts_and_stubs(rt: HostRuntime) -> Result<(), Fail> {
     let normal = normalize_shells(rt.alloc(), sources(rt.alloc(), TABLES)?)?;
     const COUNTS: &[u16] = &[5, 5, 5, 0];
     for (source, count) in normal.as_slice().iter().zip(COUNTS) {
-        assert_eq!(rt; source.declared_count(), *count);
+        assert!(rt; source.declared_count() == *count);
     }
     drop(normal);
     let marks = normalized(rt.alloc(), TABLES);
@@ -302,16 +302,15 @@ fn halves_of_all_subrs(rt: HostRuntime) -> Result<(), Fail> {
         let all = usize::from(declared);
         for &blanks in &[0, blanks.saturating_sub(1)] {
             let counts = counts_of_halves(rt.alloc(), declared, blanks)?;
-            assert_eq!(rt;
-                counts.as_slice(),
-                [all, all].as_slice(),
+            assert!(rt;
+                counts.as_slice() == [all, all].as_slice(),
                 "{declared} Subrs, {blanks} blanks"
             );
         }
     }
     let blanks = blanks_for(rt.alloc(), 65_535, HEAVY)?;
     let heavy = counts_of_halves(rt.alloc(), 65_535, blanks);
-    assert_eq!(rt; heavy.err(), Some(PartsFault::Limit));
+    assert!(rt; heavy.err() == Some(PartsFault::Limit));
     Ok(())
 }
 
@@ -321,7 +320,7 @@ fn halves_of_all_subrs(rt: HostRuntime) -> Result<(), Fail> {
 fn a_filled_font_over_the_limit(rt: HostRuntime) -> Result<(), Fail> {
     let blanks = blanks_for(rt.alloc(), 2, HEAVY)?;
     let heavy = counts_of_halves(rt.alloc(), 2, blanks);
-    assert_eq!(rt; heavy.err(), Some(PartsFault::Limit), "a byte too many");
+    assert!(rt; heavy.err() == Some(PartsFault::Limit), "a byte too many");
     Ok(())
 }
 
@@ -347,7 +346,7 @@ fn same_in_halves(alloc: Global, declared: u16) -> Result<(bool, bool), PartsFau
 fn same_indices_of_halves(rt: HostRuntime) -> Result<(), Fail> {
     for &declared in &[2, 65_535] {
         let same = same_in_halves(rt.alloc(), declared)?;
-        assert_eq!(rt; same, (false, true), "{declared} Subrs");
+        assert!(rt; same == (false, true), "{declared} Subrs");
     }
     Ok(())
 }

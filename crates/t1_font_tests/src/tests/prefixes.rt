@@ -40,6 +40,6 @@ fn prefixes_of_the_pfb(rt: HostRuntime) {
             1872 => Err(ReadFault::BadSegment { at: 1871 }),
             _ => Ok(4936),
         };
-        assert_eq!(rt; weight(rt.alloc(), &PFB[..n]), want, "{n} bytes");
+        assert!(rt; weight(rt.alloc(), &PFB[..n]) == want, "{n} bytes");
     }
 }

@@ -221,7 +221,7 @@ fn counts(alloc: Global, source: &Source) -> Result<(usize, usize, usize, usize)
 fn tables_of_thousands(rt: HostRuntime) -> Result<(), Fail> {
     let file = large(rt.alloc())?;
     match read(rt.alloc(), file.as_slice()) {
-        Ok(source) => assert_eq!(rt; counts(rt.alloc(), &source)?, (4_001, 6, 4_001, 2_000)),
+        Ok(source) => assert!(rt; counts(rt.alloc(), &source)? == (4_001, 6, 4_001, 2_000)),
         Err(_) => assert!(rt; false, "not read"),
     }
     Ok(())

@@ -218,7 +218,7 @@ fn refused_widely(rt: HostRuntime) -> Result<(), Fail> {
         let text = joined(rt.alloc(), OPEN, entries)?;
         let file = encoded(rt.alloc(), text.as_slice())?;
         let fault = read_wide(rt.alloc(), file.as_slice()).err();
-        assert_eq!(rt; fault, Some(ReadFault::BadEncoding { at }), "{name}");
+        assert!(rt; fault == Some(ReadFault::BadEncoding { at }), "{name}");
     }
     Ok(())
 }
@@ -244,9 +244,8 @@ fn comments_elsewhere_are_refused(rt: HostRuntime) -> Result<(), Fail> {
     ];
     for &(private, want, name) in ROWS {
         let file = file(rt.alloc(), CLEAR, private)?;
-        assert_eq!(rt;
-            read_wide(rt.alloc(), file.as_slice()).err(),
-            Some(want),
+        assert!(rt;
+            read_wide(rt.alloc(), file.as_slice()).err() == Some(want),
             "{name}"
         );
     }

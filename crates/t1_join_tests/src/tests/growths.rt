@@ -5,7 +5,7 @@ use crate::tests::{Numbered, keys_of_all, keys_of_both, small, table};
 use std::alloc::{AllocError, Global};
 use std::test::Fail;
 use t1_join::listing::{self, JoinFault, ListFault, Listing};
-use t1_join::{Flat, Hex, Join, Table, push_item};
+use t1_join::{Flat, Hex, Join, Table, likely_places, push_item};
 
 // The listing that a text spells; want of memory is no answer, and any other fault is a wrong one.
 fn listing_of(alloc: Global, text: &[u8]) -> Result<Option<Listing<'_>>, AllocError> {
@@ -101,6 +101,12 @@ fn items_stand(alloc: Global) -> Result<bool, AllocError> {
     Ok(list.as_slice() == [5, 7].as_slice())
 }
 
+// Whether the likely places of three entries are right.
+fn places_stand(alloc: Global) -> Result<bool, AllocError> {
+    let places = likely_places(alloc, &[(0, b'a'), (1, b'b'), (3, b'c')])?;
+    Ok(places.as_slice() == [0, 1, 0, 2].as_slice())
+}
+
 // Whether all calls that grow answer right.
 fn answers_right(alloc: Global) -> Result<bool, AllocError> {
     let listings = texts_join(
@@ -115,7 +121,8 @@ fn answers_right(alloc: Global) -> Result<bool, AllocError> {
             && two_tables_join(alloc)?
             && four_tables_join(alloc)?
             && flats_join(alloc)?
-            && items_stand(alloc)?,
+            && items_stand(alloc)?
+            && places_stand(alloc)?,
     )
 }
 

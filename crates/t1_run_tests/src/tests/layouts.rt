@@ -113,7 +113,7 @@ fn count_of_many(alloc: Global) -> Result<usize, Fail> {
 
 #[test]
 fn draws_many_marks(rt: HostRuntime) -> Result<(), Fail> {
-    assert_eq!(rt; count_of_many(rt.alloc())?, 99_996);
+    assert!(rt; count_of_many(rt.alloc())? == 99_996);
     Ok(())
 }
 

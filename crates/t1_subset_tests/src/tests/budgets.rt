@@ -106,12 +106,12 @@ fn cuts_within_budgets(rt: HostRuntime) -> Result<(), Fail> {
         let enough = cut_within(rt.alloc(), file.as_slice(), names, Some(tokens))?;
         let fewer = cut_within(rt.alloc(), file.as_slice(), names, Some(tokens - 1))?;
         let free = cut_within(rt.alloc(), file.as_slice(), names, None)?;
-        assert_eq!(rt; enough, Answer::Made, "{tokens} tokens");
-        assert_eq!(rt; fewer, Answer::TooMany, "fewer than {tokens} tokens");
-        assert_eq!(rt; free, Answer::Made, "no budget for {tokens} tokens");
+        assert!(rt; enough == Answer::Made, "{tokens} tokens");
+        assert!(rt; fewer == Answer::TooMany, "fewer than {tokens} tokens");
+        assert!(rt; free == Answer::Made, "no budget for {tokens} tokens");
     }
     let absent = cut_within(rt.alloc(), file.as_slice(), &[b"Z"], Some(0))?;
-    assert_eq!(rt; absent, Answer::Refused, "a name that is absent");
+    assert!(rt; absent == Answer::Refused, "a name that is absent");
     Ok(())
 }
 
@@ -125,18 +125,12 @@ fn differs_within_budgets(rt: HostRuntime) -> Result<(), Fail> {
     let file = whole(alloc)?;
     let other = with_glyph(alloc, 1, (b"A", b"\x0e"))?;
     let two = [file.as_slice(), file.as_slice()];
-    assert_eq!(rt; differs_within(alloc, two, Some(2 * ALL))?, Answer::Made);
-    assert_eq!(rt;
-        differs_within(alloc, two, Some(2 * ALL - 1))?,
-        Answer::TooMany
-    );
-    assert_eq!(rt; differs_within(alloc, two, None)?, Answer::Made);
+    assert!(rt; differs_within(alloc, two, Some(2 * ALL))? == Answer::Made);
+    assert!(rt; differs_within(alloc, two, Some(2 * ALL - 1))? == Answer::TooMany);
+    assert!(rt; differs_within(alloc, two, None)? == Answer::Made);
     let unlike = [file.as_slice(), other.as_slice()];
-    assert_eq!(rt;
-        differs_within(alloc, unlike, Some(2 * ALL))?,
-        Answer::Refused
-    );
-    assert_eq!(rt; differs_within(alloc, unlike, Some(0))?, Answer::TooMany);
+    assert!(rt; differs_within(alloc, unlike, Some(2 * ALL))? == Answer::Refused);
+    assert!(rt; differs_within(alloc, unlike, Some(0))? == Answer::TooMany);
     Ok(())
 }
 
@@ -147,16 +141,13 @@ fn merges_within_budgets(rt: HostRuntime) -> Result<(), Fail> {
     let file = whole(alloc)?;
     let one = [file.as_slice()];
     let two = [file.as_slice(), file.as_slice()];
-    assert_eq!(rt; merged_within(alloc, &one, Some(ALL))?, Answer::Made);
-    assert_eq!(rt; merged_within(alloc, &one, Some(ALL - 1))?, Answer::TooMany);
-    assert_eq!(rt; merged_within(alloc, &one, None)?, Answer::Made);
-    assert_eq!(rt; merged_within(alloc, &two, Some(2 * ALL))?, Answer::Made);
-    assert_eq!(rt;
-        merged_within(alloc, &two, Some(2 * ALL - 1))?,
-        Answer::TooMany
-    );
-    assert_eq!(rt; merged_within(alloc, &two, None)?, Answer::Made);
-    assert_eq!(rt; merged_within(alloc, &[], Some(0))?, Answer::Refused);
+    assert!(rt; merged_within(alloc, &one, Some(ALL))? == Answer::Made);
+    assert!(rt; merged_within(alloc, &one, Some(ALL - 1))? == Answer::TooMany);
+    assert!(rt; merged_within(alloc, &one, None)? == Answer::Made);
+    assert!(rt; merged_within(alloc, &two, Some(2 * ALL))? == Answer::Made);
+    assert!(rt; merged_within(alloc, &two, Some(2 * ALL - 1))? == Answer::TooMany);
+    assert!(rt; merged_within(alloc, &two, None)? == Answer::Made);
+    assert!(rt; merged_within(alloc, &[], Some(0))? == Answer::Refused);
     Ok(())
 }
 
@@ -173,12 +164,9 @@ fn refuses_within_budgets(rt: HostRuntime) -> Result<(), Fail> {
     let glyph = with_glyph(alloc, 9, (b"acute", ACCENTED))?;
     let shells = [file.as_slice(), shell.as_slice()];
     let glyphs = [file.as_slice(), glyph.as_slice()];
-    assert_eq!(rt; merged_within(alloc, &shells, Some(0))?, Answer::Refused);
-    assert_eq!(rt;
-        merged_within(alloc, &glyphs, Some(2 * ALL))?,
-        Answer::Refused
-    );
-    assert_eq!(rt; merged_within(alloc, &glyphs, Some(ALL))?, Answer::TooMany);
+    assert!(rt; merged_within(alloc, &shells, Some(0))? == Answer::Refused);
+    assert!(rt; merged_within(alloc, &glyphs, Some(2 * ALL))? == Answer::Refused);
+    assert!(rt; merged_within(alloc, &glyphs, Some(ALL))? == Answer::TooMany);
     Ok(())
 }
 
@@ -189,17 +177,11 @@ fn rejoins_within_budgets(rt: HostRuntime) -> Result<(), Fail> {
     let file = whole(alloc)?;
     let one = [file.as_slice()];
     let two = [file.as_slice(), file.as_slice()];
-    assert_eq!(rt; rejoined_within(alloc, &one, Some(ALL))?, Answer::Made);
-    assert_eq!(rt;
-        rejoined_within(alloc, &one, Some(ALL - 1))?,
-        Answer::TooMany
-    );
-    assert_eq!(rt; rejoined_within(alloc, &two, Some(2 * ALL))?, Answer::Made);
-    assert_eq!(rt;
-        rejoined_within(alloc, &two, Some(2 * ALL - 1))?,
-        Answer::TooMany
-    );
-    assert_eq!(rt; rejoined_within(alloc, &two, None)?, Answer::Made);
-    assert_eq!(rt; rejoined_within(alloc, &[], Some(0))?, Answer::Refused);
+    assert!(rt; rejoined_within(alloc, &one, Some(ALL))? == Answer::Made);
+    assert!(rt; rejoined_within(alloc, &one, Some(ALL - 1))? == Answer::TooMany);
+    assert!(rt; rejoined_within(alloc, &two, Some(2 * ALL))? == Answer::Made);
+    assert!(rt; rejoined_within(alloc, &two, Some(2 * ALL - 1))? == Answer::TooMany);
+    assert!(rt; rejoined_within(alloc, &two, None)? == Answer::Made);
+    assert!(rt; rejoined_within(alloc, &[], Some(0))? == Answer::Refused);
     Ok(())
 }

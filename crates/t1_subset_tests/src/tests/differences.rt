@@ -148,7 +148,7 @@ fn many_conflicts(rt: HostRuntime) -> Result<(), Fail> {
     let one = many(alloc, 0..65_534, b"\x0e")?;
     let other = many(alloc, 0..65_534, b"\x8b\x8b\x0d\x0e")?;
     // 65535 glyphs with `.notdef`, which is the same.
-    assert_eq!(rt; count(alloc, one.as_slice(), other.as_slice())?, 65_534);
+    assert!(rt; count(alloc, one.as_slice(), other.as_slice())? == 65_534);
     let more = many(alloc, 65_534..65_535, b"\x0e")?;
     assert!(rt; differ(alloc, one.as_slice(), more.as_slice(), b"over a limit\n")?);
     Ok(())

@@ -5,7 +5,7 @@ use std::alloc::{AllocError, Global};
 use std::test::Fail;
 use t1_font::{Font, Source, read};
 use t1_subset::{
-    Budget, Conflict, RejoinFault, ShellPart, first_lack, fonts_of, rejoin, shells_conflict,
+    Budget, Conflict, RejoinFault, ShellPart, Stop, first_lack, fonts_of, rejoin, shells_conflict,
 };
 
 /// A shell, and the indices of the Subrs above that a font lacks.
@@ -212,6 +212,8 @@ const LACKS: &[(&str, &[Made], &[u8], &[u8])] = &[
 /// The indices of all Subrs above.
 const ALL: &[&[u8]] = &[b"0", b"1", b"2", b"3", b"4", b"5", b"6", b"7", b"8", b"9"];
 
+// meets first_lack None at 0, 1, 2, 3 fonts
+// meets first_lack Some at 2, 3 fonts
 // meets fonts_of Ok at 0, 1, 2, 3 fonts
 // meets rejoin Ok at 1, 2, 3 fonts
 // meets rejoin Lacks at 2, 3 fonts
@@ -254,6 +256,8 @@ const SHELLS: &[(&str, &[Made], Option<ShellPart>)] = &[
     ("no table", &[WHOLE, (BARE, &[])], Some(ShellPart::Private)),
 ];
 
+// meets shells_conflict None at 0, 1, 2 fonts
+// meets shells_conflict Some at 2, 3 fonts
 #[test]
 fn shells_of_lists(rt: HostRuntime) -> Result<(), Fail> {
     for (name, all, want) in SHELLS {
@@ -262,6 +266,28 @@ fn shells_of_lists(rt: HostRuntime) -> Result<(), Fail> {
         let got = differing_in(rt.alloc(), lent.as_slice())?;
         assert!(rt; got == *want, "{name}");
     }
+    Ok(())
+}
+
+/// Whether the search for a lack ends for want of tokens alone, within a budget.
+fn is_cut_off(alloc: Global, files: &[&[u8]], tokens: u64) -> Result<bool, AllocError> {
+    let sources = sources(alloc, files)?;
+    let fonts = fonts_of(alloc, sources.as_slice())?;
+    let budget = Budget { left: Some(tokens) };
+    match first_lack(alloc, fonts.as_slice(), budget) {
+        Ok(_) => Ok(false),
+        Err(Stop::TooManyTokens) => Ok(true),
+        Err(Stop::Memory) => Err(AllocError),
+    }
+}
+
+// meets first_lack TooManyTokens at 2 fonts
+#[test]
+fn a_lack_within_a_budget(rt: HostRuntime) -> Result<(), Fail> {
+    let files = files(rt.alloc(), &[WHOLE, FIVE])?;
+    let lent = lent(rt.alloc(), files.as_slice())?;
+    assert!(rt; is_cut_off(rt.alloc(), lent.as_slice(), 1)?);
+    assert!(rt; !is_cut_off(rt.alloc(), lent.as_slice(), 1_000)?);
     Ok(())
 }
 
@@ -277,6 +303,9 @@ fn many(alloc: Global, subrs: &[Entry]) -> Result<Vec<u8>, AllocError> {
     file(alloc, &SHELL, subrs, text.as_slice())
 }
 
+// meets first_lack None at 65535 glyphs
+// meets first_lack Some at 65535 glyphs
+// meets shells_conflict None at 65535 glyphs
 // meets rejoin Lacks at 65535 glyphs
 // meets rejoin Ok at 65535 glyphs
 // meets fonts_of Ok at 65535 glyphs

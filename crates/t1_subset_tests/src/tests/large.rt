@@ -119,7 +119,7 @@ fn thousands_of_glyphs(rt: HostRuntime) -> Result<(), Fail> {
     let one = numbered_cut(rt.alloc(), file.as_slice(), 0..3500);
     let other = numbered_cut(rt.alloc(), file.as_slice(), 2500..6000);
     let got = merged_count(rt.alloc(), one.as_slice(), other.as_slice());
-    assert_eq!(rt; got, 6001);
+    assert!(rt; got == 6001);
     Ok(())
 }
 
