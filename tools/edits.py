@@ -49,14 +49,22 @@ def apply(edit, crate_folder):
     return None
 
 
+def word_for(type_text, parameters):
+    """How a check calls a type: `VecU8` for `Vec<u8>`, `RefSliceU8` for `&[u8]`. Lifetimes and parameters have no name there."""
+    words = type_text.replace("&", " Ref ").replace("[", " Slice ")
+    words = [re.sub(r".*::", "", word) for word in re.findall(r"'?[\w:]+", words)]
+    return "".join(word[0].upper() + word[1:] for word in words if word[0] != "'" and word not in parameters)
+
+
 def called_of(path, lines, at, crate):
     """The end of the path by which a check calls the function that begins in a line of a file: behind its module, or behind its type
     and its trait."""
     method = re.search(r"\bfn (\w+)", lines[at])[1]
     head = next((line for line in lines[at::-1] if re.match(r"impl\b|\}", line)), "") if lines[at].startswith(" ") else ""
-    found = re.match(r"impl(?:<[^>]*>)? (?:([\w:<>&', ]+?) for )?(&'\w+ )?(?:\w+::)*(\w+)", head)
+    found = re.match(r"impl(?:<([^>]*)>)? (?:([^{]+?) for )?([^{]+?) \{", head)
     if found:
-        return ("Ref" if found[2] else "") + found[3] + re.sub(r"\w+::|\W", "", found[1] or "") + "::" + method
+        parameters = re.findall(r"(?:^|, )(\w+)", found[1] or "")
+        return word_for(found[3], parameters) + word_for(found[2] or "", parameters) + "::" + method
     module = path[len("src/"):-len(".rt")].split("/")[-1]
     return (crate if module == "lib" else module) + "::" + method
 
