@@ -6,9 +6,10 @@ first line names the clause which has to refuse it (`refused by: FUNCTION, CLAUS
 of memory in place of another answer: for such an edit the first line names the test that has to fail (`caught by: TEST`). The
 edits are tried on copies; the repository itself is not changed.
 
-Edits within the bodies of different functions are tried together by one check of these functions alone, over the libraries that
-were built below the crate, since a function is proved over what others promise, and not over their bodies: each has to be refused
-for its own function and the clause that it names. What doesn't come out so is tried by itself.
+Edits within the bodies of different functions are tried together by one check of these functions, and of those that they call, over
+the libraries that were built below the crate, since a function is proved over what others promise, and not over their bodies: each has
+to be refused for its own function and the clause that it names. What doesn't come out so is tried by itself. What one check of a crate
+proved the next ones take.
 
 usage: tools/wrong_bodies.py [--jobs N] [--only NAME] [--gate] [--anew] [CRATE...]      (all crates if none is named)
 `--gate` tries those of tools/must-fail over what is built, and takes what an earlier run on this machine refused of the same files
@@ -24,11 +25,12 @@ import shutil
 import subprocess
 import sys
 import tempfile
+import threading
 
 from build import Builds
 from common import TOP, below, bytes_of, copy_crates, home_of_tests, needs, put, text_of
 from edits import apply, catcher, change_of, function_of, names_nothing, refusal, told_of
-from kit import compiler_words, lanes, library, sum_of_crate
+from kit import compiler_words, files_of, lanes, library, sum_of_crate
 
 MUST_FAIL, OTHERS = (os.path.join(TOP, "tools", folder) for folder in ("must-fail", "wrong-bodies"))
 # What earlier runs of the gate refused.
@@ -80,8 +82,8 @@ def caught(crate, edit):
 
 
 def copy_of(crate, room):
-    """The folder of a copy of a crate, without what was built."""
-    folder = os.path.join(room, crate)
+    """The folder of a new copy of a crate, without what was built."""
+    folder = os.path.join(tempfile.mkdtemp(dir=room), crate)
     for part in ("src", "specs", "proofs"):
         inside = os.path.join(TOP, "crates", crate, part)
         if os.path.isdir(inside):
@@ -91,7 +93,7 @@ def copy_of(crate, room):
 
 def checked(crate, folder, names):
     """What a check of these functions of a copy of a crate says; of the whole crate if it knows no such functions."""
-    words = compiler_words("check", crate, 1)
+    words = [*compiler_words("check", crate, 1), "--incremental", os.path.join(os.path.dirname(os.path.dirname(folder)), "proved")]
     for chosen in ([word for name in names for word in ("--only", name)], []):
         done = subprocess.run([*words, *chosen], cwd=folder, stdout=subprocess.PIPE, stderr=subprocess.STDOUT, text=True, errors="replace")
         told = told_of(done.stdout, crate)
@@ -100,43 +102,41 @@ def checked(crate, folder, names):
     return told, done.stdout
 
 
-def refused_together(crate, changes):
+def refused_together(crate, changes, room):
     """What one check says of edits of different functions, and of each that it doesn't refuse by itself."""
-    with tempfile.TemporaryDirectory(prefix="wrong-bodies-") as room:
-        folder = copy_of(crate, room)
-        for path, first, last, lines, _ in sorted((change for _, change in changes), key=lambda change: -change[1]):
-            whole = text_of(folder, path).split("\n")
-            put("\n".join(whole[:first] + lines + whole[last:]).encode(), folder, path)
-        told, _ = checked(crate, folder, [change[-1] for _, change in changes])
+    folder = copy_of(crate, room)
+    for path, first, last, lines, _ in sorted((change for _, change in changes), key=lambda change: -change[1]):
+        whole = text_of(folder, path).split("\n")
+        put("\n".join(whole[:first] + lines + whole[last:]).encode(), folder, path)
+    told, _ = checked(crate, folder, [change[-1] for _, change in changes])
     found = {edit: refusal(edit, change[-1], told) for edit, change in changes}
     good = [f"{label(crate, edit)}: {GOOD[0]}: {line[:160]}" for edit, line in found.items() if line]
-    return good + [line for edit, refusing in found.items() if not refusing for line in refused(crate, edit)]
+    return good + [refused(crate, edit, room) for edit, refusing in found.items() if not refusing]
 
 
-def refused(crate, edit):
+def refused(crate, edit, room):
     """What a check says of one edit."""
-    with tempfile.TemporaryDirectory(prefix="wrong-bodies-") as room:
-        folder = copy_of(crate, room)
-        bad = apply(edit, folder)
-        if bad:
-            return [f"{label(crate, edit)}: BAD EDIT: {bad}"]
-        change = change_of(edit, crate)
-        called = change[-1] if change else function_of(edit)
-        told, printed = checked(crate, folder, [called])
+    folder = copy_of(crate, room)
+    bad = apply(edit, folder)
+    if bad:
+        return f"{label(crate, edit)}: BAD EDIT: {bad}"
+    change = change_of(edit, crate)
+    called = change[-1] if change else function_of(edit)
+    told, printed = checked(crate, folder, [called])
     line = refusal(edit, called, told)
     if line:
-        return [f"{label(crate, edit)}: {GOOD[0]}: {line[:160]}"]
+        return f"{label(crate, edit)}: {GOOD[0]}: {line[:160]}"
     why = "NOT REFUSED" if told and all(verdict == "proved" for verdict, _ in told.values()) else "NOT REFUSED FOR ITS CLAUSE"
-    return [f"{label(crate, edit)}: {why}: {printed.strip()[-600:]}"]
+    return f"{label(crate, edit)}: {why}: {printed.strip()[-600:]}"
 
 
-def chunks_of(crate, edits):
-    """What is tried in one copy: a call, and what it is called with."""
-    together = []
-    for edit in filter(lambda edit: not catcher(edit), edits):
+def batches_of(crate, edits):
+    """The edits that are tried together, with their changes, and those that are tried alone."""
+    together, alone = [], []
+    for edit in edits:
         change = change_of(edit, crate)
         if not change:
-            yield refused, crate, edit
+            alone.append(edit)
             continue
         free = lambda batch: len(batch) < TOGETHER and function_of(edit) not in [function_of(other) for other, _ in batch]
         batch = next(filter(free, together), None)
@@ -144,10 +144,24 @@ def chunks_of(crate, edits):
             batch = []
             together.append(batch)
         batch.append((edit, change))
-    for batch in together:
-        yield refused_together, crate, batch
-    for edit in filter(catcher, edits):
-        yield caught, crate, edit
+    return together, alone
+
+
+def refused_of(crate, edits, tell):
+    """Tells what the checks of a crate say of its edits."""
+    together, alone = batches_of(crate, edits)
+    with tempfile.TemporaryDirectory(prefix="wrong-bodies-") as room:
+        for batch in together:
+            for line in refused_together(crate, batch, room):
+                tell(line)
+        for edit in alone:
+            tell(refused(crate, edit, room))
+
+
+def caught_of(crate, edit, tell):
+    """Tells what the tests of a crate say of an edit."""
+    for line in caught(crate, edit):
+        tell(line)
 
 
 def place(crate, edit):
@@ -156,19 +170,35 @@ def place(crate, edit):
     return os.path.join(KEPT, hashlib.sha256(repr(rests).encode()).hexdigest())
 
 
-def keep(places, line):
-    """Keeps that an edit was refused, if it was, where it is tried in the gate."""
-    name = line.split(":")[0]
-    if name in places and GOOD[0] in line:
-        os.makedirs(KEPT, exist_ok=True)
-        put(line.encode(), places[name])
+class Told:
+    """What was said of the edits: how many were tried, and what is wrong. What the gate sees refused is kept in these places."""
+
+    def __init__(self, places, wrong):
+        self.places, self.wrong, self.count, self.lock = places, wrong, 0, threading.Lock()
+
+    def tell(self, line):
+        with self.lock:
+            self.count += 1
+            print(line, flush=True)
+            name = line.split(":")[0]
+            if not any(word in line for word in GOOD):
+                self.wrong.append(line)
+            elif name in self.places:
+                os.makedirs(KEPT, exist_ok=True)
+                put(line.encode(), self.places[name])
 
 
-def tried(chunks, jobs):
-    """What is said of each edit, as it comes."""
+def try_all(left, jobs, tell):
+    """Tries the edits of each crate, those of the largest crates first."""
     with concurrent.futures.ThreadPoolExecutor(jobs) as pool:
-        for done in concurrent.futures.as_completed([pool.submit(*chunk) for chunk in chunks]):
-            yield from done.result()
+        size = lambda name: sum(map(os.path.getsize, files_of(name)))
+        tasks = []
+        for name in sorted(left, key=size, reverse=True):
+            refusals = [edit for edit in left[name] if not catcher(edit)]
+            tasks += [pool.submit(refused_of, name, refusals, tell)] if refusals else []
+            tasks += [pool.submit(caught_of, name, edit, tell) for edit in filter(catcher, left[name])]
+        for task in concurrent.futures.as_completed(tasks):
+            task.result()
 
 
 def given_words():
@@ -202,17 +232,14 @@ def main():
     places = {label(name, edit): place(name, edit) for name, edits in wanted.items() for edit in edits} if given.gate else {}
     known = [] if given.anew else [text_of(path) for path in places.values() if os.path.exists(path)]
     left = {name: [e for e in edits if not any(line.startswith(label(name, e) + ":") for line in known)] for name, edits in wanted.items()}
-    count = 0
-    for line in (*known, *tried([chunk for name in reversed(list(left)) for chunk in chunks_of(name, left[name])], given.jobs)):
-        count += 1
-        print(line, flush=True)
-        keep(places, line)
-        if not any(word in line for word in GOOD):
-            wrong.append(line)
+    told = Told(places, wrong)
+    for line in known:
+        told.tell(line)
+    try_all(left, given.jobs, told.tell)
     for line in wrong:
         print(line, file=sys.stderr)
-    print(f"{count} wrong bodies, {len(known)} of them tried by an earlier run; {len(wrong)} neither refused by a contract nor caught by a test")
-    return 1 if wrong or not count else 0
+    print(f"{told.count} wrong bodies, {len(known)} of them tried by an earlier run; {len(wrong)} neither refused by a contract nor caught by a test")
+    return 1 if wrong or not told.count else 0
 
 
 if __name__ == "__main__":

@@ -1,7 +1,8 @@
 use Rattle.std.proofs.{Common.{◌≡◌, ℕ, Bool, true, false, ◌||◌, List, [], ◌∷◌, ◌++◌, map, Option, Some, None, is_some, refl, sym, ◌∙◌, ap, true≢false}, lemmas.List.{map-append}}
 use Rattle.std.specs.{Borrow.{Bor}, Global.{Vec}, Option.{option_copied}, Ordering.{eq_by_cmp, is_eq}, Cmp.{Equal-is, tied_itself}, Cmp.Lexicographic.{nat_list_cmp_total}}
 use Rattle.t1_font.specs.{FontValue.{CharStrings, name_cmp, notdef}, Cut.{set_of_names}}
-use Rattle.t1_font.proofs.{canonical.FontAgain.{name_same}, tests.cuts.known.Goals.{then-is_some+in_ok-from_slice-2+in_ok-push-2, else-is_some}}
+use Rattle.t1_font.proofs.canonical.FontAgain.{name_same}
+use Rattle.t1_font_tests.proofs.tests.cuts.known.Goals.{then-is_some+in_ok-from_slice-2+in_ok-push-2, else-is_some}
 use Rattle.std.specs.FinMap as fin
 use Rattle.std.specs.FinSet as sets
 use Rattle.t1_font_tests.proofs.tests.cuts.known.Goals as goal
