@@ -68,7 +68,7 @@ dist: $(PROGRAM) $(LIB)/libt1subset.a
 test:
 	.ci/run
 
-# The wrong bodies that the gate doesn't try: before a release, and after a contract changes.
+# All wrong bodies, of which the gate tries those of tools/must-fail: before a release, and after a contract changes.
 wrong-bodies:
 	tools/wrong_bodies.py $(CRATES)
 

@@ -26,7 +26,7 @@ from wrong_bodies import KEPT
 
 TEXTS = [
     "test_lines.py", "test_vectors.py", "test_documents.py", "test_definitions.py", "test_theorem.py", "make_diagrams.py --check",
-    "make_calling.py --check", "test_answers.py", "make_speed.py --check",
+    "make_calling.py --check", "test_answers.py",
 ]
 WRONG = "wrong_bodies.py --gate"
 # What tests what was built, and the command without which it is left out, or what stands in its place then.
