@@ -347,6 +347,11 @@ def rows_of_limits():
     for words in (["one.cut", "no.font"], ["no.font", "one.cut"]):
         yield Row(["diff", "--tokens", "0", *words], 1, b"", b"refused: no eexec\n")
     yield Row(["diff", "--tokens", "0", "one.cut", "absent"], 3, b"", b"failed: read\n")
+    advice = page_rows()["too many tokens"]
+    for words, meant in ((["subset", "whole.font", "old", "A"], "file: whole.font"), (["merge", "old", "whole.font"], "file: whole.font"),
+                         (["merge", "old", "one.cut", "two.cut"], "files: all of them together")):
+        said = f"refused: too many tokens\n{meant}\n{advice}\n".encode()
+        yield Row([*words, "--tokens", "0", "--explain"], 1, b"", said)
     for tokens in (["-1"], ["many"], [""], ["1e6"], ["18446744073709551616"], []):
         yield Row(["merge", "out", "one.cut", "--tokens", *tokens], 2, b"", SOME)
         yield Row(["diff", "one.cut", "one.cut", "--tokens", *tokens], 2, b"", SOME)
@@ -405,6 +410,13 @@ def rows_of_pooled():
     yield Row(["pool", "out", "nothing.ps", "nothing.ps"], 0, b"", b"", {"out": b""})
 
 
+def rows_without_a_path():
+    """An OUT without bytes is no file, and nothing is left where it would stand."""
+    for words in (["pfa", "whole.font", ""], ["subset", "whole.font", "", "A"], ["merge", "", "whole.font"], ["rejoin", "", "one.cut"],
+                  ["mend", "whole.font", ""], ["pool", "", "one.ps"], ["fonts", "--extract", "ABCDEF+Small", "", "one.ps"]):
+        yield Row(words, 3, b"", b"failed: write\n")
+
+
 def rows_of_levelled():
     """Documents that get one font for each name, each by itself."""
     given, both = files(), document(BOTH)
@@ -419,9 +431,11 @@ def rows_of_levelled():
     yield Row(["level", ".", "one.ps", "two.ps"], 2, b"", b"error: . holds the document one.ps\n")
     yield Row(["level", "./folder/..", "two.ps"], 2, b"", b"error: ./folder/.. holds the document two.ps\n")
     yield Row(["level", "folder", "one.ps", "absent"], 3, b"", b"failed: read\n")
-    yield Row(["level", "no.folder", "one.ps"], 3, b"", b"failed: write\n")
+    unwritten = b"note: 0 of %d documents are written, one.ps is not\n"
+    yield Row(["level", "no.folder", "one.ps"], 3, b"", b"failed: write\n" + unwritten % 1)
+    yield Row(["level", "", "one.ps", "two.ps"], 3, b"", b"failed: write\n" + unwritten % 2)
     rows = page_rows()
-    explained = f"failed: write\nfile: no.folder\n{rows['failed: write']}\n".encode()
+    explained = f"failed: write\nfile: no.folder\n{rows['failed: write']}\n".encode() + unwritten % 1
     yield Row(["level", "--explain", "no.folder", "one.ps"], 3, b"", explained)
 
 
@@ -497,4 +511,4 @@ def rows_of_listings():
 
 def all_rows(given):
     rows = [*rows_of_words(), *rows_of_fonts(), *rows_of_full(), *rows_of_several(), *rows_of_explained(), *rows_of_outputs(given)]
-    return [*rows, *rows_of_names(), *rows_of_codes(), *rows_of_limits(), *rows_of_rejoined(), *rows_of_pooled(), *rows_of_levelled(), *rows_of_listed_fonts(), *rows_of_mended(), *rows_of_differences(), *rows_of_listings()]
+    return [*rows, *rows_of_names(), *rows_of_codes(), *rows_of_limits(), *rows_of_rejoined(), *rows_of_pooled(), *rows_of_levelled(), *rows_without_a_path(), *rows_of_listed_fonts(), *rows_of_mended(), *rows_of_differences(), *rows_of_listings()]

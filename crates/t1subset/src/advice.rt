@@ -178,30 +178,42 @@ fn of_reason(reason: &Reason) -> &'static str {
     }
 }
 
-/// The line of the file that a refusal means, which was read from this path.
-fn tell_file<E: Write>(reason: &Reason, input: &str, err: &mut E) -> io::Result<()> {
+/// Whether a refusal means all files together, where there are several.
+fn is_of_all(reason: &Reason) -> bool {
+    matches!(
+        reason,
+        Reason::Join(_)
+            | Reason::NoFont { .. }
+            | Reason::TooManyTokens
+            | Reason::Lacks { .. }
+            | Reason::Merge(_)
+    )
+}
+
+/// The line of the file that a refusal means, which was read from this path. The file may be the only one.
+fn tell_file<E: Write>(
+    reason: &Reason,
+    (input, is_only): (&str, bool),
+    err: &mut E,
+) -> io::Result<()> {
     match reason {
         Reason::Memory => writeln!(err, "file: none"),
-        Reason::Join(_)
-        | Reason::NoFont { .. }
-        | Reason::TooManyTokens
-        | Reason::Lacks { .. }
-        | Reason::Merge(_) => writeln!(err, "files: all of them together"),
+        _ if is_of_all(reason) && !is_only => writeln!(err, "files: all of them together"),
         _ => writeln!(err, "file: {input}"),
     }
 }
 
-/// Explains a fault in two lines: the file that is meant, which is the input of this path, or the file that is written; and what to
-/// do. Without a path, standard output is written.
+/// Explains a fault in two lines: the file that is meant, which is the input of this path, and may be the only one, or the file that
+/// is written; and what to do. Without a path, standard output is written.
 fn explain<E: Write>(
     fault: &RunFault,
-    input: &str,
+    (input, is_only): (&str, bool),
     out: Option<&str>,
     err: &mut E,
 ) -> io::Result<()> {
     let advice = match fault {
         RunFault::Refused(reason) => {
-            tell_file(reason, input, err)?;
+            tell_file(reason, (input, is_only), err)?;
             of_reason(reason)
         }
         RunFault::Read => {
@@ -232,8 +244,9 @@ impl<E: Write + Drop> Told<E> {
         Progress::new(&mut self.err, count, self.is_terminal)
     }
 
-    /// Explains a fault in two more lines, if that is asked for.
-    pub fn explain(&mut self, fault: &RunFault, input: &str, out: Option<&str>) {
+    /// Explains a fault in two more lines, if that is asked for: of the input of this path, which may be the only one, or of the file
+    /// that is written.
+    pub fn explain(&mut self, fault: &RunFault, input: (&str, bool), out: Option<&str>) {
         if self.explains {
             let _ = explain(fault, input, out, &mut self.err);
         }

@@ -4,48 +4,49 @@ use clap::{Arg, ArgAction, ArgMatches, Command, Error, value_parser};
 use std::alloc::{AllocError, Global};
 use t1_cmd::read_codes;
 
-fn word<'a>(alloc: Global, name: &'a str, help: &'a str) -> Arg<'a> {
-    Arg::new(alloc, name)
-        .required(true)
-        .action(ArgAction::Set)
-        .help(help)
+/// What may stand behind a command: an argument or an option, with its help.
+#[derive(Clone, Copy)]
+enum Word {
+    /// An argument that has to be given.
+    One(&'static str, &'static str),
+    /// Inputs, one or more.
+    Inputs(&'static str),
+    /// Names of glyphs, or none.
+    Names(&'static str),
+    /// An option without a value.
+    Flag(&'static str, &'static str),
+    /// An option with a value, whose name stands between.
+    Value(&'static str, &'static str, &'static str),
+    /// The same, where the value may begin with `-`.
+    AnyValue(&'static str, &'static str, &'static str),
+    /// An option with a number.
+    Number(&'static str, &'static str, &'static str),
 }
 
-/// Words for one input or more.
-fn inputs<'a>(alloc: Global, help: &'a str) -> Arg<'a> {
-    Arg::new(alloc, "IN")
-        .num_args(1..)
-        .required(true)
-        .action(ArgAction::Append)
-        .help(help)
-}
+const IN: Word = Word::One("IN", "The font");
 
-/// An option without a value.
-fn flag<'a>(alloc: Global, name: &'a str, help: &'a str) -> Arg<'a> {
-    Arg::new(alloc, name)
-        .long(name)
-        .action(ArgAction::SetTrue)
-        .help(help)
-}
+const OUT: Word = Word::One("OUT", "The file that is written");
 
-/// An option with a value.
-fn option<'a>(alloc: Global, name: &'a str, value: &'a str, help: &'a str) -> Arg<'a> {
-    Arg::new(alloc, name)
-        .long(name)
-        .value_name(value)
-        .action(ArgAction::Set)
-        .help(help)
-}
+const SEVERAL: Word = Word::Inputs("The fonts");
+
+const DOCUMENTS: Word = Word::Inputs("The documents");
 
 /// The option that writes a PFB.
-fn pfb_option<'a>(alloc: Global) -> Arg<'a> {
-    flag(alloc, "pfb", "Writes a PFB")
-}
+const AS_PFB: Word = Word::Flag("pfb", "Writes a PFB");
 
 /// The option that limits what glyphs' runs execute.
-fn tokens_option<'a>(alloc: Global) -> Arg<'a> {
-    let help = "Refuses if the glyphs' charstrings execute more than N tokens";
-    option(alloc, "tokens", "N", help).value_parser(value_parser!(u64))
+const TOKENS: Word = Word::Number(
+    "tokens",
+    "N",
+    "Refuses if the glyphs' charstrings execute more than N tokens",
+);
+
+/// A command: its name, what it does, its help, and what may stand behind it.
+struct Row {
+    name: &'static str,
+    about: &'static str,
+    help: &'static str,
+    words: &'static [Word],
 }
 
 const JOIN_HELP: &str = "\
@@ -55,14 +56,6 @@ glyphs by name. Two listings that give one Subr or one glyph different bytes
 are refused.
 
 Example: t1subset join one.listing two.listing > both.listing";
-
-fn join_command<'a>(alloc: Global) -> Result<Command<'a>, AllocError> {
-    Command::new(alloc, "join")
-        .about("Prints the join of two listings of Subrs and glyphs")
-        .after_help(JOIN_HELP)
-        .arg(word(alloc, "A", "The first listing"))?
-        .arg(word(alloc, "B", "The second listing"))
-}
 
 const SUBSET_HELP: &str = "\
 Cuts the font to the glyphs of these names, `.notdef`, the components of
@@ -84,25 +77,6 @@ const NAMES_HELP: &str = "A file of more names, a name a line; `-` is standard i
 const CODES_HELP: &str = "Codes of the font's Encoding from 0 to 255, as 65-90,97";
 
 const TEXT_HELP: &str = "A text each of whose bytes is a code of the font's Encoding";
-
-fn subset_command<'a>(alloc: Global) -> Result<Command<'a>, AllocError> {
-    Command::new(alloc, "subset")
-        .about("Cuts a font to some of its glyphs")
-        .after_help(SUBSET_HELP)
-        .arg(word(alloc, "IN", "The font"))?
-        .arg(word(alloc, "OUT", "The file that is written"))?
-        .arg(
-            Arg::new(alloc, "NAME")
-                .num_args(0..)
-                .action(ArgAction::Append)
-                .help("The names of the glyphs to keep, without their `/`"),
-        )?
-        .arg(option(alloc, "names", "FILE", NAMES_HELP))?
-        .arg(option(alloc, "codes", "LIST", CODES_HELP))?
-        .arg(option(alloc, "text", "STRING", TEXT_HELP).allow_hyphen_values(true))?
-        .arg(tokens_option(alloc))?
-        .arg(pfb_option(alloc))
-}
 
 const MERGE_HELP: &str = "\
 OUT comes first: `t1subset merge a.pfa b.pfa` overwrites a.pfa.
@@ -133,21 +107,6 @@ result is complete.
 
 Example: t1subset rejoin all.pfa one.pfa two.pfa";
 
-fn list_of_fonts_command<'a>(
-    alloc: Global,
-    name: &'a str,
-    about: &'a str,
-    help: &'a str,
-) -> Result<Command<'a>, AllocError> {
-    Command::new(alloc, name)
-        .about(about)
-        .after_help(help)
-        .arg(word(alloc, "OUT", "The file that is written"))?
-        .arg(inputs(alloc, "The fonts"))?
-        .arg(tokens_option(alloc))?
-        .arg(pfb_option(alloc))
-}
-
 const POOL_HELP: &str = "\
 OUT comes first: `t1subset pool a.ps b.ps` overwrites a.ps.
 
@@ -170,15 +129,6 @@ Examples: t1subset pool all.ps one.ps two.ps
 
 const TAGS_HELP: &str = "Gives names that are equal without their tags one font";
 
-fn pool_command<'a>(alloc: Global) -> Result<Command<'a>, AllocError> {
-    Command::new(alloc, "pool")
-        .about("Writes documents one behind the other with each font once")
-        .after_help(POOL_HELP)
-        .arg(word(alloc, "OUT", "The file that is written"))?
-        .arg(inputs(alloc, "The documents"))?
-        .arg(flag(alloc, "tags", TAGS_HELP))
-}
-
 const LEVEL_HELP: &str = "\
 Writes each PostScript document into FOLDER, under its own last name, so that
 a program that joins documents, and keeps one font of each name, loses no
@@ -190,14 +140,6 @@ there. Two documents of one name, or one that stands in FOLDER, are refused
 before anything is written.
 
 Example: mkdir out && t1subset level out one.ps two.ps";
-
-fn level_command<'a>(alloc: Global) -> Result<Command<'a>, AllocError> {
-    Command::new(alloc, "level")
-        .about("Writes documents again with one font for each name")
-        .after_help(LEVEL_HELP)
-        .arg(word(alloc, "FOLDER", "The folder that they are written to"))?
-        .arg(inputs(alloc, "The documents"))
-}
 
 const FONTS_HELP: &str = "\
 Prints a line for each place of a font in PostScript documents, as
@@ -215,14 +157,6 @@ Examples: t1subset fonts one.ps two.ps
 
 const EXTRACT_HELP: &str = "Writes the first font of this name to OUT, which comes first";
 
-fn fonts_command<'a>(alloc: Global) -> Result<Command<'a>, AllocError> {
-    Command::new(alloc, "fonts")
-        .about("Lists the fonts of documents, or takes one out")
-        .after_help(FONTS_HELP)
-        .arg(inputs(alloc, "The documents"))?
-        .arg(option(alloc, "extract", "NAME", EXTRACT_HELP).allow_hyphen_values(true))
-}
-
 const DIFF_HELP: &str = "\
 Tells why two fonts don't merge: a line for each conflict, the lowest first, as
 `merge` tells the lowest. First each part of the texts around the tables that
@@ -232,15 +166,6 @@ a limit` is told only where nothing else is. It prints nothing, and ends with
 status 0, exactly if the fonts merge; with a conflict the status is 1.
 
 Example: t1subset diff one.pfa two.pfa";
-
-fn diff_command<'a>(alloc: Global) -> Result<Command<'a>, AllocError> {
-    Command::new(alloc, "diff")
-        .about("Prints all conflicts of two fonts")
-        .after_help(DIFF_HELP)
-        .arg(word(alloc, "A", "The first font"))?
-        .arg(word(alloc, "B", "The second font"))?
-        .arg(tokens_option(alloc))
-}
 
 const PFA_HELP: &str = "\
 IN is a Type 1 font as PFA, PFB or with a raw binary cipher. OUT becomes its
@@ -258,19 +183,6 @@ zero, and a standard trailer. OUT is opened only when the result is complete.
 
 Example: t1subset pfb font.pfa font.pfb";
 
-fn convert_command<'a>(
-    alloc: Global,
-    name: &'a str,
-    about: &'a str,
-    help: &'a str,
-) -> Result<Command<'a>, AllocError> {
-    Command::new(alloc, name)
-        .about(about)
-        .after_help(help)
-        .arg(word(alloc, "IN", "The font"))?
-        .arg(word(alloc, "OUT", "The file that is written"))
-}
-
 const MEND_HELP: &str = "\
 Writes to OUT, as PFA or with --pfb as PFB, the canonical file of a font that
 other programs spell. Beside what the other commands read it takes comments in
@@ -283,11 +195,6 @@ error, a line each with its place, as `comment in Encoding at 195`.
 
 Example: t1subset mend font.pfb font.pfa";
 
-fn mend_command<'a>(alloc: Global) -> Result<Command<'a>, AllocError> {
-    let about = "Writes what other programs spell as a canonical file";
-    convert_command(alloc, "mend", about, MEND_HELP)?.arg(pfb_option(alloc))
-}
-
 const CHECK_HELP: &str = "\
 Prints `ok G glyphs, S subrs, weight W`, where S counts the Subrs that are
 present, and W is the weight, which is limited. It adds up the lengths of the
@@ -297,13 +204,6 @@ length. A font that doesn't parse is refused with its first fault. Of several
 fonts each line begins with the path, and the exit status is the worst.
 
 Example: t1subset check font.pfb";
-
-fn check_command<'a>(alloc: Global) -> Result<Command<'a>, AllocError> {
-    Command::new(alloc, "check")
-        .about("Checks that fonts can be read")
-        .after_help(CHECK_HELP)
-        .arg(inputs(alloc, "The fonts"))
-}
 
 const LIST_HELP: &str = "\
 Prints `encoding WORD`, or a line `code C NAME` for each code; then `subr I
@@ -318,14 +218,6 @@ Example: t1subset list font.pfb";
 
 const FULL_HELP: &str = "Prints the font's name, matrix, box and number, and widths, too";
 
-fn list_command<'a>(alloc: Global) -> Result<Command<'a>, AllocError> {
-    Command::new(alloc, "list")
-        .about("Lists a font's codes, Subrs and glyphs")
-        .after_help(LIST_HELP)
-        .arg(word(alloc, "IN", "The font"))?
-        .arg(flag(alloc, "full", FULL_HELP))
-}
-
 const SHOW_HELP: &str = "\
 Prints `width WX WY`, `bearing SBX SBY`, and for each part `part DX DY` and a
 line for each of its marks, or the one line `fault NAME`. Numbers are
@@ -334,20 +226,186 @@ unit followed by `/65536`. Put `--` before a NAME that begins with `-`.
 
 Example: t1subset show font.pfb Aacute";
 
-fn show_command<'a>(alloc: Global) -> Result<Command<'a>, AllocError> {
-    Command::new(alloc, "show")
-        .about("Shows what a glyph draws")
-        .after_help(SHOW_HELP)
-        .arg(word(alloc, "IN", "The font"))?
-        .arg(word(alloc, "NAME", "The glyph's name, without its `/`"))
-}
-
 const PROGRAM_HELP: &str = "\
 Exit status: 0 for success; 1 for a refusal, with the reason on standard error,
 and for fonts that differ; 2 for a wrong command line; 3 if a file can't be
 opened, read or written.
 
 Example: t1subset subset font.pfb some.pfa A B Aacute";
+
+const EXPLAIN_HELP: &str = "Says behind a refusal which file is meant, and what to do";
+
+const SUBSET: Row = Row {
+    name: "subset",
+    about: "Cuts a font to some of its glyphs",
+    help: SUBSET_HELP,
+    words: &[
+        IN,
+        OUT,
+        Word::Names("The names of the glyphs to keep, without their `/`"),
+        Word::Value("names", "FILE", NAMES_HELP),
+        Word::Value("codes", "LIST", CODES_HELP),
+        Word::AnyValue("text", "STRING", TEXT_HELP),
+        TOKENS,
+        AS_PFB,
+    ],
+};
+
+const MERGE: Row = Row {
+    name: "merge",
+    about: "Merges subsets of a font into one font",
+    help: MERGE_HELP,
+    words: &[OUT, SEVERAL, TOKENS, AS_PFB],
+};
+
+const REJOIN: Row = Row {
+    name: "rejoin",
+    about: "Merges subsets of a font that other programs cut",
+    help: REJOIN_HELP,
+    words: &[OUT, SEVERAL, TOKENS, AS_PFB],
+};
+
+const POOL: Row = Row {
+    name: "pool",
+    about: "Writes documents one behind the other with each font once",
+    help: POOL_HELP,
+    words: &[OUT, DOCUMENTS, Word::Flag("tags", TAGS_HELP)],
+};
+
+const LEVEL: Row = Row {
+    name: "level",
+    about: "Writes documents again with one font for each name",
+    help: LEVEL_HELP,
+    words: &[
+        Word::One("FOLDER", "The folder that they are written to"),
+        DOCUMENTS,
+    ],
+};
+
+const FONTS: Row = Row {
+    name: "fonts",
+    about: "Lists the fonts of documents, or takes one out",
+    help: FONTS_HELP,
+    words: &[DOCUMENTS, Word::AnyValue("extract", "NAME", EXTRACT_HELP)],
+};
+
+const DIFF: Row = Row {
+    name: "diff",
+    about: "Prints all conflicts of two fonts",
+    help: DIFF_HELP,
+    words: &[
+        Word::One("A", "The first font"),
+        Word::One("B", "The second font"),
+        TOKENS,
+    ],
+};
+
+const MEND: Row = Row {
+    name: "mend",
+    about: "Writes what other programs spell as a canonical file",
+    help: MEND_HELP,
+    words: &[IN, OUT, AS_PFB],
+};
+
+const CHECK: Row = Row {
+    name: "check",
+    about: "Checks that fonts can be read",
+    help: CHECK_HELP,
+    words: &[SEVERAL],
+};
+
+const LIST: Row = Row {
+    name: "list",
+    about: "Lists a font's codes, Subrs and glyphs",
+    help: LIST_HELP,
+    words: &[IN, Word::Flag("full", FULL_HELP)],
+};
+
+const SHOW: Row = Row {
+    name: "show",
+    about: "Shows what a glyph draws",
+    help: SHOW_HELP,
+    words: &[IN, Word::One("NAME", "The glyph's name, without its `/`")],
+};
+
+const PFA: Row = Row {
+    name: "pfa",
+    about: "Writes a font's canonical file as PFA, text and hexadecimal",
+    help: PFA_HELP,
+    words: &[IN, OUT],
+};
+
+const PFB: Row = Row {
+    name: "pfb",
+    about: "Writes a font's canonical file as PFB, in binary segments",
+    help: PFB_HELP,
+    words: &[IN, OUT],
+};
+
+const JOIN: Row = Row {
+    name: "join",
+    about: "Prints the join of two listings of Subrs and glyphs",
+    help: JOIN_HELP,
+    words: &[
+        Word::One("A", "The first listing"),
+        Word::One("B", "The second listing"),
+    ],
+};
+
+/// An option of this name with a value.
+fn option<'a>(alloc: Global, (name, value, help): (&'a str, &'a str, &'a str)) -> Arg<'a> {
+    Arg::new(alloc, name)
+        .long(name)
+        .value_name(value)
+        .action(ArgAction::Set)
+        .help(help)
+}
+
+/// An option of this name without a value.
+fn flag<'a>(alloc: Global, name: &'a str, help: &'a str) -> Arg<'a> {
+    Arg::new(alloc, name)
+        .long(name)
+        .action(ArgAction::SetTrue)
+        .help(help)
+}
+
+/// A word as clap has it.
+fn arg_of<'a>(alloc: Global, word: Word) -> Arg<'a> {
+    match word {
+        Word::One(name, help) => Arg::new(alloc, name)
+            .required(true)
+            .action(ArgAction::Set)
+            .help(help),
+        Word::Inputs(help) => Arg::new(alloc, "IN")
+            .num_args(1..)
+            .required(true)
+            .action(ArgAction::Append)
+            .help(help),
+        Word::Names(help) => Arg::new(alloc, "NAME")
+            .num_args(0..)
+            .action(ArgAction::Append)
+            .help(help),
+        Word::Flag(name, help) => flag(alloc, name, help),
+        Word::Value(name, value, help) => option(alloc, (name, value, help)),
+        Word::AnyValue(name, value, help) => {
+            option(alloc, (name, value, help)).allow_hyphen_values(true)
+        }
+        Word::Number(name, value, help) => {
+            option(alloc, (name, value, help)).value_parser(value_parser!(u64))
+        }
+    }
+}
+
+/// A command as clap has it.
+fn command_of<'a>(alloc: Global, row: &Row) -> Result<Command<'a>, AllocError> {
+    let mut command = Command::new(alloc, row.name)
+        .about(row.about)
+        .after_help(row.help);
+    for word in row.words {
+        command = command.arg(arg_of(alloc, *word))?;
+    }
+    Ok(command)
+}
 
 /// Adds a command to those of the program, if there is memory for all of it.
 fn with<'a>(
@@ -370,45 +428,33 @@ fn with<'a>(
     }
 }
 
-/// The program without its commands.
-fn bare_program<'a>(alloc: Global) -> Command<'a> {
+/// The program without its commands. `--explain` may stand before a command or behind it.
+fn bare_program<'a>(alloc: Global) -> Result<Command<'a>, AllocError> {
     Command::new(alloc, "t1subset")
         .version("0.1.0")
         .about("Subsets and merges Type 1 fonts, and checks, lists, shows and rewrites them")
         .after_help(PROGRAM_HELP)
         .subcommand_required(true)
         .arg_required_else_help(true)
+        .arg(flag(alloc, "explain", EXPLAIN_HELP).global(true))
 }
 
-/// It may stand before a command or behind it.
-const EXPLAIN_HELP: &str = "Says behind a refusal which file is meant, and what to do";
-
 fn program<'a>(alloc: Global) -> Result<Command<'a>, AllocError> {
-    let program = bare_program(alloc).arg(flag(alloc, "explain", EXPLAIN_HELP).global(true));
-    let program = with(program, subset_command(alloc));
-    let about = "Merges subsets of a font into one font";
-    let program = with(
-        program,
-        list_of_fonts_command(alloc, "merge", about, MERGE_HELP),
-    );
-    let about = "Merges subsets of a font that other programs cut";
-    let program = with(
-        program,
-        list_of_fonts_command(alloc, "rejoin", about, REJOIN_HELP),
-    );
-    let program = with(program, pool_command(alloc));
-    let program = with(program, level_command(alloc));
-    let program = with(program, fonts_command(alloc));
-    let program = with(program, diff_command(alloc));
-    let program = with(program, mend_command(alloc));
-    let program = with(program, check_command(alloc));
-    let program = with(program, list_command(alloc));
-    let program = with(program, show_command(alloc));
-    let about = "Writes a font's canonical file as PFA, text and hexadecimal";
-    let program = with(program, convert_command(alloc, "pfa", about, PFA_HELP));
-    let about = "Writes a font's canonical file as PFB, in binary segments";
-    let program = with(program, convert_command(alloc, "pfb", about, PFB_HELP));
-    with(program, join_command(alloc))
+    let program = bare_program(alloc);
+    let program = with(program, command_of(alloc, &SUBSET));
+    let program = with(program, command_of(alloc, &MERGE));
+    let program = with(program, command_of(alloc, &REJOIN));
+    let program = with(program, command_of(alloc, &POOL));
+    let program = with(program, command_of(alloc, &LEVEL));
+    let program = with(program, command_of(alloc, &FONTS));
+    let program = with(program, command_of(alloc, &DIFF));
+    let program = with(program, command_of(alloc, &MEND));
+    let program = with(program, command_of(alloc, &CHECK));
+    let program = with(program, command_of(alloc, &LIST));
+    let program = with(program, command_of(alloc, &SHOW));
+    let program = with(program, command_of(alloc, &PFA));
+    let program = with(program, command_of(alloc, &PFB));
+    with(program, command_of(alloc, &JOIN))
 }
 
 /// The list of codes that the words give, if it can't be read.

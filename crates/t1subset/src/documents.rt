@@ -72,12 +72,21 @@ fn repeated_name<'p>(paths: &[&'p str]) -> Option<&'p str> {
     None
 }
 
+/// The path in a folder of a file with the last name of this path. A folder whose path has no bytes holds no file, so it gives no path:
+/// the root is `/`.
+fn path_in(alloc: Global, folder: &str, path: &str) -> Result<String, AllocError> {
+    if folder.is_empty() {
+        return Ok(String::new(alloc));
+    }
+    let name = last_name(path);
+    Ok(format!(in alloc; "{folder}/{name}")?)
+}
+
 /// The paths in a folder of files with the last names of these paths.
 fn paths_in(alloc: Global, folder: &str, paths: &[&str]) -> Result<Vec<String>, AllocError> {
     let mut targets = Vec::new(alloc);
     for path in paths {
-        let name = last_name(*path);
-        let target = format!(in alloc; "{folder}/{name}")?;
+        let target = path_in(alloc, folder, *path)?;
         if targets.push(target).is_err() {
             return Err(AllocError);
         }
@@ -161,10 +170,27 @@ impl<'r, 'p: 'r, R: Files, O: Write + Drop, E: Write + Drop> Run<'r, 'p, R, O, E
         done
     }
 
+    /// Tells that the document of this number, counted from 0, is the first that could not be written.
+    fn tell_unwritten(&mut self, number: usize) {
+        let count = self.paths.len();
+        if let Some(path) = self.paths.get(number) {
+            let told = &mut self.seen.told;
+            let _ = writeln!(
+                told,
+                "note: {number} of {count} documents are written, {path} is not"
+            );
+        }
+    }
+
     /// Writes texts to the files of these paths, one after the other.
     fn write_files(&mut self, paths: &[String], texts: &[Vec<u8>]) -> Result<(), RunFault> {
+        let mut number = 0usize;
         for (path, text) in paths.iter().zip(texts.iter()) {
-            self.write_file(path.as_str(), text.as_slice())?;
+            if let Err(fault) = self.write_file(path.as_str(), text.as_slice()) {
+                self.tell_unwritten(number);
+                return Err(fault);
+            }
+            number = number.saturating_add(1);
         }
         Ok(())
     }

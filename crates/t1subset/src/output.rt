@@ -160,8 +160,11 @@ impl<'r, 'p, R: Files> Out<'r, 'p, R> {
         }
     }
 
-    /// Opens a new file beside OUT, or else OUT.
+    /// Opens a new file beside OUT, or else OUT. No file has a path without bytes, and none is made beside it.
     fn open(&self) -> io::Result<Opened<R::File>> {
+        if self.path.is_empty() {
+            return Err(io::Error::from(ErrorKind::NotFound));
+        }
         let place = place_for(self.rt, self.alloc, self.path);
         if let Place::Beside(name, file) = place {
             return Ok(Opened {

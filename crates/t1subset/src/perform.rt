@@ -118,7 +118,7 @@ impl<'r, 'p: 'r, R: Files, O: Write + Drop, E: Write + Drop> Run<'r, 'p, R, O, E
                     worst = worst.max(status(&fault));
                     let err = &mut self.told.err;
                     let _ = write_fault_of(self.alloc, path.as_bytes(), &fault, err);
-                    self.told.explain(&fault, *path, None);
+                    self.told.explain(&fault, (*path, true), None);
                 }
             }
         }
@@ -243,16 +243,18 @@ impl<'r, 'p: 'r, R: Files, O: Write + Drop, E: Write + Drop> Run<'r, 'p, R, O, E
         };
         let Run {
             alloc,
+            paths,
             told,
             seen,
             ..
         } = self;
         let mut told = told;
+        let is_only = paths.len() == 1;
         let ended = match done {
             Ok(status) => status,
             Err(fault) => {
                 let _ = write_fault(alloc, &fault, &mut told.err);
-                told.explain(&fault, seen.input, seen.out);
+                told.explain(&fault, (seen.input, is_only), seen.out);
                 status(&fault)
             }
         };
