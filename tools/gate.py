@@ -181,10 +181,11 @@ class Gate:
     def rest(self):
         """The wrong bodies of the gate, and beside them the scripts where there are processors for both."""
         others = threading.Thread(target=self.behind)
-        alone = lanes() == 1
+        count = lanes()
+        alone = count == 1
         if not alone:
             others.start()
-        self.script(WRONG)
+        self.script(f"{WRONG} --jobs {max(1, count - 1)}")
         if alone:
             others.start()
         others.join()
