@@ -19,7 +19,7 @@ import tempfile
 from xml.etree import ElementTree
 
 from common import BUILDS, CLOSE, EMPTY, ENDCHAR, HSBW, LINE, MOVE, RETURN, TINY_PFB, TOP
-from common import as_pfb, bytes_of, compiler, example, made_font, number, printed, put, say
+from common import as_pfb, below, bytes_of, compiler, example, made_font, needs, number, printed, put, say, text_of
 
 SVG = "{http://www.w3.org/2000/svg}"
 THOUSANDTH, OF_2048, SLANTED = b"0.001 0 0 0.001 0 0", b"0.00048828125 0 0 0.00048828125 0 0", b"0.001 0 0.0002 0.001 0 0"
@@ -350,31 +350,73 @@ def producers(program):
     check(rows[0] == ["1", "fonts"] and len(both) == 4 and all(row[2] == row[4] == row[5] == "1" for row in both), out)
 
 
+# A compiler that proves nothing: it notes the crate, and makes what it is asked for, each time another. It refuses one crate.
 STAND_IN = """#!/bin/sh
-for crate in t1_tiny t1_grammar; do
-    mkdir -p ../$crate/out/rlib
-    touch ../$crate/out/rlib/$crate.rlib
-    sleep 3
+while [ "$#" -gt 0 ]; do
+    case "$1" in
+        --crate-name) crate=$2 ;;
+        -o) made=$2 ;;
+    esac
+    shift
 done
-echo "$@"
-exit 3
+echo "$crate" >> "$NOTED"
+if [ "$crate" = "$REFUSED" ]; then echo "$crate has a fault"; exit 1; fi
+case "$made" in
+    *.rlib) mkdir -p "$made"; date +%s%N > "$made/format" ;;
+    *) touch "$made" ;;
+esac
+"""
+# A linker that makes an empty program.
+LINKER = """#!/bin/sh
+while [ "$1" != -o ]; do shift; done
+touch "$2"
 """
 
 
+class StandIn:
+    """A copy of tools/build.py and of the crates' names, over a kit that proves nothing."""
+
+    def __init__(self, folder):
+        self.folder, self.noted = folder, os.path.join(folder, "noted")
+        for name in ("tools/build.py", "tools/common.py", "tools/kit.py", "crates.txt"):
+            os.makedirs(os.path.dirname(os.path.join(folder, name)), exist_ok=True)
+            shutil.copy(os.path.join(TOP, name), os.path.join(folder, name))
+        for crate in needs():
+            os.makedirs(os.path.join(folder, "crates", crate, "src"))
+            put(b"", folder, "crates", crate, "src", "main.rt" if crate == "t1subset" else "lib.rt")
+        os.makedirs(os.path.join(folder, "kit/bin"))
+        put(b"a kit", folder, "kit/KIT-ID")
+        for name, text in (("rt", "#!/bin/sh\n"), ("rattle", STAND_IN), ("rattle-link", LINKER)):
+            os.chmod(put(text.encode(), folder, "kit/bin", name), 0o755)
+
+    def run(self, refused=""):
+        """The crates that were proved, as often as each was, the status, and what was said."""
+        put(b"", self.noted)
+        env = {**os.environ, "PATH": os.path.join(self.folder, "kit/bin") + ":" + os.environ["PATH"], "NOTED": self.noted, "REFUSED": refused}
+        done = subprocess.run([sys.executable, os.path.join(self.folder, "tools/build.py")], env=env, capture_output=True, text=True, timeout=60)
+        return text_of(self.noted).split(), done.returncode, done.stderr
+
+    def change(self, crate):
+        put(b"// changed\n", self.folder, "crates", crate, "src", "more.rt")
+
+
 def build(folder):
-    """tools/build.py runs rt in the program's crate, says which crates are done, and ends with rt's status."""
-    for name in ("tools/build.py", "tools/common.py", "crates.txt"):
-        os.makedirs(os.path.dirname(os.path.join(folder, name)), exist_ok=True)
-        shutil.copy(os.path.join(TOP, name), os.path.join(folder, name))
-    os.makedirs(os.path.join(folder, "crates/t1subset"))
-    os.chmod(put(STAND_IN.encode(), folder, "rt"), 0o755)
-    env = {**os.environ, "PATH": folder + ":" + os.environ["PATH"]}
-    done = subprocess.run([sys.executable, os.path.join(folder, "tools/build.py")], env=env, capture_output=True, text=True, timeout=60)
-    told = done.stderr.splitlines()
-    check(done.returncode == 3 and done.stdout == "run -- --version\n", f"tools/build.py: {done}")
-    check(told[0].startswith("Proving and building t1subset, ") and "0 of which have a library" in told[0], f"tools/build.py: {told}")
-    wanted = ["t1_tiny is proved, after 0 minutes: 1 of ", "t1_grammar is proved, after 0 minutes: 2 of "]
-    check([line[:len(start)] for line, start in zip(told[2:], wanted)] == wanted and len(told) == 4, f"tools/build.py: {told}")
+    """tools/build.py proves each crate once, after those below it, and again only what changed and what stands on it; at one that is
+    refused it says why, and nothing above is tried."""
+    made, crates = StandIn(folder), [*below(["t1subset"]), "t1subset"]
+    crates = [crate for crate in crates if crate in needs()]
+    proved, status, said = made.run()
+    check(status == 0 and sorted(proved) == sorted(crates), f"tools/build.py: {proved}, {said}")
+    check(all(proved.index(dep) < proved.index(crate) for crate in crates for dep in needs()[crate] if dep in proved), f"tools/build.py: {proved}")
+    check(all(f"{crate} is proved, after " in said for crate in crates), f"tools/build.py: {said}")
+    check(made.run() == ([], 0, ""), "tools/build.py proves what is proved")
+    made.change("t1_subset")
+    proved, status, said = made.run()
+    above = [crate for crate in crates if crate == "t1_subset" or "t1_subset" in below([crate])]
+    check(status == 0 and sorted(proved) == sorted(above), f"tools/build.py: {proved}, {said}")
+    made.change("t1_document")
+    proved, status, said = made.run(refused="t1_document")
+    check((proved, status) == (["t1_document"], 1) and "t1_document has a fault" in said, f"tools/build.py: {proved}, {status}, {said}")
 
 
 def pooled_pages(program, folder):
