@@ -117,6 +117,14 @@ def told_of(output, crate):
     return {f"{crate}::{path}": said for path, said in told.items()}
 
 
+def refused_lemma(called, told, output):
+    """The line that refuses a lemma of a function that is not proved, or None: an edit of more than the function's body, as of a
+    definition, may be refused there."""
+    if all(verdict == "proved" for path, (verdict, _) in told.items() if f"::{path}".endswith(f"::{called}")):
+        return None
+    return next((line for line in output.splitlines() if re.match(r"\./proofs/\S+ error: ", line) and not re.search(NAMES, line)), None)
+
+
 def refusal(edit, called, told):
     """The line that refuses an edit for its function, and for no other clause than it names, or None. What a loop wants names no clause."""
     clause = re.search(r", clause (\w+)", lines_of(edit)[0])

@@ -349,7 +349,7 @@ def rows_of_limits():
     yield Row(["diff", "--tokens", "0", "one.cut", "absent"], 3, b"", b"failed: read\n")
     advice = page_rows()["too many tokens"]
     for words, meant in ((["subset", "whole.font", "old", "A"], "file: whole.font"), (["merge", "old", "whole.font"], "file: whole.font"),
-                         (["merge", "old", "one.cut", "two.cut"], "files: all of them together")):
+                         (["rejoin", "old", "one.cut", "two.cut"], "files: all of them together")):
         said = f"refused: too many tokens\n{meant}\n{advice}\n".encode()
         yield Row([*words, "--tokens", "0", "--explain"], 1, b"", said)
     for tokens in (["-1"], ["many"], [""], ["1e6"], ["18446744073709551616"], []):

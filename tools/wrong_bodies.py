@@ -29,7 +29,7 @@ import threading
 
 from build import Builds
 from common import TOP, below, bytes_of, copy_crates, home_of_tests, needs, put, text_of
-from edits import apply, catcher, change_of, function_of, names_nothing, refusal, told_of
+from edits import apply, catcher, change_of, function_of, names_nothing, refusal, refused_lemma, told_of
 from kit import compiler_words, files_of, lanes, library, sum_of_crate
 
 MUST_FAIL, OTHERS = (os.path.join(TOP, "tools", folder) for folder in ("must-fail", "wrong-bodies"))
@@ -123,7 +123,7 @@ def refused(crate, edit, room):
     change = change_of(edit, crate)
     called = change[-1] if change else function_of(edit)
     told, printed = checked(crate, folder, [called])
-    line = refusal(edit, called, told)
+    line = refusal(edit, called, told) or (None if change else refused_lemma(called, told, printed))
     if line:
         return f"{label(crate, edit)}: {GOOD[0]}: {line[:160]}"
     why = "NOT REFUSED" if told and all(verdict == "proved" for verdict, _ in told.values()) else "NOT REFUSED FOR ITS CLAUSE"
