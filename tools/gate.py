@@ -185,7 +185,7 @@ class Gate:
         alone = count == 1
         if not alone:
             others.start()
-        self.script(f"{WRONG} --jobs {max(1, count - 1)}")
+        self.script(f"{WRONG} --jobs {max(1, count // 2)}")
         if alone:
             others.start()
         others.join()
