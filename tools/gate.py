@@ -115,7 +115,10 @@ class Gate:
 
     def __init__(self):
         self.began, self.passed, self.failed, self.left_out, self.parts = time.time(), [], [], [], []
-        self.last = json.loads(text_of(FAILED_LAST)) if os.path.exists(FAILED_LAST) else []
+        try:
+            self.last = json.loads(text_of(FAILED_LAST))
+        except (OSError, ValueError):
+            self.last = []
 
     def told(self, name, good):
         (self.passed if good else self.failed).append(name)
@@ -124,8 +127,9 @@ class Gate:
 
     def script(self, words):
         """Runs a script of tools/, and notes whether it passed and what it took."""
-        part = Part(words.split(" ")[0], began=time.time())
-        running = subprocess.Popen([sys.executable, *os.path.join(TOP, "tools", words).split(" ")], cwd=TOP, stdin=subprocess.DEVNULL)
+        name, *more = words.split(" ")
+        part = Part(name, began=time.time())
+        running = subprocess.Popen([sys.executable, os.path.join(TOP, "tools", name), *more], cwd=TOP, stdin=subprocess.DEVNULL)
         _, status, used = os.wait4(running.pid, 0)
         running.returncode = os.waitstatus_to_exitcode(status) if hasattr(os, "waitstatus_to_exitcode") else status >> 8 or status
         part.ended, part.processors = time.time(), (used.ru_utime + used.ru_stime) / 60
