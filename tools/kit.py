@@ -23,9 +23,9 @@ def kit():
     return os.path.dirname(os.path.dirname(os.path.realpath(command)))
 
 
-def library(crate, root=TOP):
+def library(crate):
     """The built form of a crate, of this repository or of the kit."""
-    return os.path.join(root, "crates", crate, "out/rlib", crate + ".rlib") if crate in needs() else os.path.join(kit(), "rlibs", crate + ".rlib")
+    return os.path.join(TOP, "crates", crate, "out/rlib", crate + ".rlib") if crate in needs() else os.path.join(kit(), "rlibs", crate + ".rlib")
 
 
 def is_program(crate):
@@ -37,21 +37,21 @@ def is_static(crate):
     return re.search(rf"^{crate} staticlib *:", text_of(TOP, "crates.txt"), re.M) is not None
 
 
-def words_of(crate, root=TOP):
+def words_of(crate):
     """The words that name a crate, to be read in its folder, and the libraries below it."""
     words = ["--crate-name", crate, "src/main.rt" if is_program(crate) else "src/lib.rt", "--extern", f"std={library('std')}"]
     words += ["--crate-type", "staticlib"] if is_static(crate) else []
     words += ["--links", f"{crate}="] if is_static(crate) or is_program(crate) else []
     for name in needs()[crate]:
-        words += ["--extern", f"{name}={library(name, root)}"]
-    for folder in [os.path.join(kit(), "rlibs")] + [os.path.dirname(library(name, root)) for name in below([crate]) if name in needs()]:
+        words += ["--extern", f"{name}={library(name)}"]
+    for folder in [os.path.join(kit(), "rlibs")] + [os.path.dirname(library(name)) for name in below([crate]) if name in needs()]:
         words += ["-L", f"dependency={folder}"]
     return words + ["--antt-project", os.path.join(kit(), "rattle/logic/antt-project.json"), "--logic-built", os.path.join(kit(), "logic_built")]
 
 
-def compiler_words(verb, crate, jobs, root=TOP):
+def compiler_words(verb, crate, jobs):
     """The words of a check or a build of a crate by this many copies of the compiler."""
-    return [os.path.join(kit(), "bin/rattle"), verb, *words_of(crate, root), "--jobs", str(jobs)]
+    return [os.path.join(kit(), "bin/rattle"), verb, *words_of(crate), "--jobs", str(jobs)]
 
 
 def files_of(crate):

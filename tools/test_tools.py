@@ -18,6 +18,7 @@ import sys
 import tempfile
 from xml.etree import ElementTree
 
+import make_speed
 from common import BUILDS, CLOSE, EMPTY, ENDCHAR, HSBW, LINE, MOVE, RETURN, TINY_PFB, TOP
 from common import as_pfb, below, bytes_of, compiler, example, made_font, needs, number, printed, put, say, text_of
 
@@ -419,6 +420,18 @@ def build(folder):
     check((proved, status) == (["t1_document"], 1) and "t1_document has a fault" in said, f"tools/build.py: {proved}, {status}, {said}")
 
 
+def gate_table():
+    """tools/make_speed.py makes a row of each part of the gate, and none of a log that lacks one."""
+    lines = [f"gate: {name}: 1.25 minutes of processors, 0.50 by the clock\n" for name in make_speed.wanted()]
+    rows = make_speed.table_of("".join(lines))
+    check(len(rows) == len(lines) + 2 and rows[2] == "| texts | 1.2 | 0.5 |", f"tools/make_speed.py: {rows}")
+    try:
+        make_speed.table_of("".join(lines[1:]))
+        check(False, "tools/make_speed.py makes a table without a part")
+    except SystemExit as end:
+        check("printed nothing of texts" in str(end), f"tools/make_speed.py: {end}")
+
+
 def pooled_pages(program, folder):
     """examples/pool-pages.sh makes a page that lacks glyphs and the same page right."""
     if lacks("examples/pool-pages.sh", ["tex", "dvips", "gs"]):
@@ -458,6 +471,7 @@ def main():
         specimens(program, library)
         examples(folder)
         build(os.path.join(folder, "build"))
+        gate_table()
         pooled_pages(program, os.path.join(folder, "pages"))
         compare(program)
         many(program)
