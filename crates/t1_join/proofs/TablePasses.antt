@@ -4,7 +4,7 @@ use Rattle.std.proofs.{Math.Seq.{drop-cons}, lemmas.List.{append_assoc, append-n
 use Rattle.std.proofs.lemmas.Option.{slice_get_within, slice_get_cases, get_or_from_slice_get, none-some}
 use Rattle.std.specs.{declared.cmp.Ordering.TheVariants.{Less, Equal, Greater}, List.{slice_get}, Cmp.{IsTotalOrder}, FinMap.Entries.{by_order}}
 use Rattle.std.specs.FinMap.{FinMap, IsAntisymmetric, entries, entries_sorted, entries-from_sorted, from_sorted, from_entries}
-use Rattle.t1_join.{specs.{Entries.{entries_by}, Passes.{merge, first_met}, TableMeaning.{Rises}}, proofs.{Merges.{rises_merge, merged_from_sorted}, Sorted.{map_of}}}
+use Rattle.t1_join.{specs.{Entries.{entries_by}, Passes.{merge, first_met, AddsSome}, TableMeaning.{Rises}}, proofs.{Merges.{rises_merge, merged_from_sorted}, Sorted.{map_of}}}
 
 -- an entry is the first from its place on, and nothing stands where there is none
 module _ {X : Type 0} (es : List X) (i : ℕ) where
@@ -101,6 +101,34 @@ put_out v none all es is put = put ∙ ap (λ ys. map v ys ++ es) is
 -- entries that are out, and nothing is left
 pub all_out : {K X Y : Type 0} (v : Y → K × X) (out : List Y) (left es : List (K × X)) → left ≡ [] → map v out ++ left ≡ es → map v out ≡ es
 all_out {K = K} {X = X} v out left es none h = sym (append-nil (map v out)) ∙ (ap (λ (l : List (K × X)). map v out ++ l) (sym none) ∙ h)
+
+-- these were added behind what was there, and these are left of all that come
+pub record Pushed {Y : Type 0} (more old new left : List Y) : Type 0 where
+  pub added : List Y
+  pub are : more ≡ added ++ left
+  pub makes : new ≡ old ++ added
+
+module _ {K X Y : Type 0} (v : Y → K × X) (more old : List (K × X)) (out : List Y) where
+  -- before the first
+  pub none_pushed : Pushed more (map v out) (map v out) more
+  none_pushed = record { added = []; are = refl; makes = sym (append-nil (map v out)) }
+
+  -- after one more
+  pub one_pushed : (e : Y) (left : List (K × X)) → Pushed more old (map v out) (v e ∷ left) → Pushed more old (map v (out ++ e ∷ [])) left
+  one_pushed e left p = record {
+    added = p.added ++ v e ∷ [];
+    are = p.are ∙ sym (append_assoc p.added (v e ∷ []) left);
+    makes = map-append v out (e ∷ []) ∙ (ap (λ (l : List (K × X)). l ++ v e ∷ []) p.makes ∙ append_assoc old p.added (v e ∷ []));
+  }
+
+  -- where none is left, all were
+  pub all_pushed : (left : List (K × X)) → Pushed more old (map v out) left → left ≡ [] → map v out ≡ old ++ more
+  all_pushed left p none =
+      p.makes ∙ ap (λ (l : List (K × X)). old ++ l) (sym (p.are ∙ (ap (λ (l : List (K × X)). p.added ++ l) none ∙ append-nil p.added)))
+
+  -- those that were are the first few
+  pub some_pushed : (left : List (K × X)) → Pushed more old (map v out) left → AddsSome more old (map v out)
+  some_pushed left p = record { added = p.added; left = left; are = p.are; makes = p.makes }
 
 -- where an entry stands, less is left once the pass goes on behind it
 module _ {K X : Type 0} (es fs : List (K × X)) (i j : ℕ) (e f : K × X) (a : slice_get es i ≡ Some e) (b : slice_get fs j ≡ Some f) where

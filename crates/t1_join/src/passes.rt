@@ -1,7 +1,7 @@
 //! One pass over two tables in the order of their keys.
-ghost use Rattle.std.specs.{Prelude.{◌≡◌, ◌++◌, ◌∷◌, ◌<◌, [], map, IfSome, MatchOption, OnOk}, declared.cmp.Ordering.{Ordering}, List.{slice_get}};
+ghost use Rattle.std.specs.{Prelude.{◌≡◌, ◌++◌, ◌∷◌, ◌<◌, [], map, IfSome, MatchOption, OnOk, OnErr}, declared.cmp.Ordering.{Ordering}, List.{slice_get}};
 ghost use Rattle.std.specs.{Option.{option_map, option_and_then}, FinMap.{FinMap, entries}};
-ghost use Rattle.t1_join.specs.{Meaning.{Meaning, same_meaning}, Entries.{entries_by}, Passes.{merge, first_met, merged_from}};
+ghost use Rattle.t1_join.specs.{Meaning.{Meaning, same_meaning}, Entries.{entries_by}, Passes.{merge, first_met, merged_from, AddsSome}};
 
 use std::alloc::AllocError;
 use std::cmp::Ordering;
@@ -114,8 +114,9 @@ impl<T: SortedTable> Both<T> {
     }
 }
 
-/// Adds the entries of two tables from two places on, upwards by key. If both have a key, the first's entry stands.
-#[tactic(auto, using(crate::proofs::TablePasses::all_out))]
+/// Adds the entries of two tables from two places on, upwards by key. If both have a key, the first's entry stands. Where a growth is
+/// refused, the first few of them were added, behind what was there.
+#[tactic(auto, using(crate::proofs::TablePasses::none_pushed, crate::proofs::TablePasses::one_pushed, crate::proofs::TablePasses::all_pushed, crate::proofs::TablePasses::some_pushed))]
 pub fn push_both<T: SortedTable>(
     all: &mut Vec<T::Entry>,
     first: T,
@@ -123,9 +124,11 @@ pub fn push_both<T: SortedTable>(
     from_first: usize,
     from_second: usize,
 ) -> Result<(), AllocError>
-    ensures { OnOk result (map T.entry all.new.items
+    ensures all { OnOk result (map T.entry all.new.items
         ≡ map T.entry all.old.items
         ++ merged_from (T.table first) (T.table second) from_first from_second) }
+    ensures some { OnErr result (AddsSome (merged_from (T.table first) (T.table second) from_first from_second)
+        (map T.entry all.old.items) (map T.entry all.new.items)) }
 {
     let mut i = from_first;
     let mut j = from_second;

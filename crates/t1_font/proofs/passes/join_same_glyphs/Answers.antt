@@ -14,7 +14,7 @@ pass-init c =
     )
 
 pub made-requires : goal.made-requires
-made-requires c = rises_of _ (merged c.args.first.now c.args.second.now) (c.in_ok-push_both.ensures ∙ c.pass.invariant.0)
+made-requires c = rises_of _ (merged c.args.first.now c.args.second.now) (c.in_ok-push_both.ensures.all ∙ c.pass.invariant.0)
 
 pub returns : goal.returns
 returns c =
@@ -24,4 +24,4 @@ returns c =
           (sym w.in_default.ensures'.entry)
       | in_default-2 w ↦ first_ends name_cmp es fs i j bytes_eq (sym w.in_default.ensures.entry)
     ] in
-    (c.made.ensures ∙ map_of _ (merged c.args.first.now c.args.second.now) (c.in_ok-push_both.ensures ∙ c.pass.invariant.0), sym c.pass.invariant.1 ∙ none)
+    (c.made.ensures ∙ map_of _ (merged c.args.first.now c.args.second.now) (c.in_ok-push_both.ensures.all ∙ c.pass.invariant.0), sym c.pass.invariant.1 ∙ none)
