@@ -119,6 +119,7 @@ def files():
     given["coded.font"] = small_font(b"Small", [STUB] * 4 + [ACROSS, UP], {b"A": 4, b"B": 5}, encoding_of({7: b"B", 65: b"A", 200: b"Lost"}))
     given["other.font"] = small_font(b"Small", [STUB] * 4 + [ACROSS], {b"A": 4}, b"/Encoding ISOLatin1Encoding def\n")
     given["values.font"] = made_font(SPELLED, [], {b".notdef": EMPTY})
+    given["bare.font"] = made_font(b"%!\n/FontName /\n/FontBBox{}readonly def\n/UniqueID\n/Encoding StandardEncoding def\n", [], {b".notdef": EMPTY})
     given["private.font"] = refused_rows.made(private=refused_rows.PRIVATE + b"/UniqueID 77 def\n")
     given["some.font"], given["more.font"] = differing_fonts()
     given["one.names"], given["two.names"], given["bad.names"] = b"B", b"\r\nB\r\n", b"B\nZed\nA"
@@ -194,6 +195,7 @@ def rows_of_full():
     glyph = b"encoding StandardEncoding\nglyph .notdef 5\n"
     yield Row(["list", "values.font", "--full"], 0, glyph + SPELLED_LISTED + b"width .notdef 250 0\n")
     yield Row(["list", "values.font"], 0, glyph)
+    yield Row(["list", "bare.font", "--full"], 0, glyph + b"width .notdef 250 0\n")
     private = b"code 65 A\n" + b"".join(b"subr %d 1\n" % at for at in range(4)) + b"subr 4 3\nglyph .notdef 5\nglyph A 7\n"
     widths = b"width .notdef 250 0\nwidth A 250 0\n"
     yield Row(["list", "--full", "private.font"], 0, private + b"name Made\nunique 77\n" + widths)

@@ -59,10 +59,15 @@ abbrev pub past_white : List ℕ → List ℕ
 past_white [] = []
 past_white (b ∷ bs) = if is_white b then past_white bs else b ∷ bs
 
--- the line of a value that stands behind a key, if the key is there
+-- the line of a value, if it has bytes
+abbrev pub valued : List ℕ → List ℕ → List ℕ
+valued word [] = []
+valued word (b ∷ bs) = word ++ (b ∷ bs) ++ 10 ∷ []
+
+-- the line of a value that stands behind a key, if the key is there and has one
 abbrev pub value_line : List ℕ → Option (List ℕ) → List ℕ
 value_line word None = []
-value_line word (Some text) = word ++ value_at (past_white text) ++ 10 ∷ []
+value_line word (Some text) = valued word (value_at (past_white text))
 
 -- the line of a key of the clear text
 abbrev pub clear_line : List ℕ → List ℕ → FontValue → List ℕ

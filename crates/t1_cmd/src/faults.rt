@@ -8,6 +8,7 @@ use std::marker::Model;
 use t1_font::ReadFault;
 use t1_join::{JoinFault, ListFault, Shown};
 use t1_subset::Conflict;
+use thiserror::Error;
 
 /// The name of a glyph or of a font, without its `/`.
 #[derive(Debug, Drop)]
@@ -45,7 +46,7 @@ impl Name {
 /// Why the input is refused.
 ///
 /// Want of memory and a file over the limit have variants of their own, whichever call met them.
-#[derive(Debug, Drop)]
+#[derive(Debug, Drop, Error)]
 pub enum Reason {
     /// An input is over the file limit.
     TooLong,
@@ -97,8 +98,6 @@ impl fmt::Display for Reason {
     }
 }
 
-impl std::error::Error for Reason {}
-
 impl From<AllocError> for Reason {
     ghost use Rattle.std.specs.Prelude.{◌≡◌};
     ghost use Rattle.t1_cmd.specs.declared.faults.Reason.TheVariants.{Memory};
@@ -111,10 +110,10 @@ impl From<AllocError> for Reason {
 }
 
 /// Why an engine did not finish.
-#[derive(Debug, Drop)]
+#[derive(Debug, Drop, Error)]
 pub enum RunFault {
     /// The input is refused; nothing was written.
-    Refused(Reason),
+    Refused(#[from] Reason),
     /// A reader failed; nothing was written.
     Read,
     /// The writer failed; a part of the result may have been written.
@@ -136,8 +135,6 @@ impl fmt::Display for RunFault {
     }
 }
 
-impl std::error::Error for RunFault {}
-
 impl From<AllocError> for RunFault {
     ghost use Rattle.std.specs.Prelude.{◌≡◌};
     ghost use Rattle.t1_cmd.specs.{declared.faults.Reason.TheVariants.{Memory}, declared.faults.RunFault.TheVariants.{Refused}};
@@ -150,7 +147,7 @@ impl From<AllocError> for RunFault {
 }
 
 /// Why several files are refused.
-#[derive(Debug, Drop)]
+#[derive(Debug, Drop, Error)]
 pub struct FilesRefusal {
     /// The place of the file that is refused, counted from 0; `None` if all are refused together, or for want of memory.
     pub place: Option<usize>,
@@ -169,8 +166,6 @@ impl fmt::Display for FilesRefusal {
         write!(f, "{reason}")
     }
 }
-
-impl std::error::Error for FilesRefusal {}
 
 /// The exit status of the program: 1 for a refusal, 3 for a reader or a writer that failed.
 pub fn status(fault: &RunFault) -> u8

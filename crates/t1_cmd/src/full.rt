@@ -8,7 +8,7 @@ ghost use Rattle.t1_join.specs.ListingMeaning.{ends_name};
 ghost use Rattle.t1_cmd.specs.{Count.{calls_counted}, Inputs.{input_of}, Runs.{RunEnds, Succeeds}, Answers.{Prints, MayRefuse}, Fonts.{font_input, of_file}};
 ghost use Rattle.t1_cmd.specs.DrawingText.{draw_fault_line};
 ghost use Rattle.t1_cmd.specs.FullText.{name_goes_on, behind_or, text_behind, behind_clear, value_byte, value_text, opens, closes_name, value_at, past_white};
-ghost use Rattle.t1_cmd.specs.FullText.{value_line, first_some, clear_line, unique_line, dictionary_lines, width_told, width_line, full_answer};
+ghost use Rattle.t1_cmd.specs.FullText.{valued, value_line, first_some, clear_line, unique_line, dictionary_lines, width_told, width_line, full_answer};
 ghost use Rattle.std.specs.FinMap as fin;
 
 use crate::counting::Counted;
@@ -150,7 +150,20 @@ fn push_value(alloc: Global, out: &mut Vec<u8>, text: &[u8]) -> Result<(), Alloc
     push_word(alloc, out, text)
 }
 
-// The line of a value that stands behind a key, if the key is there.
+// The line of a value, if it has bytes.
+fn push_valued(out: &mut Vec<u8>, word: &[u8], value: &[u8]) -> Result<(), AllocError>
+    ensures { OnOk result (out.new.items ≡ out.old.items ++ valued word.now value.now) }
+{
+    if value.is_empty() {
+        return Ok(());
+    }
+    out.extend_from_slice(word)?;
+    out.extend_from_slice(value)?;
+    out.push(b'\n')?;
+    Ok(())
+}
+
+// The line of a value that stands behind a key, if the key is there and has one.
 fn push_fact(
     alloc: Global,
     out: &mut Vec<u8>,
@@ -160,12 +173,12 @@ fn push_fact(
     ensures { OnOk result (out.new.items ≡ out.old.items
         ++ value_line word.now (option_map (λ r. r.now) found.entry)) }
 {
-    if let Some(text) = found {
-        out.extend_from_slice(word)?;
-        push_value(alloc, out, past_white(text))?;
-        out.push(b'\n')?;
-    }
-    Ok(())
+    let Some(text) = found else {
+        return Ok(());
+    };
+    let mut value = Vec::new(alloc);
+    push_value(alloc, &mut value, past_white(text))?;
+    push_valued(out, word, value.as_slice())
 }
 
 // Where a font's UniqueID stands.
@@ -300,7 +313,7 @@ pub fn list_file_full(alloc: Global, file: &[u8]) -> Result<Vec<u8>, Reason>
 }
 
 /// Writes what [`run_list`](crate::run_list) writes, then the font's name, its FontMatrix, FontBBox and UniqueID as they are
-/// spelled, if they are there, and then a line for each glyph, in the order of their names, with its width, or with the fault for
+/// spelled, each if it is there and has a value, and then a line for each glyph, in the order of their names, with its width, or with the fault for
 /// which it can't be drawn.
 pub fn run_list_full<R: Read, W: Write>(
     alloc: Global,

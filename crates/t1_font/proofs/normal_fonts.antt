@@ -13,3 +13,4 @@ pub mod Boxes
 pub mod BoxLists
 pub mod Boxing
 pub mod BoxOrder
+pub mod Renewed

@@ -49,6 +49,7 @@ pub mod Normalizing
 pub mod FontNames
 pub mod Filling
 pub mod NormalizingLaws
+pub mod Renewing
 pub mod WriteLaws
 pub mod Parts
 pub mod Codes

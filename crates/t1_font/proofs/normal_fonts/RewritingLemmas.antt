@@ -166,7 +166,7 @@ untagged_takes name b bs = by_first (is_regular b) refl
     by_first false e = own_part (λ b. not (is_regular b)) b bs (not_so (is_regular b) e)
 
 -- a line that numbers its font has bytes
-numbered_some : (text rest : List ℕ) → identity_line.Spells tt text rest → 1 ≤ length text
+pub numbered_some : (text rest : List ℕ) → identity_line.Spells tt text rest → 1 ≤ length text
 unfolding unique_id extended_id identity_line
 numbered_some text rest s = elim s.4 [
   | inl u ↦ let ten = ap length u.4.0.0 ∙ u.4.0.1 in omega (arith, ap length s.3, length-append s.1 s.2, ap length u.3, length-append u.1 u.2, ten)
@@ -175,7 +175,7 @@ numbered_some text rest s = elim s.4 [
 ]
 
 -- a line and what stands behind it are the text
-line_whole : (b : ℕ) (bs : List ℕ) → b ∷ bs ≡ (first_line (b ∷ bs)).0 ++ (first_line (b ∷ bs)).1
+pub line_whole : (b : ℕ) (bs : List ℕ) → b ∷ bs ≡ (first_line (b ∷ bs)).0 ++ (first_line (b ∷ bs)).1
 line_whole b bs = by_end (parted is_in_line (b ∷ bs)).0 (parted is_in_line (b ∷ bs)).1 (parted_whole is_in_line (b ∷ bs))
   where
     by_end : (body rest : List ℕ) → b ∷ bs ≡ body ++ rest → b ∷ bs ≡ (with_end body rest).0 ++ (with_end body rest).1
@@ -183,7 +183,7 @@ line_whole b bs = by_end (parted is_in_line (b ∷ bs)).0 (parted is_in_line (b 
     by_end body (c ∷ rest) whole = whole ∙ sym (append_assoc body (c ∷ []) rest)
 
 -- a line has bytes
-line_takes : (b : ℕ) (bs : List ℕ) → TakesPiece (b ∷ bs) (first_line (b ∷ bs))
+pub line_takes : (b : ℕ) (bs : List ℕ) → TakesPiece (b ∷ bs) (first_line (b ∷ bs))
 line_takes b bs = by_end (parted is_in_line (b ∷ bs)).0 (parted is_in_line (b ∷ bs)).1 (parted_whole is_in_line (b ∷ bs))
   where
     by_end : (body rest : List ℕ) → b ∷ bs ≡ body ++ rest → TakesPiece (b ∷ bs) (with_end body rest)
@@ -252,7 +252,7 @@ one_piece piece takes b bs =
 -- ---- bytes that stay
 
 -- the piece at a byte that is white space, and at one that isn't
-piece_at : (b : ℕ) (bs : List ℕ) (x : Bool) → is_blank b ≡ x →
+pub piece_at : (b : ℕ) (bs : List ℕ) (x : Bool) → is_blank b ≡ x →
     squeezed_piece (b ∷ bs) ≡ cond x (one_space (parted is_blank (b ∷ bs)).0, (parted is_blank (b ∷ bs)).1) (parted is_solid (b ∷ bs))
 unfolding squeezed_piece
 piece_at b bs x e = ap (λ (y : Bool). cond y (one_space (parted is_blank (b ∷ bs)).0, (parted is_blank (b ∷ bs)).1) (parted is_solid (b ∷ bs))) e
@@ -267,11 +267,11 @@ solid_rest (c ∷ cs) = by_first (is_blank c) refl
     by_first false e = one_piece squeezed_piece squeezed_takes c cs ∙ ap (λ (y : List ℕ × List ℕ). y.0 ++ squeezed y.1) (piece_at c cs false e)
 
 -- a front that goes on with one byte more
-parted_next : (p : ℕ → Bool) (b : ℕ) (bs : List ℕ) → p b ≡ true → parted p (b ∷ bs) ≡ (b ∷ (parted p bs).0, (parted p bs).1)
+pub parted_next : (p : ℕ → Bool) (b : ℕ) (bs : List ℕ) → p b ≡ true → parted p (b ∷ bs) ≡ (b ∷ (parted p bs).0, (parted p bs).1)
 parted_next p b bs e = rw (e, one-add) refl
 
 -- a byte that isn't white space stays
-solid_stays : (b : ℕ) (bs : List ℕ) → is_blank b ≡ false → squeezed (b ∷ bs) ≡ b ∷ squeezed bs
+pub solid_stays : (b : ℕ) (bs : List ℕ) → is_blank b ≡ false → squeezed (b ∷ bs) ≡ b ∷ squeezed bs
 solid_stays b bs e =
     one_piece squeezed_piece squeezed_takes b bs
     ∙ (ap (λ (y : List ℕ × List ℕ). y.0 ++ squeezed y.1) (piece_at b bs false e ∙ parted_next is_solid b bs (ap not e))
