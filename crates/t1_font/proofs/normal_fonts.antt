@@ -14,3 +14,4 @@ pub mod BoxLists
 pub mod Boxing
 pub mod BoxOrder
 pub mod Renewed
+pub mod TestGone

@@ -1,6 +1,6 @@
 -- Lines that number a font: UniqueID and XUID (Adobe Type 1 Font Format 1.1, chapters 2 and 5; PostScript Language Reference, 5.6).
 -- A printer may keep what it drew of a font under its number, so a font that cuts of another come to has no number.
-use Rattle.std.{specs.{Prelude.{ℕ, ◌==◌, ◌||◌, not, Bool, List, [], ◌∷◌, ◌++◌, codes, Option, Some, None, is_some}, Option.{option_and_then}}, proofs.Common.{ap}}
+use Rattle.std.{specs.{Prelude.{ℕ, ◌==◌, ◌||◌, not, Bool, true, List, [], ◌∷◌, ◌++◌, codes, Option, Some, None, is_some}, Option.{option_and_then}}, proofs.Common.{ap}}
 use Rattle.t1_grammar.specs.Grammar.{Grammar, pure, ◌>>◌, before, fixed, run, either, may_be, Begins}
 use Rattle.t1_font.specs.{Words.{is_digit, keyword, decimal}, Rewriting.{Piece, parted, rewritten}}
 
@@ -39,11 +39,12 @@ access = do
 unfoldable pub defining : Grammar (List ℕ)
 defining = either (keyword (codes "def")) (either (keyword (codes "ND")) (keyword (codes "|-")))
 
--- a name comes, or the end of the dictionary
+-- the text ends, as it does before the marker of a table; or a name, a comment or the end of the dictionary comes
 abbrev pub goes_on : List ℕ → Bool
-goes_on text = is_some ((fixed (codes "/")).read text) || is_some ((fixed (codes "currentdict")).read text)
+goes_on [] = true
+goes_on (b ∷ bs) = b == 47 || b == 37 || is_some ((fixed (codes "currentdict")).read (b ∷ bs))
 
--- a line that numbers its font, with the LF that ends it, before a name or the end of the dictionary
+-- a line that numbers its font, with the LF that ends it, before what goes on with the dictionary or ends it
 unfoldable pub identity_line : Grammar (Unit {0})
 identity_line = do
   either unique_id extended_id

@@ -186,11 +186,14 @@ fn defining_at(text: &[u8]) -> Option<&[u8]>
     Some(rest)
 }
 
-/// Whether a name comes, or the end of the dictionary.
+/// Whether the text ends, or a name, a comment or the end of the dictionary comes.
 fn goes_on(text: &[u8]) -> bool
     ensures { result ≡ goes_on text.now }
 {
-    fixed_at(text, b"/").is_some() || fixed_at(text, b"currentdict").is_some()
+    match text.first() {
+        Some(b'/' | b'%') | None => true,
+        Some(_) => fixed_at(text, b"currentdict").is_some(),
+    }
 }
 
 /// What stands behind a line that numbers its font.

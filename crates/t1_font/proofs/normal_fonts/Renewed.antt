@@ -151,11 +151,10 @@ line_ends own rest s =
     let c = b.5 in
     let d = c.5 in
     let lf : d.1 ≡ 10 ∷ [] = d.4.0.0 ∙ sym ((bytes_eq-Decides (10 ∷ []) d.0).0 d.4.1) in
-    let end : c.2 ≡ 10 ∷ [] = d.3 ∙ (λ i. lf i ++ d.5.0 i) in
-    (
+    let end : c.2 ≡ 10 ∷ [] = d.3 ∙ (λ i. lf i ++ d.5.0 i) in (
       s.1 ++ (a.1 ++ (b.1 ++ c.1)),
       s.3 ∙ ((λ i. s.1 ++ (a.3 ∙ (λ j. a.1 ++ (b.3 ∙ (λ k. b.1 ++ (c.3 ∙ ap (λ (v : List ℕ). c.1 ++ v) end) k)) j)) i)
-      ∙ five_parts s.1 a.1 b.1 c.1 (10 ∷ [])),
+          ∙ five_parts s.1 a.1 b.1 c.1 (10 ∷ [])),
     )
 
 -- words that stay before others that are renewed
@@ -191,8 +190,10 @@ unnumbered_so (suc n) (b ∷ bs) le = by_line (identity_line.read (b ∷ bs)) re
         let more = later rest (omega (arith, ap length whole, length-append body (c ∷ rest))) in
         let out = pieces unnumbered_piece n rest in
         subst (λ (v : List (List ℕ) × List (List ℕ)). Renews None v.0 v.1)
-        (λ i. (sym (ap words whole ∙ words_apart [] body c rest blank) i,
-        sym (ap words (append_assoc body (c ∷ []) out) ∙ words_apart [] body c out blank) i))
+        (λ i. (
+          sym (ap words whole ∙ words_apart [] body c rest blank) i,
+          sym (ap words (append_assoc body (c ∷ []) out) ∙ words_apart [] body c out blank) i,
+        ))
         (all_stay (words body) (words rest) (words out) more)
 
     by_line : (o : Option (Unit {0} × List ℕ)) → identity_line.read text ≡ o →

@@ -39,6 +39,11 @@ others_words : unnumbered (codes "/UniqueID 1 readonly def\n/UniqueID 2 noaccess
 unfolding decimal keyword one_blank unique_id extended_id access defining identity_line unnumbered_piece
 others_words = refl
 
+-- the last line of a text, which a marker follows, and one before a comment
+last_lines : unnumbered (codes "/UniqueID 1 def\n% a comment\n/a 1 def\n/UniqueID 2 def\n") ≡ codes "% a comment\n/a 1 def\n"
+unfolding decimal keyword one_blank unique_id extended_id access defining identity_line unnumbered_piece
+last_lines = refl
+
 -- in a comment, before `dup`, within a line, without its end, and other names
 kept_lines : unnumbered (codes "%/UniqueID 1 def\n/UniqueID 2 def\ndup\n/a 1 def /UniqueID 3 def\n/UniqueIDs 4 def\n/UniqueID 5 put\n/UniqueID 6 def")
     ≡ codes "%/UniqueID 1 def\n/UniqueID 2 def\ndup\n/a 1 def /UniqueID 3 def\n/UniqueIDs 4 def\n/UniqueID 5 put\n/UniqueID 6 def"
