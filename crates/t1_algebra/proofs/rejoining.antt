@@ -5,3 +5,4 @@ pub mod FilledStates
 pub mod Rejoined
 pub mod Normalized
 pub mod Boxed
+pub mod Unlacking

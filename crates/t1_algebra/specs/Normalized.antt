@@ -1,7 +1,8 @@
 -- What glyphs draw in fonts that are normalized.
-use Rattle.std.specs.Prelude.{◌≡◌, ℕ, List, [], ◌∷◌, Some}
+use Rattle.std.specs.Prelude.{◌≡◌, ℕ, List, [], ◌∷◌, Some, None}
 use Rattle.t1_run.specs.{Run.{Subrs, direct, direct3, exec}, Drawings.{draw, draw3}, Growth.{NoFault, IsDrawn}}
-use Rattle.t1_font.specs.{FontValue.{FontValue}, FontModel.{subr_at}, Normalizing.{normal, filled, normalized}}
+use Rattle.t1_font.specs.{FontValue.{FontValue}, FontModel.{subr_at}, Normalizing.{normal, filled, indices_of_all, normalized_shells, normalized}}
+use Rattle.t1_algebra.specs.{Alike.{DrawsAlike}, Lacks.{lack_in, first_lack}}
 use Rattle.std.specs.FinMap as maps
 
 -- A glyph of f has the same charstring in j, and what runs in f without a fault or is drawn in f runs and draws the same in j, by each answer to hint
@@ -35,3 +36,13 @@ EachBeside P (x ∷ xs) [] = ⊥
 pub record NormalizedDraw : Type 0 where
   pub one : (indices : List ℕ) (count : ℕ) (f : FontValue) → AllStayDrawn f (filled indices (normal count f))
   pub all : (fs : List FontValue) → EachBeside AllStayDrawn fs (normalized fs)
+
+-- each glyph of f runs and draws in g as it did, its faults included
+abbrev pub AllDrawAlike : FontValue → FontValue → Type 0
+AllDrawAlike f g = (n : List ℕ) → DrawsAlike f g n
+
+-- Where no glyph of a font executes a Subr that the font lacks and another has, each glyph draws as it did when the font gets stubs, faults included; so it is
+-- with all fonts of a list that are normalized, where none of them lacks anything.
+pub record UnlackingDraw : Type 0 where
+  pub one : (fs : List FontValue) (f : FontValue) → lack_in fs f ≡ None → AllDrawAlike f (filled (indices_of_all fs) f)
+  pub all : (fs : List FontValue) → first_lack (normalized_shells fs) ≡ None → EachBeside AllDrawAlike fs (normalized fs)

@@ -66,11 +66,11 @@ module _ (f : FontValue) (indices : List ℕ) where
           ∙ none_at_all nat_list_cmp_total name_same (λ n. executes profile f n i) (names_in f.glyphs) n (quiet i a)
           (sym (maps.contains_key-keys f.glyphs n) ∙ ap is_some is)
 
-      executed_there : (i : ℕ) → sets.contains (profile.exec f.subrs c) i ≡ true → maps.get full.subrs i ≡ maps.get f.subrs i
+      pub executed_there : (i : ℕ) → sets.contains (profile.exec f.subrs c) i ≡ true → maps.get full.subrs i ≡ maps.get f.subrs i
       executed_there i h = elim (same_or_added i) [ inl e ↦ e | inr a ↦ clash (sets.contains (profile.exec f.subrs c) i) h (not_executed i a) ]
 
       -- a glyph runs as before
-      runs_same : (profile.direct full.subrs c ≡ profile.direct f.subrs c) × (profile.exec full.subrs c ≡ profile.exec f.subrs c)
+      pub runs_same : (profile.direct full.subrs c ≡ profile.direct f.subrs c) × (profile.exec full.subrs c ≡ profile.exec f.subrs c)
       runs_same = profile.local f.subrs full.subrs c executed_there
 
     -- it executes what it did, and names what it named
