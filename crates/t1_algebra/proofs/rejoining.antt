@@ -6,3 +6,4 @@ pub mod Rejoined
 pub mod Normalized
 pub mod Boxed
 pub mod Unlacking
+pub mod Renewed

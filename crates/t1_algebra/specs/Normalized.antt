@@ -1,8 +1,8 @@
 -- What glyphs draw in fonts that are normalized.
-use Rattle.std.specs.Prelude.{◌≡◌, ℕ, List, [], ◌∷◌, Some, None}
+use Rattle.std.specs.{Prelude.{◌≡◌, ℕ, List, [], ◌∷◌, Some, None}, List.{AllByRecursion}}
 use Rattle.t1_run.specs.{Run.{Subrs, direct, direct3, exec}, Drawings.{draw, draw3}, Growth.{NoFault, IsDrawn}}
-use Rattle.t1_font.specs.{FontValue.{FontValue}, FontModel.{subr_at}, Normalizing.{normal, filled, indices_of_all, normalized_shells, normalized}}
-use Rattle.t1_algebra.specs.{Alike.{DrawsAlike}, Lacks.{lack_in, first_lack}}
+use Rattle.t1_font.specs.{FontValue.{FontValue}, FontModel.{subr_at}, Normalizing.{normal, filled, indices_of_all, normalized_shells, normalized}, Renewing.{Renewed}}
+use Rattle.t1_algebra.specs.{Alike.{DrawsAlike}, Lacks.{lack_in, first_lack}, Merges.{ComesTo}}
 use Rattle.std.specs.FinMap as maps
 
 -- A glyph of f has the same charstring in j, and what runs in f without a fault or is drawn in f runs and draws the same in j, by each answer to hint
@@ -46,3 +46,11 @@ AllDrawAlike f g = (n : List ℕ) → DrawsAlike f g n
 pub record UnlackingDraw : Type 0 where
   pub one : (fs : List FontValue) (f : FontValue) → lack_in fs f ≡ None → AllDrawAlike f (filled (indices_of_all fs) f)
   pub all : (fs : List FontValue) → first_lack (normalized_shells fs) ≡ None → EachBeside AllDrawAlike fs (normalized fs)
+
+-- the kept texts of each font of a list are renewed where the list is normalized
+abbrev pub NormalizedRenewed : Type 0
+NormalizedRenewed = (fs : List FontValue) → EachBeside (λ f g. Renewed f.shell g.shell) fs (normalized fs)
+
+-- what fonts come to has the shell of each of them
+abbrev pub ShellsStay : Type 0
+ShellsStay = (fs : List FontValue) (j : FontValue) → ComesTo fs j → AllByRecursion (λ f. f.shell ≡ j.shell) fs

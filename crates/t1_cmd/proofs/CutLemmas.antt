@@ -3,17 +3,18 @@ use Rattle.std.proofs.Common.{◌≡◌, ℕ, ◌+◌, refl, sym, ◌∙◌, ap,
 use Rattle.std.proofs.lemmas.List.Sorted.{IsPermutation-refl}
 use Rattle.std.specs.{Prelude.{IfOk, IfErr, MatchResult, is_some}, List.{AllByRecursion}, Result.{result_ok}}
 use Rattle.t1_bytes.specs.declared.form.Form.{Form}
-use Rattle.t1_font.specs.{FontValue.{FontValue, CharStrings}, IsFont.{IsFont}, Canon.{canon}, Normalizing.{indices_of_all, normalized_shells, normalized}, Filling.{AreLight}, FontBoxes.{Box}}
+use Rattle.t1_font.specs.{FontValue.{FontValue, CharStrings}, IsFont.{IsFont}, Canon.{canon}, Normalizing.{indices_of_all, normalized_shells, normalized}, Filling.{AreLight}, FontBoxes.{Box}, Renewing.{Renewed}}
 use Rattle.t1_join.{specs.Groupings.{one, from_left}, proofs.OrderLemmas.{leaves_from_left}}
-use Rattle.t1_algebra.specs.{Interpreter.{Names}, Profile.{profile}, Keep.{subset, IsOf}, Merges.{ComesTo}}
+use Rattle.t1_algebra.specs.{Interpreter.{Names}, Profile.{profile}, Keep.{subset, IsOf}, Merges.{ComesTo, DrawsAll}, Lacks.{first_lack}, Normalized.{EachBeside, AllDrawAlike}}
 use Rattle.t1_algebra.specs.Rejoins.{cut_to, with_normal_texts, Truncated, IsTruncated, truncated_fonts, truncated_sets, largest, GetBox, boxed_as, shared_font, rejoined, Rejoins}
-use Rattle.t1_algebra.proofs.{Fonts.{subset_is_font}, rejoining.Normalized.{normalized_draw}, rejoining.Boxed.{truncated_subsets_rejoin}}
+use Rattle.t1_algebra.proofs.{Fonts.{subset_is_font}, Drawings.{answers_alike}, ManyMerges.{alike_trans}, rejoining.Unlacking.{unlacking_draw}, rejoining.Boxed.{truncated_subsets_rejoin}}
+use Rattle.t1_algebra.proofs.rejoining.Renewed.{normalized_renewed, shells_stay}
 use Rattle.t1_subset.proofs.Answered.{draws_all}
-use Rattle.t1_document.proofs.Drawn.{each_through, shells_are_fonts, each_filled, comes_to_font}
+use Rattle.t1_document.proofs.Drawn.{shells_are_fonts, each_filled, comes_to_font}
 use Rattle.t1_subset.proofs.Rejoining.{light_or_heavy}
 use Rattle.t1_cmd.specs.{declared.counting.Counted.{Counted}, declared.faults.Reason.{Reason}, declared.faults.Reason.TheVariants.{Memory}, declared.faults.RunFault.{RunFault}}
 use Rattle.t1_cmd.specs.{declared.faults.FilesRefusal.{FilesRefusal}, Inputs.{Input, value_and, values_of}, Files.{Values, value_before, values_from, OfFiles, RefusesFiles}, Runs.{RunEnds}}
-use Rattle.t1_cmd.specs.{Fonts.{mended_input}, Rejoins.{RejoinsUnless, RejoinsTo}, Cuts.{AreCutFiles, OfRejoined, InputsAreCuts, WritesRejoined, AllStayDrawnIn, RejoinedDraw}}
+use Rattle.t1_cmd.specs.{Fonts.{mended_input}, Rejoins.{RejoinsUnless, RejoinsTo}, Cuts.{AreCutFiles, OfRejoined, InputsAreCuts, WritesRejoined, AllDrawIn, RejoinedDraw, RejoinedRenewed}}
 use Rattle.t1_cmd.proofs.{OneAnswer.{OneAnswer, files_answered, inputs_answered}, RejoinLemmas.{all_light, rejoins_unlacking, with_no_lack, has_no_lack, rejoins_apart}}
 use Rattle.std.specs.FinMap as maps
 
@@ -137,22 +138,52 @@ writes_rejoined contents form is w v result ends f h t ts s o get =
     inputs_answered mended_input (RejoinsTo form) (truncated_fonts (t ∷ ts)) (canon (rejoined f (t ∷ ts) o) form)
     (one_answer f h form t ts (inputs_cut f (t ∷ ts) is s) o get) is (inputs_said f (t ∷ ts) is s) contents w v result ends
 
--- ---- what stays drawn
+-- ---- what draws as it did
 
 -- normalized fonts are fonts where they are within the weight limit
 normalized_are_fonts : (fs : List FontValue) → AllByRecursion IsFont fs → AreLight (normalized fs) → AllByRecursion IsFont (normalized fs)
 normalized_are_fonts fs h fit = each_filled (indices_of_all (normalized_shells fs)) (normalized_shells fs) (shells_are_fonts fs h) fit
 
--- so is it where no glyph lacks a Subr
-rejoined_draw_so : (form : Form) (fs : List FontValue) (text : List ℕ) → AllByRecursion IsFont fs → RejoinsUnless None form fs (Ok text) →
-    (j : FontValue) × IsFont j × (text ≡ canon j form) × AllStayDrawnIn fs j
-rejoined_draw_so form fs text h (inl a) =
-    let j = a.1.0 in
-    let fonts = normalized_are_fonts fs h a.0 in
-    let joined = comes_to_font (normalized fs) j fonts a.1.1 in
-    (j, joined, a.1.2, each_through fs (normalized fs) j (normalized_draw.all fs) fonts joined (draws_all (normalized fs) (Ok j) a.1.1))
-rejoined_draw_so form fs text h (inr a) = absurd a.1
+-- what draws in fonts as it did, and in j as in these, draws in j as it did
+drawn_through : (fs es : List FontValue) (j : FontValue) → AllByRecursion IsFont fs → IsFont j → EachBeside AllDrawAlike fs es → DrawsAll es j → AllDrawIn fs j
+drawn_through [] [] j h joined s d = tt
+drawn_through [] (e ∷ es) j h joined s d = absurd s
+drawn_through (f ∷ fs) [] j h joined s d = absurd s
+drawn_through (f ∷ fs) (e ∷ es) j h joined s d = (
+  λ n there.
+      let alike = alike_trans f e j n (s.0 n) (d.0 n (ap is_some (s.0 n).charstring ∙ there)) in
+      (alike, answers_alike f j h.0 joined n alike),
+  drawn_through fs es j h.1 joined s.1 d.1,
+)
 
--- what fonts rejoin to is the file of a font in which each of their glyphs that is drawn stays drawn
+-- so is it where no glyph lacks a Subr
+rejoined_draw_so : (form : Form) (fs : List FontValue) (text : List ℕ) → AllByRecursion IsFont fs → first_lack (normalized_shells fs) ≡ None →
+    RejoinsUnless None form fs (Ok text) → (j : FontValue) × IsFont j × (text ≡ canon j form) × AllDrawIn fs j
+rejoined_draw_so form fs text h none (inl a) =
+    let j = a.1.0 in
+    let joined = comes_to_font (normalized fs) j (normalized_are_fonts fs h a.0) a.1.1 in
+    (j, joined, a.1.2, drawn_through fs (normalized fs) j h joined (unlacking_draw.all fs none) (draws_all (normalized fs) (Ok j) a.1.1))
+rejoined_draw_so form fs text h none (inr a) = absurd a.1
+
+-- what fonts rejoin to is the file of a font in which each of their glyphs draws as it did
 pub rejoined_draw : RejoinedDraw
-rejoined_draw form fs text h k = rejoined_draw_so form fs text h (rejoins_unlacking form fs text k).1
+rejoined_draw form fs text h k = let un = rejoins_unlacking form fs text k in rejoined_draw_so form fs text h un.0 un.1
+
+-- ---- kept texts
+
+-- texts that are renewed in fonts of which each has the shell of j are renewed in j
+renewed_through : (fs es : List FontValue) (j : FontValue) → EachBeside (λ f g. Renewed f.shell g.shell) fs es → AllByRecursion (λ e. e.shell ≡ j.shell) es →
+    AllByRecursion (λ f. Renewed f.shell j.shell) fs
+renewed_through [] [] j s h = tt
+renewed_through [] (e ∷ es) j s h = absurd s
+renewed_through (f ∷ fs) [] j s h = absurd s
+renewed_through (f ∷ fs) (e ∷ es) j s h = (subst (Renewed f.shell) h.0 s.0, renewed_through fs es j s.1 h.1)
+
+rejoined_renewed_so : (form : Form) (fs : List FontValue) (text : List ℕ) → RejoinsUnless None form fs (Ok text) →
+    (j : FontValue) × (text ≡ canon j form) × AllByRecursion (λ f. Renewed f.shell j.shell) fs
+rejoined_renewed_so form fs text (inl a) =
+    let j = a.1.0 in (j, a.1.2, renewed_through fs (normalized fs) j (normalized_renewed fs) (shells_stay (normalized fs) j a.1.1))
+rejoined_renewed_so form fs text (inr a) = absurd a.1
+
+pub rejoined_renewed : RejoinedRenewed
+rejoined_renewed form fs text k = rejoined_renewed_so form fs text (rejoins_unlacking form fs text k).1

@@ -1,8 +1,8 @@
 -- What fonts rejoin to where their files, or the inputs of an engine, are cuts of one font, as other programs make them.
 use Rattle.std.specs.{Prelude.{◌≡◌, ℕ, true, List, [], ◌∷◌, Option, Some, Result, Ok}, List.{AllByRecursion}}
 use Rattle.t1_bytes.specs.declared.form.Form.{Form}
-use Rattle.t1_font.specs.{FontValue.{FontValue}, FontModel.{subr_at}, IsFont.{IsFont}, Canon.{canon}, FontBoxes.{Box}}
-use Rattle.t1_algebra.specs.{Keep.{has}, Normalized.{StaysDrawn, map_subrs}, Rejoins.{Truncated, IsTruncated, GetBox, rejoined}}
+use Rattle.t1_font.specs.{FontValue.{FontValue}, IsFont.{IsFont}, Canon.{canon}, FontBoxes.{Box}, Renewing.{Renewed}}
+use Rattle.t1_algebra.specs.{Keep.{has}, Alike.{DrawsAlike}, Laws.{AnswersAlike}, Rejoins.{Truncated, IsTruncated, GetBox, rejoined}}
 use Rattle.t1_cmd.specs.{declared.counting.Counted.{Counted}, declared.faults.RunFault.{RunFault}, Inputs.{Input}, Fonts.{mended_input}, Rejoins.{RejoinsTo}, WrittenSubsets.{Writes}}
 
 -- ---- files
@@ -44,11 +44,17 @@ WritesRejoined contents form inputs w v result = (f : FontValue) → IsFont f �
 
 -- ---- laws, each the contract of a function in `laws`
 
--- each glyph of each of the fonts stays drawn in j, over the maps of both and as calls see them
-abbrev pub AllStayDrawnIn : List FontValue → FontValue → Type 0
-AllStayDrawnIn fonts j = AllByRecursion (λ f. (n : List ℕ) → has f n ≡ true → StaysDrawn map_subrs f j n × StaysDrawn subr_at f j n) fonts
+-- each glyph of each of the fonts runs and draws in j as it did, its faults included, over the maps of both and as calls see them
+abbrev pub AllDrawIn : List FontValue → FontValue → Type 0
+AllDrawIn fonts j = AllByRecursion (λ f. (n : List ℕ) → has f n ≡ true → DrawsAlike f j n × AnswersAlike f j n) fonts
 
--- what fonts rejoin to is the canonical file of a font in which each of their glyphs that is drawn stays drawn
+-- What fonts rejoin to is the canonical file of a font in which each of their glyphs draws as it did. That no font lacks a Subr which its glyphs execute and
+-- another has is what this needs: fonts that do are refused.
 abbrev pub RejoinedDraw : Type 0
 RejoinedDraw = (form : Form) (fonts : List FontValue) (text : List ℕ) → AllByRecursion IsFont fonts → RejoinsTo form fonts (Ok text) →
-    (j : FontValue) × IsFont j × (text ≡ canon j form) × AllStayDrawnIn fonts j
+    (j : FontValue) × IsFont j × (text ≡ canon j form) × AllDrawIn fonts j
+
+-- what fonts rejoin to is the canonical file of a font whose kept texts are those of each of them, renewed
+abbrev pub RejoinedRenewed : Type 0
+RejoinedRenewed = (form : Form) (fonts : List FontValue) (text : List ℕ) → RejoinsTo form fonts (Ok text) →
+    (j : FontValue) × (text ≡ canon j form) × AllByRecursion (λ f. Renewed f.shell j.shell) fonts

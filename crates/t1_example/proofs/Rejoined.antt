@@ -2,7 +2,7 @@
 use Rattle.std.proofs.Common.{◌≡◌, ℕ, sym, ◌∙◌, subst, List, [], ◌∷◌, Ok}
 use Rattle.t1_bytes.specs.{declared.form.Form.{Form}, Laws.{AreBytes}}
 use Rattle.t1_font.specs.{FontValue.{FontValue}, Canon.{canon}}
-use Rattle.t1_cmd.specs.{Files.{Values, value_before, values_from, OfFiles}, Fonts.{mended_input}, Rejoins.{RejoinsTo}, Cuts.{AllStayDrawnIn}}
+use Rattle.t1_cmd.specs.{Files.{Values, value_before, values_from, OfFiles}, Fonts.{mended_input}, Rejoins.{RejoinsTo}, Cuts.{AllDrawIn}}
 use Rattle.t1_cmd.proofs.{CutLemmas.{rejoined_draw}, MendLemmas.{mended_font}}
 
 -- what two files say
@@ -10,11 +10,11 @@ both_said : (first second : List ℕ) (f g : FontValue) → mended_input first �
     values_from mended_input 0 (first ∷ second ∷ []) ≡ Ok (f ∷ g ∷ [])
 both_said first second f g e k = λ i. value_before 0 (e i) (value_before 1 (k i) (Ok []))
 
--- each glyph of both fonts that is drawn stays drawn in what they rejoin to
+-- each glyph of both fonts draws in what they rejoin to as it did
 pub drawn_so : {V : Type 0} (view : V → List ℕ) (form : Form) (first second : List ℕ) (result : V) → AreBytes first → AreBytes second →
     OfFiles mended_input (RejoinsTo form) (first ∷ second ∷ []) (Ok (view result)) →
     (f g : FontValue) → mended_input first ≡ Ok f → mended_input second ≡ Ok g →
-    (j : FontValue) × (view result ≡ canon j form) × AllStayDrawnIn (f ∷ g ∷ []) j
+    (j : FontValue) × (view result ≡ canon j form) × AllDrawIn (f ∷ g ∷ []) j
 drawn_so view form first second result b c d f g e k =
     let fonts : d.0 ≡ f ∷ g ∷ [] = same d.0 (sym d.1 ∙ both_said first second f g e k) in
     let all = rejoined_draw form (f ∷ g ∷ []) (view result)

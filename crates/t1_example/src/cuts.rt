@@ -3,7 +3,7 @@
 ghost use Rattle.std.specs.Prelude.{◌≡◌, ◌∷◌, [], Option, None, Ok, IfOk, MatchResult};
 ghost use Rattle.t1_font.specs.{Canon.{canon}, FontValue.{FontValue}, IsFont.{IsFont}, FontBoxes.{Box}};
 ghost use Rattle.t1_algebra.specs.Rejoins.{Truncated, GetBox, rejoined};
-ghost use Rattle.t1_cmd.specs.{Fonts.{mended_input}, Cuts.{IsCutFile, AllStayDrawnIn}};
+ghost use Rattle.t1_cmd.specs.{Fonts.{mended_input}, Cuts.{IsCutFile, AllDrawIn}};
 
 use std::alloc::Global;
 use t1_cmd::{FilesRefusal, Reason, rejoin_files};
@@ -16,7 +16,7 @@ use t1_font::Form;
 /// that number the font, in tags and in FontBBox, and it is cut to its first Subrs, which include those that it keeps), the answer
 /// is the file of the subset of the names of both, with normalized texts and cut to the larger count, and only want of memory is
 /// refused. Its box is the font's where both have that, and else the least that holds both, where both and the font can have it.
-/// Whatever two fonts come to, each glyph that one of them draws without a fault is drawn the same in what is written.
+/// Whatever two fonts come to, each of their glyphs draws in what is written as it did, or has the fault that it had.
 pub fn cuts_joined(
     alloc: Global,
     first: &[u8],
@@ -37,7 +37,7 @@ pub fn cuts_joined(
         → mended_input second.now ≡ Ok g
         → IfOk result (λ v. (j : FontValue)
         × (v.items ≡ canon j form)
-        × AllStayDrawnIn (f ∷ g ∷ []) j) }
+        × AllDrawIn (f ∷ g ∷ []) j) }
 {
     rejoin_files(alloc, &[first, second], form)
 }

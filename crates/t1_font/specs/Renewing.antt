@@ -1,9 +1,10 @@
 -- What normalizing changes in the texts of a font, word by word: white space, lines that number the font, the tags of its name, and the numbers of its box.
 -- Every other word stays, in its place: so FontMatrix, PaintType, lenIV, BlueValues, StdHW and every other entry are what they were.
 use Rattle.std.specs.{Prelude.{◌≡◌, ◌⊎◌, ℕ, List, [], ◌∷◌, ◌++◌, Option, Some, None, if◌then◌else◌}, Option.{option_map}}
+use Rattle.t1_grammar.specs.Grammar.{first}
 use Rattle.t1_bytes.specs.Eexec.{is_blank}
-use Rattle.t1_font.specs.{FontValue.{Shell}, Squeezing.{squeezed}, Identity.{identity_line}, Tags.{tagged_name, text_untagged}, NormalTexts.{both_normal, normal_texts}}
-use Rattle.t1_font.specs.{FontBoxes.{Box, BoxPlace, at_place, box_place_text, clear_of}, Normalizing.{raised}, FontTest.{font_test, untested}}
+use Rattle.t1_font.specs.{FontValue.{Shell}, Squeezing.{squeezed}, Identity.{identity_line}, Tags.{tagged_name, text_untagged, name_marker}, NormalTexts.{both_normal, normal_texts}}
+use Rattle.t1_font.specs.{FontBoxes.{Box, BoxPlace, at_place, box_place_text, clear_of, with_clear}, Normalizing.{raised}, FontTest.{font_test, untested}}
 
 -- ---- words
 
@@ -84,6 +85,18 @@ pub record Renewed (s t : Shell) : Type 0 where
   pub between : Shell
   pub texts : ShellRenews s between
   pub box : BoxRenews between t
+
+-- a text, or the same with another name behind its first `/FontName`
+abbrev pub SameButName : List ℕ → List ℕ → Type 0
+SameButName old new = (new ≡ old) ⊎ ((v : List ℕ × List ℕ) × (front name other behind : List ℕ) × (first name_marker).Spells v front (name ++ behind)
+    × (old ≡ front ++ (name ++ behind)) × (new ≡ front ++ (other ++ behind)))
+
+-- the texts of a font that is normalized beside others and then gets a name, which stands in its head
+pub record RenewedAndNamed (s t : Shell) : Type 0 where
+  pub between : Shell
+  pub texts : Renewed s between
+  pub head : SameButName between.head t.head
+  pub others : t ≡ with_clear between (t.head, between.clear_tail)
 
 -- ---- laws, each the contract of a function in `laws`
 

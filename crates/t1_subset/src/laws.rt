@@ -3,7 +3,7 @@
 ghost use Rattle.t1_algebra.specs.Laws.{KeepIsLeast, KeepIsMonotone, Distribution, SubsetIsFont, SubsetOfSubset, Bottom, SubsetsDraw, TwoSubsets, ManySubsets};
 ghost use Rattle.t1_algebra.specs.Laws.{JoinedIsFont, JoinIsSymmetric, JoinIsIdempotent, StatesOfJoin, JoinsDraw, AnyOrder, AcceptedByPairs};
 ghost use Rattle.t1_algebra.specs.Laws.{JoinWhereStatesAgree, NoConflictIsJoin, ConflictIsSymmetric, ConflictsAreAll, JoinHasEntries, CallsDrawAlike};
-ghost use Rattle.t1_algebra.specs.{Profile.{profile}, Headline.{Headline}, Normalized.{NormalizedDraw}};
+ghost use Rattle.t1_algebra.specs.{Profile.{profile}, Headline.{Headline}, Normalized.{NormalizedDraw, UnlackingDraw, NormalizedRenewed, ShellsStay}};
 ghost use Rattle.t1_algebra.specs.Rejoins.{TruncatedSubsetsRejoin, MergingFontsAreNormal};
 ghost use Rattle.t1_algebra.specs.Untested.{UntestedDraws, UntestedSubsets, UntestedJoins, UntestedGroupings};
 
@@ -147,6 +147,22 @@ pub fn calls_draw_alike()
 #[tactic(auto, using(t1_algebra::proofs::rejoining::Normalized::normalized_draw))]
 pub fn normalized_draw()
     ensures { NormalizedDraw }
+{}
+
+/// Where no glyph executes a Subr that its font lacks and another of the fonts has, each glyph of each font runs and draws as it did
+/// after the fonts are normalized, its faults included. [`rejoin`](crate::rejoin) refuses all other fonts.
+#[tactic(auto, using(t1_algebra::proofs::rejoining::Unlacking::unlacking_draw))]
+pub fn unlacking_draw()
+    ensures { UnlackingDraw }
+{}
+
+/// Word by word the kept texts of fonts that are normalized are what they were, but for the words of lines that number the font, which
+/// go, the tags of its name, the numbers of its FontBBox and the declared count of Subrs; and what fonts come to has the kept texts of
+/// each of them.
+#[tactic(auto, using(t1_algebra::proofs::rejoining::Renewed::normalized_renewed, t1_algebra::proofs::rejoining::Renewed::shells_stay))]
+pub fn normalized_renewed()
+    ensures fonts { NormalizedRenewed }
+    ensures joined { ShellsStay }
 {}
 
 /// Subsets of one font that other programs cut merge once they are normalized. Their texts may differ in white space, in lines

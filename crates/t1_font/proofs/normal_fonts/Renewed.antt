@@ -1,14 +1,16 @@
 -- What normalizing changes in texts, word by word.
 use Rattle.std.proofs.Common.{◌≡◌, ◌⊎◌, ℕ, zero, suc, ◌≤◌, ◌<◌, arith, Bool, true, false, cond, List, [], ◌∷◌, ◌++◌, length, take, Option, Some, None, inl, inr, refl, sym, ap, subst, ◌∙◌}
-use Rattle.std.proofs.{Common.{append_assoc, true≢false}, lemmas.List.{length-append, append-nil}, lemmas.Grind.{flat_map-append}, lemmas.Option.{none-some}, lemmas.Bool.{eqb-true}, lemmas.Slice.Eq.{bytes_eq-Decides}}
-use Rattle.std.specs.{Prelude.{not, ◌&&◌, ◌==◌, ◌||◌}, List.{AllByRecursion, list_any, flat_map}, Str.{bytes_eq}}
+use Rattle.std.proofs.{Common.{append_assoc, true≢false}, Math.Seq.{take-append_seam}, lemmas.List.{length-append, append-nil}, lemmas.Grind.{flat_map-append}, lemmas.Option.{none-some}, lemmas.Bool.{eqb-true}, lemmas.Slice.Eq.{bytes_eq-Decides}}
+use Rattle.std.specs.{Prelude.{max, ◌-◌, not, ◌&&◌, ◌==◌, ◌||◌}, List.{AllByRecursion, list_any, flat_map}, Str.{bytes_eq}, Option.{option_map}}
 use Rattle.t1_bytes.specs.Eexec.{is_blank}
-use Rattle.t1_grammar.specs.Grammar.{Stops}
+use Rattle.t1_grammar.specs.Grammar.{first, Stops}
 use Rattle.t1_font.specs.{Words.{is_regular}, Rewriting.{Piece, pieces, rewritten, parted}, Squeezing.{ends_line, one_space, is_solid, squeezed_piece, squeezed}}
 use Rattle.t1_font.specs.{Identity.{identity_line, is_in_line, with_end, without_line, unnumbered_piece, unnumbered}, Tags.{renamed, untagged_piece, text_untagged}}
-use Rattle.t1_font.specs.Renewing.{some_word, words_behind, words, untagged_words, Renews, none, stays, goes, TextRenews, SameButNumbers, SqueezedWords, TextsRenewed}
+use Rattle.t1_font.specs.Renewing.{some_word, words_behind, words, untagged_words, Renews, none, stays, goes, TextRenews, SameButNumbers, SameButName, Renewed, SqueezedWords, TextsRenewed}
 use Rattle.t1_font.specs.{declared.normal_texts.KeptText.{KeptText}, declared.normal_texts.KeptText.TheVariants.{Head, ClearTail, Private, Middle, Tail}}
 use Rattle.t1_font.specs.{Tags.{tagged_name, both_untagged}, NormalTexts.{fits, squeezed_text, normal_text, both_normal, without_tags, both_fit, same_both, normal_clear}}
+use Rattle.t1_font.specs.FontNames.{name_between, text_named}
+use Rattle.t1_font.specs.{FontValue.{Shell, SubrsShell}, Tags.{name_marker}, Normalizing.{raised}}
 use Rattle.t1_font.specs.FontBoxes.{Box, BoxPlace, place_in, Side, InHead, InTail, side_of, side_in, texts_at, texts_with, clear_of}
 use Rattle.t1_font.proofs.{Untested.{not_true}, normal_fonts.BoxPlaces.{place_is}}
 use Rattle.t1_font.proofs.normal_fonts.RewritingLemmas.{squeezed_takes, untagged_takes, one_piece, piece_at, solid_stays, parted_next, parted_whole, parted_some, numbered_some}
@@ -432,3 +434,74 @@ box_texts u x (Some s) e = by_places (place_in x.0) (place_in x.1) refl refl s e
     by_places None (Some p) e f (InTail r) k = let same : p ≡ r = cc in (inl refl, inr (r, u, place_is x.1 r (f ∙ ap Some same), refl))
     by_places None (Some p) e f (InHead r) k = absurd cc
     by_places None None e f s k = absurd (none-some s k)
+
+-- ---- what stays
+
+none_raised : (s : Option SubrsShell) → s ≡ option_map (raised 0) s
+none_raised None = refl
+none_raised (Some s) = λ i. Some (record { declared = same s.declared i; rd = s.rd; put = s.put; closing = s.closing })
+  where
+    same : (n : ℕ) → n ≡ max 0 n
+    same n = omega arith
+
+-- the texts of a font that is not normalized
+pub stay_renewed : (s : Shell) → Renewed s s
+stay_renewed s = record {
+  between = s;
+  texts = record {
+    name = None;
+    own = inl refl;
+    head = same_renews (words s.head);
+    clear_tail = same_renews (words s.clear_tail);
+    private = same_renews (words s.private);
+    middle = refl;
+    tail = refl;
+    len_iv = refl;
+    subrs = refl;
+    glyphs_rd = refl;
+    glyphs_def = refl;
+  };
+  box = record {
+    head = inl refl;
+    clear_tail = inl refl;
+    private = refl;
+    middle = refl;
+    tail = refl;
+    len_iv = refl;
+    count = 0;
+    subrs = none_raised s.subrs;
+    glyphs_rd = refl;
+    glyphs_def = refl;
+  };
+}
+
+-- ---- names
+
+-- a front of a text, by what stands behind it
+front_is : (front rest : List ℕ) → take (length (front ++ rest) - length rest) (front ++ rest) ≡ front
+front_is front rest =
+    let long : length (front ++ rest) - length rest ≡ length front = omega (arith, length-append front rest) in
+    ap (λ (n : ℕ). take n (front ++ rest)) long ∙ take-append_seam front rest
+
+pub name_renews : (name text : List ℕ) → SameButName text (text_named name text)
+name_renews name text = by_read ((first name_marker).read text) refl
+  where
+    by_read : (o : Option ((List ℕ × List ℕ) × List ℕ)) → (first name_marker).read text ≡ o →
+        SameButName text (name_between name text (option_map (λ x. (take (length text - length x.1) text, (parted is_regular x.1).1)) o))
+    by_read None e = inl refl
+    by_read (Some x) e =
+        let s = (first name_marker).takes text x e in
+        let word = (parted is_regular x.1).0 in
+        let behind = (parted is_regular x.1).1 in
+        let whole : x.1 ≡ word ++ behind = parted_whole is_regular x.1 in
+        inr (
+          x.0,
+          s.0,
+          word,
+          name,
+          behind,
+          subst (λ (u : List ℕ). (first name_marker).Spells x.0 s.0 u) whole s.2,
+          s.1 ∙ ap (λ (u : List ℕ). s.0 ++ u) whole,
+          append_assoc (take (length text - length x.1) text) name behind
+              ∙ ap (λ (u : List ℕ). u ++ (name ++ behind)) (ap (λ (t : List ℕ). take (length t - length x.1) t) s.1 ∙ front_is s.0 x.1),
+        )
