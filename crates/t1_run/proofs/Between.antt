@@ -1,13 +1,17 @@
 -- Turns of a machine: what it does with a token, whatever marks were made before, is a turn of the run after the marks that were.
-use Rattle.std.proofs.Common.{◌≡◌, refl, sym, ap, subst, ◌∙◌, ℕ, zero, suc, ◌+◌, ◌-◌, ◌<◌, ◌≤◌, ◌==◌, cond, Bool, true, List, [], ◌∷◌, ◌++◌, length, ℤ, Option, Some, arith}
+use Rattle.std.proofs.Common.{◌≡◌, refl, sym, ap, subst, ◌∙◌, ℕ, zero, suc, ◌+◌, ◌-◌, ◌<◌, ◌≤◌, ◌==◌, cond, Bool, true, false, not, ◌&&◌, ◌||◌, List, [], ◌∷◌, ◌++◌, length, ℤ, Option, Some, arith}
+use Rattle.std.specs.List.{list_any}
+use Rattle.std.proofs.lemmas.{List.Folds.{list_any-append}, Bool.{false≢true}}
 use Rattle.t1_char.specs.{declared.token.Token.{Token}, Tokens.{tokens}}
 use Rattle.t1_run.specs.{declared.frames.Frame.{Frame}, declared.machine.Machine.{Machine}, declared.machine.Flow.{Flow}, declared.answer.Halt.{Halt}, declared.answer.Mark.{Mark}}
 use Rattle.t1_run.specs.{declared.answer.Fault.{Fault}, declared.answer.Fault.TheVariants.{Unended, TooLong}, declared.answer.Hints.{Hints}, declared.answer.Hints.TheVariants.{Kept}}
-use Rattle.t1_run.specs.{State.{State, Ending, Back, Failed, start, token_limit}, Rules.{Step, Goes, Ends, fails}, declared.budget.Allowance.{Allowance}, Budgets.{tokens_by}}
+use Rattle.t1_run.specs.{State.{State, Ending, Back, Failed, start, token_limit}, Rules.{Step, Goes, Ends, fails}, declared.budget.Allowance.{Allowance}, Budgets.{tokens_by, is_replace}}
+use Rattle.t1_run.specs.declared.answer.Curve.{Curve}
 use Rattle.t1_run.specs.Run.{Subrs, Outcome, ends, index_taken, index_of, charstring_at, then_run, level_limit, call, with_indices, run_glyph, at_top, marks_after, spend, step}
 use Rattle.t1_run.specs.{Machine.{state_of, step_of, is_one, left_of, Spent, SpendsNext, EndsAtLimit, Withheld, ending_of, Runs}, Frames.{frame_left}, Limits.{EndsWithinLimits, Keeps}}
 use Rattle.t1_run.proofs.{Limits.{start_within}, Turns.{Turns, Turn, Ended, begins, turn, runs_out, length_push, on_more, on_goes, on_back, on_last, on_end, on_fault, on_call}}
 use Rattle.t1_run.proofs.Mirrors.{Mirror, MirrorTurn, mirror_begins, mirror_turn, mirror_out, mirror_goes, mirror_back, mirror_last, mirror_end, mirror_fault, mirror_call}
+use Rattle.t1_run.specs.declared.answer.Mark.TheVariants as mark
 use Rattle.t1_run.specs.declared.machine.Flow.TheVariants as flow
 use Rattle.t1_run.specs.declared.answer.Halt.TheVariants as halt
 
@@ -19,6 +23,7 @@ pub record Between {P : Type 0} (subrs : Subrs) (hints : Hints) (c old : List �
   pub drawn : Drawn marks
   pub turns : Turns (run_glyph subrs hints c) old subrs hints frames (state_of m (left_of a) marks) now
   pub mirror : Mirror (run_glyph subrs hints c) (run_glyph subrs Kept c) subrs hints Kept one frames (state_of m (left_of a) marks)
+  pub told : one ≡ not (list_any is_replace marks)
   pub all : left_of first ≡ token_limit
   pub withheld : a.withheld ≡ first.withheld
 
@@ -61,9 +66,38 @@ at_start subrs hints c old Drawn frames top m first new all none a full =
           begun (begins subrs hints c start old frames top first all refl refl start_within);
       mirror = subst (λ s. Mirror (run_glyph subrs hints c) (run_glyph subrs Kept c) subrs hints Kept true frames s)
           begun (mirror_begins subrs hints Kept c start frames top first all);
+      told = refl;
       all = full;
       withheld = refl;
     }
+
+-- after one more mark it is told with it whether none replaces hints
+pub told_with : (marks : List Mark) (m : Mark) (one here : Bool) → here ≡ is_replace m → one ≡ not (list_any is_replace marks) →
+    (one && not here) ≡ not (list_any is_replace (marks ++ m ∷ []))
+told_with marks m one here is told =
+    ap (λ b. b && not here) told ∙ ap (λ b. not (list_any is_replace marks) && not b) is
+    ∙ neither (list_any is_replace marks) (is_replace m) ∙ ap not (sym (list_any-append is_replace marks (m ∷ [])))
+  where
+    neither : (a b : Bool) → (not a && not b) ≡ not (a || (b || false))
+    neither true b = refl
+    neither false true = refl
+    neither false false = refl
+
+-- where it is told that none does, this mark doesn't, and none did before
+pub none_before : (m : Mark) (one here : Bool) → here ≡ is_replace m → (one && not here) ≡ true → (one ≡ true) × (not (is_replace m) ≡ true)
+none_before m true here is h = (refl, ap not (sym is) ∙ h)
+none_before m false here is h = absurd (false≢true h)
+
+-- the marks of a flex replace no hints
+pub told_with_flex : (marks : List Mark) (one : Bool) (height : ℤ) (before after : Curve) → one ≡ not (list_any is_replace marks) →
+    one ≡ not (list_any is_replace (marks ++ mark.Flex height ∷ mark.Curve before ∷ mark.Curve after ∷ []))
+told_with_flex marks one height before after told =
+    told ∙ ap not (or_false (list_any is_replace marks))
+    ∙ ap not (sym (list_any-append is_replace marks (mark.Flex height ∷ mark.Curve before ∷ mark.Curve after ∷ [])))
+  where
+    or_false : (a : Bool) → a ≡ (a || false)
+    or_false true = refl
+    or_false false = refl
 
 -- ---- endings of charstrings
 
@@ -99,7 +133,7 @@ module _ {P : Type 0} {subrs : Subrs} {hints : Hints} {c old : List ℕ} {one : 
     {now : List ℕ} {first a : Allowance} (inv : Between subrs hints c old one Drawn frames m now first a)
     (rest : List Frame) (top : Frame) (are : frames ≡ rest ++ top ∷ []) where
   abbrev Ran : Halt → List ℕ → Type 0
-  Ran h now = Runs (run_glyph subrs hints c) h Drawn old now
+  Ran h now = Runs (run_glyph subrs hints c) h one Drawn old now
 
   -- so many tokens were executed in all, if so many are left
   abbrev Spends : Allowance → Type 0
@@ -109,7 +143,7 @@ module _ {P : Type 0} {subrs : Subrs} {hints : Hints} {c old : List ℕ} {one : 
   ran : (h : Halt) (end : Ending) (now : List ℕ) (left : ℕ) → ending_of h inv.marks ≡ at_top end →
       EndsWithinLimits (ending_of h inv.marks) → Ended (run_glyph subrs hints c) end old now inv.marks left → Ran h now
   ran h end now left is within e =
-      record { marks = inv.marks; drawn = inv.drawn; made = e.made; ends_so = is ∙ ap at_top e.ends_so; within = within; called = e.called }
+      record { marks = inv.marks; drawn = inv.drawn; made = e.made; told = inv.told; ends_so = is ∙ ap at_top e.ends_so; within = within; called = e.called }
 
   spends : (end : Ending) (now : List ℕ) (marks : List Mark) (a' : Allowance) → a'.withheld ≡ a.withheld →
       Ended (run_glyph subrs hints c) end old now marks (left_of a') → Spends a'
@@ -131,10 +165,11 @@ module _ {P : Type 0} {subrs : Subrs} {hints : Hints} {c old : List ℕ} {one : 
   -- no more tokens are allowed
   module _ (none : a.allowed ≡ 0) (top' : Frame) where
     -- the budget withholds the next token, which the run would execute
-    pub refused : Withheld a (frame_left top) (frame_left top') → (0 < first.withheld) × (first.allowed < tokens_by hints subrs c)
+    pub refused : Withheld a (frame_left top) (frame_left top') →
+        (0 < first.withheld) × (first.allowed < tokens_by hints subrs c) × (a.allowed ≡ 0)
     refused w =
         let more : token_limit ≤ tokens_by hints subrs c + (left_of a - 1) = on_more (turn inv.turns rest top are top' w.next w.are) (left_of a - 1) refl in
-        (omega (arith, w.some, inv.withheld), omega (arith, more, w.some, none, inv.withheld, inv.all))
+        (omega (arith, w.some, inv.withheld), omega (arith, more, w.some, none, inv.withheld, inv.all), none)
 
   -- the frame on top gives its next token, which the machine spends
   module _ (top' : Frame) (t : Token) (m' : Machine P) (a' : Allowance) (on : Flow) (next : frame_left top ≡ t ∷ frame_left top')
@@ -151,14 +186,16 @@ module _ {P : Type 0} {subrs : Subrs} {hints : Hints} {c old : List ℕ} {one : 
     -- it goes on, after these marks
     pub goes : (one' : Bool) (Drawn' : List Mark → Type 0) (marks : List Mark) (frames' : List Frame) →
         step_of on (state_of m' (left_of a') inv.marks) ≡ Goes (state_of m' (left_of a') marks) → Drawn' marks →
-        (one' ≡ true → (one ≡ true) × (is_one on ≡ true)) → frames' ≡ rest ++ top' ∷ [] → Between subrs hints c old one' Drawn' frames' m' now first a'
-    goes one' Drawn' marks frames' is drawn stays pushed = record {
+        (one' ≡ true → (one ≡ true) × (is_one on ≡ true)) → one' ≡ not (list_any is_replace marks) → frames' ≡ rest ++ top' ∷ [] →
+        Between subrs hints c old one' Drawn' frames' m' now first a'
+    goes one' Drawn' marks frames' is drawn stays told pushed = record {
       marks = marks;
       drawn = drawn;
       turns = on_goes in_turn frames' (state_of m' (left_of a') marks) pushed (sym is ∙ spent.step inv.marks) spent.fewer
           (kept_limits (Goes (state_of m' (left_of a') marks)) is).0;
       mirror = mirror_goes in_mirror one' frames' (state_of m' (left_of a') marks) pushed (sym is ∙ spent.step inv.marks)
           (λ h. let kept = stays h in (kept.0, sym is ∙ spent.one kept.1 inv.marks));
+      told = told;
       all = inv.all;
       withheld = same ∙ inv.withheld;
     }
@@ -239,6 +276,7 @@ module _ {P : Type 0} {subrs : Subrs} {hints : Hints} {c old : List ℕ} {one : 
         drawn = inv.drawn;
         turns = on_back turn_now frames' state_now popped (spent.step inv.marks) spent.fewer (spent.within inv.marks inv.turns.within).0;
         mirror = mirror_back mirror_now one frames' state_now popped (spent.step inv.marks) (λ h. (h, spent.one refl inv.marks));
+        told = inv.told;
         all = inv.all;
         withheld = same ∙ inv.withheld;
       }
@@ -298,6 +336,7 @@ module _ {P : Type 0} {subrs : Subrs} {hints : Hints} {c old : List ℕ} {one : 
                 (spent.step inv.marks) spent.fewer is refl room took frames_are enters all (spent.within inv.marks inv.turns.within).0;
             mirror = mirror_call mirror_now one state_now i index (rest ++ top' ∷ []) frames' levels c' g
                 (spent.step inv.marks) (λ h. (h, spent.one refl inv.marks)) is refl room frames_are enters all;
+            told = inv.told;
             all = inv.all;
             withheld = same ∙ inv.withheld;
           }

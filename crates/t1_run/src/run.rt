@@ -3,7 +3,7 @@
 ghost use Rattle.std.specs.Prelude.{◌≡◌, ◌≤◌, ◌+◌, IfOk, IfErr, OnOk, OnErr, ◌<◌, [], ◌∷◌, Some, true};
 ghost use Rattle.t1_run.specs.Limits.{EndsWithinLimits};
 ghost use Rattle.t1_run.specs.Run.{run_glyph, direct_by, direct, direct3, calls_of, with_indices, AddsFirst, index_of, index_taken};
-ghost use Rattle.t1_run.specs.{Machine.{ending_of, value_of, left_of, Runs, IsEntered}, Budgets.{tokens_by, HasFewer, Takes}, State.{token_limit}};
+ghost use Rattle.t1_run.specs.{Machine.{ending_of, value_of, left_of, Runs, IsEntered}, Budgets.{tokens_by, is_replace, Spends, RunsOut, NoMore, HasFewer, Takes}, State.{token_limit}};
 ghost use Rattle.t1_run.specs.{declared.budget.Stop.TheVariants.{TooManyTokens}, Pens.{Draws}};
 
 use crate::answer::{Curve, Direct, Fault, Halt, Hints, Mark};
@@ -60,6 +60,13 @@ fn take(called: &mut SubrSet, index: Option<u16>) -> Result<(), AllocError>
     Ok(())
 }
 
+/// Whether a mark says that other hints follow.
+fn is_replace(mark: &Mark) -> bool
+    ensures { result ≡ is_replace mark.now }
+{
+    matches!(mark, Mark::Replace)
+}
+
 /// Draws a flex.
 fn draw_flex<P: Pen>(
     pen: &mut P,
@@ -76,7 +83,8 @@ fn draw_flex<P: Pen>(
 }
 
 /// Runs a charstring until a token ends the run; each turn executes the next token of the Subr that was called last, or of
-/// the glyph. It also answers whether the run is the same where hints are kept. The pen draws the marks.
+/// the glyph. It also answers whether no OtherSubr 3 was run, so that the run is the same where hints are kept. The pen draws the
+/// marks.
 #[inline(always)]
 fn take_turns<'s, S: Subroutines, P: Pen>(
     subrs: &'s S,
@@ -88,7 +96,7 @@ fn take_turns<'s, S: Subroutines, P: Pen>(
 ) -> Result<(Halt, bool), Stop>
     requires { left_of allowance.now ≡ token_limit }
     ensures runs { IfOk result
-        (λ r. Runs (run_glyph (S.subrs subrs.now) hints charstring.now) r.0
+        (λ r. Runs (run_glyph (S.subrs subrs.now) hints charstring.now) r.0 r.1
         (Draws P.marked (P.page pen.old) (P.page pen.new)) called.old called.new) }
     ensures one { IfOk result (λ r. r.1 ≡ true
         → run_glyph (S.subrs subrs.now) Hints.Kept charstring.now
@@ -102,7 +110,8 @@ fn take_turns<'s, S: Subroutines, P: Pen>(
         ≤ tokens_by hints (S.subrs subrs.now) charstring.now + allowance.new.allowed)) }
     ensures refused { IfErr result (λ e. e ≡ TooManyTokens
         → (0 < allowance.old.withheld)
-        × (allowance.old.allowed < tokens_by hints (S.subrs subrs.now) charstring.now)) }
+        × (allowance.old.allowed < tokens_by hints (S.subrs subrs.now) charstring.now)
+        × (allowance.new.allowed ≡ 0)) }
 {
     let mut machine = Machine::<P>::new();
     let mut call_stack: ArrayVec<Frame<'s>, LEVELS> = ArrayVec::new();
@@ -117,12 +126,11 @@ fn take_turns<'s, S: Subroutines, P: Pen>(
         };
         match flow {
             Flow::Go => {}
-            Flow::Mark(mark) => pen.mark(mark)?,
-            Flow::Flex(height, before, after) => draw_flex(pen, height, before, after)?,
-            Flow::Split => {
-                pen.mark(Mark::Replace)?;
-                is_one = false;
+            Flow::Mark(mark) => {
+                pen.mark(mark)?;
+                is_one &= !is_replace(&mark);
             }
+            Flow::Flex(height, before, after) => draw_flex(pen, height, before, after)?,
             Flow::Back => match call_stack.pop() {
                 Some(caller) => top = caller,
                 None => return Ok((Halt::Failed(Fault::Unended), is_one)),
@@ -145,9 +153,9 @@ fn take_turns<'s, S: Subroutines, P: Pen>(
     }
 }
 
-/// Runs a charstring until a token ends the run, or until the budget has no token left for the next. It also answers whether the
-/// run is the same where hints are kept. The pen draws the marks. However it ends, the tokens that were executed are taken out of
-/// the budget.
+/// Runs a charstring until a token ends the run, or until the budget has no token left for the next. It also answers whether no
+/// OtherSubr 3 was run, so that the run is the same where hints are kept. The pen draws the marks. However it ends, the tokens that
+/// were executed are taken out of the budget.
 pub(crate) fn run<'s, S: Subroutines, P: Pen>(
     subrs: &'s S,
     hints: Hints,
@@ -157,13 +165,19 @@ pub(crate) fn run<'s, S: Subroutines, P: Pen>(
     budget: &mut Budget,
 ) -> Result<(Halt, bool), Stop>
     ensures runs { IfOk result
-        (λ r. Runs (run_glyph (S.subrs subrs.now) hints charstring.now) r.0
+        (λ r. Runs (run_glyph (S.subrs subrs.now) hints charstring.now) r.0 r.1
         (Draws P.marked (P.page pen.old) (P.page pen.new)) called.old called.new) }
     ensures one { IfOk result (λ r. r.1 ≡ true
         → run_glyph (S.subrs subrs.now) Hints.Kept charstring.now
         ≡ run_glyph (S.subrs subrs.now) hints charstring.now) }
     ensures some { OnErr result (AddsFirst (calls_of hints (S.subrs subrs.now) charstring.now)
         called.old called.new) }
+    ensures spends { OnOk result (Spends (tokens_by hints (S.subrs subrs.now) charstring.now)
+        budget.old.left budget.new.left) }
+    ensures runs_out { IfErr result (λ e. e ≡ TooManyTokens
+        → RunsOut (tokens_by hints (S.subrs subrs.now) charstring.now)
+        budget.old.left budget.new.left) }
+    ensures lowers { OnErr result (NoMore budget.old.left budget.new.left) }
     ensures takes { OnOk result (Takes (tokens_by hints (S.subrs subrs.now) charstring.now)
         (tokens_by hints (S.subrs subrs.now) charstring.now) budget.old.left budget.new.left) }
     ensures spent { OnErr result (Takes 0 (tokens_by hints (S.subrs subrs.now) charstring.now)
@@ -187,7 +201,7 @@ pub(crate) fn run_freely<'s, S: Subroutines, P: Pen>(
     called: &mut SubrSet,
 ) -> Result<(Halt, bool), AllocError>
     ensures runs { IfOk result
-        (λ r. Runs (run_glyph (S.subrs subrs.now) hints charstring.now) r.0
+        (λ r. Runs (run_glyph (S.subrs subrs.now) hints charstring.now) r.0 r.1
         (Draws P.marked (P.page pen.old) (P.page pen.new)) called.old called.new) }
     ensures one { IfOk result (λ r. r.1 ≡ true
         → run_glyph (S.subrs subrs.now) Hints.Kept charstring.now

@@ -1,8 +1,9 @@
 //! What a glyph needs of its font: the parts that it names and the Subrs that it executes. Its marks are not kept.
 
-ghost use Rattle.std.specs.Prelude.{◌≡◌, ◌++◌, IfOk, IfErr, OnOk, OnErr, map, [], true};
+ghost use Rattle.std.specs.Prelude.{◌≡◌, ◌++◌, IfOk, IfErr, OnOk, OnErr, map, not, [], true};
 ghost use Rattle.t1_run.specs.Run.{run_glyph, calls_of, calls, calls3, exec, with_executed, with_indices, AddsFirst};
-ghost use Rattle.t1_run.specs.{Budgets.{tokens_by, tokens_of_longer, tokens_of_both, HasFewer, Takes}, declared.budget.Stop.TheVariants.{TooManyTokens}};
+ghost use Rattle.t1_run.specs.{Budgets.{tokens_by, tokens_of, replaces_hints, Spends, RunsOut, NoMore}};
+ghost use Rattle.t1_run.specs.{Budgets.{tokens_of_longer, tokens_of_both, HasFewer, Takes}, declared.budget.Stop.TheVariants.{TooManyTokens}};
 ghost use Rattle.t1_run.specs.{Machine.{ending_of}, Drawings.{parts, parts_by, parts_of}};
 
 use crate::answer::{Halt, Hints};
@@ -15,8 +16,8 @@ use crate::subroutines::Subroutines;
 use std::alloc::{AllocError, Global};
 use std::collections::BTreeSet;
 
-/// How a charstring ends, whether it ends and calls the same where hints are kept, and which Subrs it called, added to
-/// `called`.
+/// How a charstring ends, whether it ran OtherSubr 3 never, so that it ends and calls the same where hints are kept, and which Subrs
+/// it called, added to `called`.
 fn halt_of<S: Subroutines>(
     subrs: &S,
     hints: Hints,
@@ -33,6 +34,14 @@ fn halt_of<S: Subroutines>(
     ensures one { IfOk result (λ r. r.1 ≡ true
         → run_glyph (S.subrs subrs.now) Hints.Kept charstring.now
         ≡ run_glyph (S.subrs subrs.now) hints charstring.now) }
+    ensures told { IfOk result (λ r. r.1
+        ≡ not (replaces_hints hints (S.subrs subrs.now) charstring.now)) }
+    ensures spends { OnOk result (Spends (tokens_by hints (S.subrs subrs.now) charstring.now)
+        budget.old.left budget.new.left) }
+    ensures runs_out { IfErr result (λ e. e ≡ TooManyTokens
+        → RunsOut (tokens_by hints (S.subrs subrs.now) charstring.now)
+        budget.old.left budget.new.left) }
+    ensures lowers { OnErr result (NoMore budget.old.left budget.new.left) }
     ensures takes { OnOk result (Takes (tokens_by hints (S.subrs subrs.now) charstring.now)
         (tokens_by hints (S.subrs subrs.now) charstring.now) budget.old.left budget.new.left) }
     ensures spent { OnErr result (Takes 0 (tokens_by hints (S.subrs subrs.now) charstring.now)
@@ -44,7 +53,7 @@ fn halt_of<S: Subroutines>(
 }
 
 /// How a charstring ends where hints are replaced and where they are kept, and which Subrs it executes, added to `called`.
-/// It is run once if both answers after OtherSubr 3 are the same.
+/// It is run once if it runs no OtherSubr 3.
 fn both_halts<S: Subroutines>(
     subrs: &S,
     charstring: &[u8],
@@ -60,6 +69,12 @@ fn both_halts<S: Subroutines>(
     ensures some { OnErr result (AddsFirst
         (calls (S.subrs subrs.now) charstring.now ++ calls3 (S.subrs subrs.now) charstring.now)
         called.old called.new) }
+    ensures spends { OnOk result (Spends (tokens_of (S.subrs subrs.now) charstring.now)
+        budget.old.left budget.new.left) }
+    ensures runs_out { IfErr result (λ e. e ≡ TooManyTokens
+        → RunsOut (tokens_of (S.subrs subrs.now) charstring.now)
+        budget.old.left budget.new.left) }
+    ensures lowers { OnErr result (NoMore budget.old.left budget.new.left) }
     ensures takes { OnOk result (Takes (tokens_of_longer (S.subrs subrs.now) charstring.now)
         (tokens_of_both (S.subrs subrs.now) charstring.now) budget.old.left budget.new.left) }
     ensures spent { OnErr result (Takes 0 (tokens_of_both (S.subrs subrs.now) charstring.now)
@@ -76,11 +91,10 @@ fn both_halts<S: Subroutines>(
 }
 
 /// The same as [`parts_and_executed`] within a budget: each token that is executed is taken out of it, and it stops before a token
-/// for which none is left. If both answers after OtherSubr 3 lead to the same run, this is executed once. However it ends, the
-/// budget is lowered by what was executed.
+/// for which none is left. A charstring that runs no OtherSubr 3 is run once, and any other is run once more, where hints are kept.
 ///
-/// It fails with [`Stop::TooManyTokens`] only if both runs execute more tokens than are left, and else only for want of memory.
-/// It has then added the first few of the indices to `called`, or none.
+/// It fails with [`Stop::TooManyTokens`] if these runs execute more tokens than are left, and none is left then; and else only for
+/// want of memory, after which no more are left than before. It has then added the first few of the indices to `called`, or none.
 #[tactic(auto, using(crate::proofs::Indices::first_all))]
 pub fn parts_and_executed_within<S: Subroutines>(
     alloc: Global,
@@ -96,6 +110,12 @@ pub fn parts_and_executed_within<S: Subroutines>(
     ensures some { OnErr result (AddsFirst
         (calls (S.subrs subrs.now) charstring.now ++ calls3 (S.subrs subrs.now) charstring.now)
         called.old called.new) }
+    ensures spends { OnOk result (Spends (tokens_of (S.subrs subrs.now) charstring.now)
+        budget.old.left budget.new.left) }
+    ensures runs_out { IfErr result (λ e. e ≡ TooManyTokens
+        → RunsOut (tokens_of (S.subrs subrs.now) charstring.now)
+        budget.old.left budget.new.left) }
+    ensures lowers { OnErr result (NoMore budget.old.left budget.new.left) }
     ensures takes { OnOk result (Takes (tokens_of_longer (S.subrs subrs.now) charstring.now)
         (tokens_of_both (S.subrs subrs.now) charstring.now) budget.old.left budget.new.left) }
     ensures spent { OnErr result (Takes 0 (tokens_of_both (S.subrs subrs.now) charstring.now)

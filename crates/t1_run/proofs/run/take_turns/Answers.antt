@@ -1,8 +1,8 @@
 use Rattle.std.proofs.Common.{rules, refl, sym, ap, List, [], ◌∷◌, ◌++◌}
 use Rattle.t1_run.specs.{declared.frames.Frame.{Frame}, declared.answer.Mark.{Mark}, Pens.{Draws}}
 use Rattle.t1_run.proofs.Pages.{draws_more}
-use Rattle.t1_run.proofs.Between.{at_start, leaves_fewer, out, out_one, out_spends, refused, limit_so, limit_one, limit_spends, goes, ends_so, ends_one, ends_spends, stops_short, back, last, last_one}
-use Rattle.t1_run.proofs.Between.{last_spends, fails_so, fails_one, fails_spends, calls, spent_as}
+use Rattle.t1_run.proofs.Between.{at_start, leaves_fewer, told_with, told_with_flex, none_before, out, out_one, out_spends, refused, limit_so, limit_one, limit_spends, goes, ends_so}
+use Rattle.t1_run.proofs.Between.{ends_one, ends_spends, stops_short, back, last, last_one, last_spends, fails_so, fails_one, fails_spends, calls, spent_as}
 use Rattle.t1_run.specs.declared.answer.Halt.TheVariants as halt
 use Rattle.t1_run.specs.declared.answer.Mark.TheVariants as mark
 use Rattle.t1_run.specs.declared.machine.Flow.TheVariants as flow
@@ -51,15 +51,18 @@ pub turns-preserved-in-Go : goal.turns-preserved-in-Go
 turns-preserved-in-Go g c =
     let e = spent_as _ c.in-Some.ensures.next flow.Go c.in-Go.is in
     goes c.turns.invariant c.turns.call_stack.items c.turns.top refl c.spend.new.top e.0 c.spend.new.self c.spend.new.allowance
-    flow.Go e.1 e.2 c.in-Some.ensures.withheld c.turns.is_one _ c.turns.invariant.marks _ refl c.turns.invariant.drawn (λ h. (h, refl)) refl
+    flow.Go e.1 e.2 c.in-Some.ensures.withheld c.turns.is_one _ c.turns.invariant.marks _ refl c.turns.invariant.drawn (λ h. (h, refl))
+    c.turns.invariant.told refl
 
-pub turns-preserved-in_ok-mark-in-Mark : goal.turns-preserved-in_ok-mark-in-Mark
-turns-preserved-in_ok-mark-in-Mark g c =
+pub turns-preserved-in-Mark : goal.turns-preserved-in-Mark
+turns-preserved-in-Mark g c =
     let e = spent_as _ c.in-Some.ensures.next (flow.Mark c.in-Mark.mark) c.in-Mark.is in
     let marks = c.turns.invariant.marks in
     goes c.turns.invariant c.turns.call_stack.items c.turns.top refl c.spend.new.top e.0 c.spend.new.self c.spend.new.allowance
-    (flow.Mark c.in-Mark.mark) e.1 e.2 c.in-Some.ensures.withheld c.turns.is_one _ (marks ++ c.in-Mark.mark ∷ []) _ refl
-    (draws_more g.P.Pen.marked _ _ _ marks (c.in-Mark.mark ∷ []) c.turns.invariant.drawn c.in_ok-mark-in-Mark.ensures) (λ h. (h, refl)) refl
+    (flow.Mark c.in-Mark.mark) e.1 e.2 c.in-Some.ensures.withheld _ _ (marks ++ c.in-Mark.mark ∷ []) _ refl
+    (draws_more g.P.Pen.marked _ _ _ marks (c.in-Mark.mark ∷ []) c.turns.invariant.drawn c.in_ok-mark-in-Mark.ensures)
+    (none_before c.in-Mark.mark c.turns.is_one c.is_replace.result c.is_replace.ensures)
+    (told_with marks c.in-Mark.mark c.turns.is_one c.is_replace.result c.is_replace.ensures c.turns.invariant.told) refl
 
 pub returns-in_err-mark-in-Mark-clause-more : goal.returns-in_err-mark-in-Mark-clause-more
 returns-in_err-mark-in-Mark-clause-more g c =
@@ -76,27 +79,14 @@ turns-preserved-in_ok-draw_flex-in-Flex g c =
     let d = c.in_ok-draw_flex-in-Flex.ensures in search rules in
     goes c.turns.invariant c.turns.call_stack.items c.turns.top refl c.spend.new.top e.0 c.spend.new.self c.spend.new.allowance
     (flow.Flex c.in-Flex.height c.in-Flex.before c.in-Flex.after) e.1 e.2 c.in-Some.ensures.withheld
-    c.turns.is_one _ (marks ++ flex) _ refl (draws_more g.P.Pen.marked _ _ _ marks flex c.turns.invariant.drawn drew) (λ h. (h, refl)) refl
+    c.turns.is_one _ (marks ++ flex) _ refl (draws_more g.P.Pen.marked _ _ _ marks flex c.turns.invariant.drawn drew) (λ h. (h, refl))
+    (told_with_flex marks c.turns.is_one c.in-Flex.height c.in-Flex.before c.in-Flex.after c.turns.invariant.told) refl
 
 pub returns-in_err-draw_flex-in-Flex-clause-more : goal.returns-in_err-draw_flex-in-Flex-clause-more
 returns-in_err-draw_flex-in-Flex-clause-more g c =
     let e = spent_as _ c.in-Some.ensures.next (flow.Flex c.in-Flex.height c.in-Flex.before c.in-Flex.after) c.in-Flex.is in
     let short = stops_short c.turns.invariant c.turns.call_stack.items c.turns.top refl c.spend.new.top e.0 c.spend.new.self c.spend.new.allowance
     (flow.Flex c.in-Flex.height c.in-Flex.before c.in-Flex.after) e.1 e.2 c.in-Some.ensures.withheld in search rules
-
-pub returns-in_err-mark-in-Split-clause-more : goal.returns-in_err-mark-in-Split-clause-more
-returns-in_err-mark-in-Split-clause-more g c =
-    let e = spent_as _ c.in-Some.ensures.next flow.Split c.in-Split.is in
-    let short = stops_short c.turns.invariant c.turns.call_stack.items c.turns.top refl c.spend.new.top e.0 c.spend.new.self c.spend.new.allowance
-    flow.Split e.1 e.2 c.in-Some.ensures.withheld in search rules
-
-pub turns-preserved-in-Split : goal.turns-preserved-in-Split
-turns-preserved-in-Split g c =
-    let e = spent_as _ c.in-Some.ensures.next flow.Split c.in-Split.is in
-    let marks = c.turns.invariant.marks in
-    goes c.turns.invariant c.turns.call_stack.items c.turns.top refl c.spend.new.top e.0 c.spend.new.self c.spend.new.allowance
-    flow.Split e.1 e.2 c.in-Some.ensures.withheld _ _ (marks ++ mark.Replace ∷ []) _ refl
-    (draws_more g.P.Pen.marked _ _ _ marks (mark.Replace ∷ []) c.turns.invariant.drawn c.in_ok-mark-in-Split.ensures) (λ h. search rules) refl
 
 pub turns-preserved-in-Some-pop : goal.turns-preserved-in-Some-pop
 turns-preserved-in-Some-pop g c =

@@ -1,6 +1,7 @@
-use Rattle.std.proofs.Common.{rules, sym, ap, ◌∙◌, ℕ, List}
-use Rattle.t1_run.specs.{declared.answer.Hints.TheVariants.{Replaced}, Run.{Outcome, with_indices, calls_of, calls, calls3}}
-use Rattle.t1_run.proofs.{Indices.{with_again, first_of_more, first_after}, Taken.{one_takes, both_take}}
+use Rattle.std.proofs.Common.{rules, sym, ap, subst, ◌∙◌, ℕ, List}
+use Rattle.t1_run.specs.{declared.answer.Hints.TheVariants.{Replaced}, Run.{Outcome, with_indices, calls_of, calls, calls3}, Budgets.{Spends}}
+use Rattle.t1_run.proofs.Indices.{with_again, first_of_more, first_after}
+use Rattle.t1_run.proofs.Taken.{one_takes, both_take, tokens_of_one, tokens_of_two, spends_then}
 use Rattle.t1_run.proofs.unmarked.both_halts.Goals as goal
 
 -- both runs are one, and its indices are all
@@ -34,3 +35,18 @@ pub returns-clause-takes : goal.returns-clause-takes
 returns-clause-takes g c =
     both_take (g.S.Subroutines.subrs c.args.subrs.now) c.args.charstring.now c.args.budget.now.left c.halt_of.new.budget.left c.halt_of-2.new.budget.left
     c.in_ok-replaced.ensures.takes c.in_ok-kept.ensures.takes
+
+-- one run is all
+pub returns-then-is_one-clause-spends : goal.returns-then-is_one-clause-spends
+returns-then-is_one-clause-spends g c =
+    let said = c.in_ok-replaced.ensures in
+    let all = tokens_of_one (g.S.Subroutines.subrs c.args.subrs.now) c.args.charstring.now _ said.told c.if-is_one.true in
+    subst (λ n. Spends n c.args.budget.now.left c.halt_of.new.budget.left) (sym all) said.spends
+
+-- the second run is the rest
+pub returns-clause-spends : goal.returns-clause-spends
+returns-clause-spends g c =
+    let said = c.in_ok-replaced.ensures in
+    let all = tokens_of_two (g.S.Subroutines.subrs c.args.subrs.now) c.args.charstring.now _ said.told c.if-is_one.false in
+    subst (λ n. Spends n c.args.budget.now.left c.halt_of-2.new.budget.left) (sym all)
+    (spends_then _ _ c.args.budget.now.left c.halt_of.new.budget.left c.halt_of-2.new.budget.left said.spends c.in_ok-kept.ensures.spends)
