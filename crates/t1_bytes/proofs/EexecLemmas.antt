@@ -1,11 +1,12 @@
 -- What is known of the marker and the cipher that were read, and the split of a flat text.
-use Rattle.std.proofs.{Common.{◌≡◌, ℕ, ◌≤◌, ◌-◌, List, ◌++◌, length, drop, Option, Some, None, Result, Ok, Err, MatchResult, refl, sym, ap, ◌∙◌, arith, inl, inr}, lemmas.List.{length-append}}
+use Rattle.std.proofs.{Common.{◌≡◌, ℕ, ◌≤◌, ◌-◌, List, ◌++◌, length, drop, Option, Some, None, Result, Ok, Err, MatchResult, refl, sym, ap, ◌∙◌, arith}, lemmas.List.{length-append}}
 use Rattle.std.proofs.{Math.Seq.{drop-append-add}, lemmas.Option.{same_Some, none-some}}
 use Rattle.std.specs.{Prelude.{codes}, Option.{option_map}}
 use Rattle.t1_bytes.specs.{declared.eexec.Cipher.{Cipher}, declared.eexec.Cipher.TheVariants.{Last, Spelled}, declared.fault.BytesFault.{BytesFault}}
 use Rattle.t1_bytes.specs.{declared.fault.BytesFault.TheVariants.{BadSegment, Memory, NoEexec, ShortCipher}, Eexec.{eexec_marker, cipher_text}}
 use Rattle.t1_bytes.specs.{Split.{split, IsSplit, SplitFails, split_of, cipher_in, last_bytes}, Faults.{Refused, Answers, OrMemory}}
-use Rattle.t1_grammar.specs.{Grammar.{Lacks, first, Begins}, Formats.{if_ok, if_ok_twice, or_fault}}
+use Rattle.t1_bytes.proofs.Splits.{split_said, fails_said}
+use Rattle.t1_grammar.specs.{Grammar.{first, Begins}, Formats.{if_ok, if_ok_twice, or_fault}}
 
 -- the marker can be read only where `currentfile` stands
 pub eexec_begins : Begins (codes "currentfile") eexec_marker
@@ -37,13 +38,6 @@ split_within flat after e =
     let found = marker_found ((first eexec_marker).read flat) after e in
     let s = (first eexec_marker).takes flat (found.0, after) found.1 in
     omega (arith, ap length s.1, length-append s.0 after)
-
--- a flat text is refused as NoEexec for want of the marker alone
-pub split_lacks : (flat : List ℕ) → SplitFails flat NoEexec → Lacks eexec_marker flat
-unfolding split
-split_lacks flat (inl lacks) = lacks.0
-split_lacks flat (inr (marker, at, inl short)) = absurd cc
-split_lacks flat (inr (marker, at, inr (secret, there, none))) = absurd none
 
 -- a flat text without the marker is refused as NoEexec
 pub split_absent : (flat : List ℕ) → option_map (λ (x : (List ℕ × List ℕ) × List ℕ). x.1) ((first eexec_marker).read flat) ≡ None →
@@ -85,8 +79,8 @@ err_placed (BadSegment at) n cipher r = ap (placed n) r
 -- an answer that agrees with the split as a function is right by its relation
 pub split_answers : {X : Type 0} (view : X → ℕ × List ℕ) (flat : List ℕ) (r : Result X BytesFault) → Answers view r (split_of flat) →
     MatchResult r (λ x. IsSplit flat (view x).0 (view x).1) (OrMemory (SplitFails flat))
-split_answers view flat (Ok x) h = (split flat).takes (view x) h
+split_answers view flat (Ok x) h = split_said flat (view x).0 (view x).1 ((split flat).takes (view x) h)
 split_answers view flat (Err Memory) h = tt
-split_answers view flat (Err NoEexec) h = (split flat).refuses NoEexec h
-split_answers view flat (Err ShortCipher) h = (split flat).refuses ShortCipher h
-split_answers view flat (Err (BadSegment at)) h = (split flat).refuses (BadSegment at) h
+split_answers view flat (Err NoEexec) h = fails_said flat NoEexec ((split flat).refuses NoEexec h)
+split_answers view flat (Err ShortCipher) h = fails_said flat ShortCipher ((split flat).refuses ShortCipher h)
+split_answers view flat (Err (BadSegment at)) h = fails_said flat (BadSegment at) ((split flat).refuses (BadSegment at) h)

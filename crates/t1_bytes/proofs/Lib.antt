@@ -13,3 +13,5 @@ pub mod HexLines
 pub mod FileLengths
 pub mod ContainerLaws
 mod Rows
+mod FlatTexts
+mod Splits

@@ -1,7 +1,8 @@
 -- The laws of containers and ciphers, each the contract of a function in `laws`.
-use Rattle.std.specs.{Prelude.{◌≡◌, ◌⊎◌, ◌↔◌, ◌≤◌, ◌<◌, ◌^◌, ℕ, List, [], ◌∷◌, ◌++◌, length, drop, replicate, codes, false, None}, List.{AllByRecursion}}
+use Rattle.std.specs.{Prelude.{◌≡◌, ◌⊎◌, ◌↔◌, ◌≤◌, ◌<◌, ◌^◌, ℕ, List, [], ◌∷◌, ◌++◌, length, drop, replicate, codes, false, None, Ok, Err}, List.{AllByRecursion}}
 use Rattle.t1_bytes.specs.{declared.fault.BytesFault.{BytesFault}, declared.fault.BytesFault.TheVariants.{NoEexec}, Cipher.{Enciphers, encrypted, decrypted, sealed, opened}, White.{white, gap}}
-use Rattle.t1_bytes.specs.{Segments.{segment, end}, FlatText.{IsFlat, IsBad}, Eexec.{eexec_marker, blank_comes, is_hex_text, hex_text, hex_cipher, cipher_text}, Split.{IsSplit, SplitFails}}
+use Rattle.t1_bytes.specs.{Segments.{segment, end}, FlatText.{IsFlat, IsBad, flat_of}, Split.{IsSplit, SplitFails, split_of}}
+use Rattle.t1_bytes.specs.Eexec.{eexec_marker, blank_comes, is_hex_text, hex_text, hex_cipher, cipher_text}
 use Rattle.t1_bytes.specs.Texts.{pfb_text, hex_lines, trailer}
 use Rattle.t1_grammar.specs.Grammar.{AtFront, IsExact, count, fixed, first}
 
@@ -32,6 +33,16 @@ OneCipher = (key : ℕ) (plain cipher : List ℕ) →
 -- a text after lead bytes that are zero is opened again
 abbrev pub OpensSealed : Type 0
 OpensSealed = (key lead : ℕ) (text : List ℕ) → opened key lead (sealed key lead text) ≡ text
+
+-- what is read of a file is its flat text, or the place where it is bad, and the other way round
+pub record ReadsFlat : Type 0 where
+  pub texts : (file flat : List ℕ) → (flat_of file ≡ Ok flat) ↔ IsFlat file flat
+  pub places : (file : List ℕ) (at : ℕ) → (flat_of file ≡ Err at) ↔ IsBad file at
+
+-- what is read of a flat text is its split, or the reason why it has none, and the other way round
+pub record ReadsSplit : Type 0 where
+  pub splits : (flat : List ℕ) (at : ℕ) (cipher : List ℕ) → (split_of flat ≡ Ok (at, cipher)) ↔ IsSplit flat at cipher
+  pub reasons : (flat : List ℕ) (fault : BytesFault) → (split_of flat ≡ Err fault) ↔ SplitFails flat fault
 
 -- a file has a flat text
 abbrev pub HasFlatText : List ℕ → Type 0

@@ -1,8 +1,38 @@
 -- Segments of a PFB file (Technical Note 5040; what ends a file is this project's own choice).
 use Rattle.std.proofs.{Common.{suc, cond, eqb, leb, arith, refl, sym, ap, ◌∙◌}, lemmas.Bool.{eqb-true, and_parts, le-leb}, lemmas.List.{length-append}, lemmas.Option.{none-some}}
-use Rattle.std.specs.{Prelude.{◌≡◌, ℕ, ◌||◌, ◌&&◌, Bool, true, false, List, [], ◌∷◌, length, Option, Some, None}, Option.{option_and_then}, Str.{bytes_eq}}
+use Rattle.std.specs.{Prelude.{◌≡◌, ◌⊎◌, ℕ, ◌||◌, ◌&&◌, ◌++◌, Bool, true, false, List, [], ◌∷◌, length, Option, Some, None}, Option.{option_and_then}, Str.{bytes_eq}}
 use Rattle.byteorder.specs.Endian.{little_number}
 use Rattle.t1_grammar.specs.{Grammar.{Grammar, pure, ◌>>=◌, ◌>>◌, that, count, fixed, before, either}, TableLaws.{Eats, Eats-spelled, Apart}}
+
+-- ---- by their bytes
+
+-- the data of a segment of text or of binary data: they stand behind 128, the kind 1 or 2, and their length in four bytes, least significant first
+pub record IsSegment (text piece : List ℕ) : Type 0 where
+  pub kind : ℕ
+  pub len : List ℕ
+  pub parts : text ≡ 128 ∷ kind ∷ (len ++ piece)
+  pub text_or_binary : (kind ≡ 1) ⊎ (kind ≡ 2)
+  pub four : length len ≡ 4
+  pub size : length piece ≡ little_number 4 len
+
+-- a segment stands at the front
+pub record SegmentComes (bytes : List ℕ) : Type 0 where
+  pub text : List ℕ
+  pub piece : List ℕ
+  pub rest : List ℕ
+  pub parts : bytes ≡ text ++ rest
+  pub segment_is : IsSegment text piece
+
+-- segments one after another, and the data of each
+abbrev pub AreSegments : List ℕ → List (List ℕ) → Type 0
+AreSegments text [] = text ≡ []
+AreSegments text (piece ∷ others) = (front back : List ℕ) × (text ≡ front ++ back) × IsSegment front piece × AreSegments back others
+
+-- the segments end: with the bytes, or at 128 and 3, whatever stands behind
+abbrev pub EndComes : List ℕ → Type 0
+EndComes bytes = (bytes ≡ []) ⊎ ((rest : List ℕ) × (bytes ≡ 128 ∷ 3 ∷ rest))
+
+-- ---- by grammars
 
 -- a segment of text or of binary data: 128, the kind, the length in four bytes, least significant first, and the data
 abbrev pub segment : Grammar (List ℕ)

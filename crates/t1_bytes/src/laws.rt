@@ -2,7 +2,7 @@
 //! nothing: its clause is what is proved.
 
 ghost use Rattle.t1_bytes.specs.Laws.{ReadsAsSpelled, UndoEachOther, OneCipher, OpensSealed, OneFlatText, FlattensWritten, OneSplit, LacksEverywhere};
-ghost use Rattle.t1_bytes.specs.Laws.{ReadsHexLines, ReadsBinary};
+ghost use Rattle.t1_bytes.specs.Laws.{ReadsFlat, ReadsSplit, ReadsHexLines, ReadsBinary};
 
 /// What is read of segments and of a flat text is what is spelled, and vice versa.
 pub fn reads_as_spelled()
@@ -22,6 +22,16 @@ pub fn one_cipher()
 /// A text that was encrypted after lead bytes of zero is recovered by decrypting it and dropping these bytes.
 pub fn opens_sealed()
     ensures { OpensSealed }
+{}
+
+/// A file is flattened to its flat text, and refused exactly at the place where it is bad.
+pub fn reads_flat()
+    ensures { ReadsFlat }
+{}
+
+/// A flat text is split as its marker and its cipher say, and refused exactly for want of one of them.
+pub fn reads_split()
+    ensures { ReadsSplit }
 {}
 
 /// Each file has exactly one flat text or exactly one place where it is bad, and never both.
