@@ -3,12 +3,13 @@
 
 usage: tools/gate.py
 First comes what the texts alone show, in seconds; if one of these fails, nothing else is tried. Then `rt ci` proves each crate, once,
-and the tests over it, and runs these; then come the wrong bodies of tools/must-fail, and beside them the scripts that test what
-`rt ci` built, those first that failed in the last run on this machine. A crate or a script that fails is told on standard error at
-once, and what doesn't stand on it goes on. What a machine lacks, as a C compiler or node, is said and left out. The last lines say what
+and the tests over it, and runs these; the wrong bodies of tools/must-fail of a crate are tried as soon as it is proved, where `rt ci`
+leaves processors idle. Behind it come the scripts that test what it built, those first that failed in the last run on this machine. A
+crate or a script that fails is told on standard error at once, and what doesn't stand on it goes on. What a machine lacks, as a C compiler or node, is said and left out. The last lines say what
 each part took; tools/make_speed.py makes the table of docs/SPEED.md of them. `rt ci` and the wrong bodies take what an earlier run
 passed of the same files on this machine. Ends with status 1 if something failed.
 """
+import concurrent.futures
 import json
 import os
 import re
@@ -20,9 +21,9 @@ import threading
 import time
 
 from build import is_built, mark
-from common import TOP, compiler, needs, put, say, text_of
+from common import TOP, below, compiler, needs, put, say, text_of
 from kit import kit, lanes, library, sum_of_crate, sum_of_files
-from wrong_bodies import KEPT
+from wrong_bodies import KEPT, edits_of
 
 TEXTS = [
     "test_lines.py", "test_vectors.py", "test_documents.py", "test_definitions.py", "test_theorem.py", "make_diagrams.py --check",
@@ -110,6 +111,64 @@ class Watch(threading.Thread):
         return list(self.parts.values())
 
 
+class WrongBodies:
+    """The wrong bodies of each crate, which are tried once `rt ci` proved it and those below it. They give way to `rt ci`, and where
+    there is room for one check alone they wait for its end. What fails beside `rt ci` is tried once more behind it, since it puts back
+    at its end the libraries that stood there before."""
+
+    def __init__(self, gate):
+        self.gate, self.proved, self.begun, self.tasks = gate, set(), set(), []
+        self.part, self.lock = Part(WRONG.split(" ", maxsplit=1)[0], began=time.time()), threading.Lock()
+        self.lanes, self.waiting, self.behind = lanes(), [], False
+        self.pool = concurrent.futures.ThreadPoolExecutor(max(1, self.lanes // 2))
+
+    def start(self, crate):
+        """Notes that a crate is proved, and begins with what waited for it."""
+        self.proved.add(crate)
+        for name in needs():
+            if name not in self.begun and self.proved.issuperset([name, *(other for other in below([name]) if other in needs())]):
+                self.begun.add(name)
+                if edits_of(name, True):
+                    self.waiting.append(name)
+        if self.lanes > 1:
+            self.submit()
+
+    def submit(self):
+        self.tasks += [self.pool.submit(self.run, name) for name in self.waiting]
+        self.waiting = []
+
+    def run(self, crate):
+        words, last = f"{WRONG} --jobs 1 {crate}", self.behind
+        good, part = ran_script(words, ["nice", "-n", "10"])
+        with self.lock:
+            self.part.processors += part.processors
+            self.part.ended = part.ended
+            if not good and not last:
+                self.waiting.append(crate)
+                return
+        self.gate.told(words, good)
+
+    def end(self):
+        """Waits for all of them, and answers what they took."""
+        self.behind = True
+        while self.tasks or self.waiting:
+            self.submit()
+            self.tasks.pop(0).result()
+        self.pool.shutdown()
+        return self.part
+
+
+def ran_script(words, front=()):
+    """Runs a script of tools/, behind the words of a command that runs another, and answers whether it passed and what it took."""
+    name, *more = words.split(" ")
+    part = Part(name, began=time.time())
+    running = subprocess.Popen([*front, sys.executable, os.path.join(TOP, "tools", name), *more], cwd=TOP, stdin=subprocess.DEVNULL)
+    _, status, used = os.wait4(running.pid, 0)
+    running.returncode = os.waitstatus_to_exitcode(status) if hasattr(os, "waitstatus_to_exitcode") else status >> 8 or status
+    part.ended, part.processors = time.time(), (used.ru_utime + used.ru_stime) / 60
+    return running.returncode == 0, part
+
+
 class Gate:
     """What passed so far, what failed, what was left out, and what each part took."""
 
@@ -127,14 +186,9 @@ class Gate:
 
     def script(self, words):
         """Runs a script of tools/, and notes whether it passed and what it took."""
-        name, *more = words.split(" ")
-        part = Part(name, began=time.time())
-        running = subprocess.Popen([sys.executable, os.path.join(TOP, "tools", name), *more], cwd=TOP, stdin=subprocess.DEVNULL)
-        _, status, used = os.wait4(running.pid, 0)
-        running.returncode = os.waitstatus_to_exitcode(status) if hasattr(os, "waitstatus_to_exitcode") else status >> 8 or status
-        part.ended, part.processors = time.time(), (used.ru_utime + used.ru_stime) / 60
+        good, part = ran_script(words)
         self.parts.append(part)
-        self.told(words, running.returncode == 0)
+        self.told(words, good)
 
     def texts(self):
         """Whether all passes that the texts alone show."""
@@ -146,8 +200,8 @@ class Gate:
         self.parts.append(part)
         return not self.failed
 
-    def proofs(self):
-        """Runs `rt ci`, and tells at once what it refuses."""
+    def proofs(self, wrong):
+        """Runs `rt ci`, tells at once what it refuses, and has the wrong bodies of what it proved tried."""
         watch, part = Watch(), Part("rt ci", began=time.time())
         sums = {crate: sum_of_files(crate) for crate in needs()}
         for crate in filter(lambda crate: os.path.isdir(library(crate)) and not is_built(crate), needs()):
@@ -160,6 +214,9 @@ class Gate:
             print(line, end="", flush=True)
             if re.match(r"rt: .*(NOT PROVED|FAILED)", line):
                 print(f"gate: {line[len('rt: '):]}", end="", file=sys.stderr, flush=True)
+            proved = re.match(r"rt: (\w+) (?:proved$|is kept:)", line)
+            if proved:
+                wrong.start(proved[1])
         _, status, used = os.wait4(running.pid, 0)
         part.ended, part.processors = time.time(), (used.ru_utime + used.ru_stime) / 60
         of_crates = watch.end()
@@ -182,18 +239,6 @@ class Gate:
             if words in INSTEAD:
                 self.script(INSTEAD[words])
 
-    def rest(self):
-        """The wrong bodies of the gate, and beside them the scripts where there are processors for both."""
-        others = threading.Thread(target=self.behind)
-        count = lanes()
-        alone = count == 1
-        if not alone:
-            others.start()
-        self.script(f"{WRONG} --jobs {max(1, count // 2)}")
-        if alone:
-            others.start()
-        others.join()
-
     def end(self):
         os.makedirs(os.path.dirname(FAILED_LAST), exist_ok=True)
         put(json.dumps(self.failed).encode(), FAILED_LAST)
@@ -211,8 +256,10 @@ class Gate:
 def main():
     gate = Gate()
     if gate.texts():
-        gate.proofs()
-        gate.rest()
+        wrong = WrongBodies(gate)
+        gate.proofs(wrong)
+        gate.behind()
+        gate.parts.append(wrong.end())
     return gate.end()
 
 

@@ -18,6 +18,7 @@ import sys
 import tempfile
 from xml.etree import ElementTree
 
+import gate
 import make_speed
 from common import BUILDS, CLOSE, EMPTY, ENDCHAR, HSBW, LINE, MOVE, RETURN, TINY_PFB, TOP
 from common import as_pfb, below, bytes_of, compiler, example, made_font, needs, number, printed, put, say, text_of
@@ -432,6 +433,31 @@ def gate_table():
         check("printed nothing of texts" in str(end), f"tools/make_speed.py: {end}")
 
 
+def gate_wrong_bodies():
+    """tools/gate.py begins with the wrong bodies of a crate once it and those below it are proved, and tries again behind `rt ci` what
+    failed beside it."""
+    tried, told = [], []
+
+    def ran(words, front=()):
+        tried.append(words.split(" ")[-1])
+        return tried.count("t1_join") > 1 or tried[-1] != "t1_join", gate.Part(words, 1.0, 60.0)
+
+    real, gate.ran_script = gate.ran_script, ran
+    try:
+        wrong = gate.WrongBodies(type("Gate", (), {"told": lambda self, words, good: told.append((words.split(" ")[-1], good))})())
+        wrong.start("t1_run")
+        check(not wrong.begun, "tools/gate.py tries wrong bodies over libraries that are not proved")
+        for crate in ("t1_char", "t1_join"):
+            wrong.start(crate)
+        for task in wrong.tasks:
+            task.result()
+        part = wrong.end()
+    finally:
+        gate.ran_script = real
+    check(sorted(tried) == ["t1_char", "t1_join", "t1_join", "t1_run"] and part.processors == 4, f"tools/gate.py: {tried}")
+    check(sorted(told) == [("t1_char", True), ("t1_join", True), ("t1_run", True)], f"tools/gate.py: {told}")
+
+
 def pooled_pages(program, folder):
     """examples/pool-pages.sh makes a page that lacks glyphs and the same page right."""
     if lacks("examples/pool-pages.sh", ["tex", "dvips", "gs"]):
@@ -472,6 +498,7 @@ def main():
         examples(folder)
         build(os.path.join(folder, "build"))
         gate_table()
+        gate_wrong_bodies()
         pooled_pages(program, os.path.join(folder, "pages"))
         compare(program)
         many(program)

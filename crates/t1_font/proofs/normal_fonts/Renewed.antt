@@ -1,6 +1,7 @@
 -- What normalizing changes in texts, word by word.
 use Rattle.std.proofs.Common.{◌≡◌, ◌⊎◌, ℕ, zero, suc, ◌≤◌, ◌<◌, arith, Bool, true, false, cond, List, [], ◌∷◌, ◌++◌, length, take, Option, Some, None, inl, inr, refl, sym, ap, subst, ◌∙◌}
-use Rattle.std.proofs.{Common.{append_assoc, true≢false}, Math.Seq.{take-append_seam}, lemmas.List.{length-append, append-nil}, lemmas.Grind.{flat_map-append}, lemmas.Option.{none-some}, lemmas.Bool.{eqb-true}, lemmas.Slice.Eq.{bytes_eq-Decides}}
+use Rattle.std.proofs.{Common.{append_assoc, true≢false}, Math.Seq.{take-append_seam}, lemmas.List.{length-append, append-nil}, lemmas.Grind.{flat_map-append}}
+use Rattle.std.proofs.{lemmas.Option.{none-some}, lemmas.Bool.{eqb-true}, lemmas.Slice.Eq.{bytes_eq-Decides}}
 use Rattle.std.specs.{Prelude.{max, ◌-◌, not, ◌&&◌, ◌==◌, ◌||◌}, List.{AllByRecursion, list_any, flat_map}, Str.{bytes_eq}, Option.{option_map}}
 use Rattle.t1_bytes.specs.Eexec.{is_blank}
 use Rattle.t1_grammar.specs.Grammar.{first, Stops}
@@ -335,7 +336,8 @@ module _ (name : List ℕ) where
           ∙ (words_apart [] (bare a) c (bare r) blank
           ∙ ((λ i. one_word a i ++ more i)
           ∙ (sym (flat_map-append bare_words (some_word a) (words r))
-          ∙ ap (flat_map bare_words) (ap (λ (l : List (List ℕ)). l ++ words r) (sym (solid_word a solid)) ∙ sym (ap words whole ∙ words_apart [] a c r blank))))))
+          ∙ ap (flat_map bare_words)
+          (ap (λ (l : List (List ℕ)). l ++ words r) (sym (solid_word a solid)) ∙ sym (ap words whole ∙ words_apart [] a c r blank))))))
         where
           was_blank : (x : Bool) → not x ≡ false → x ≡ true
           was_blank true h = refl
@@ -358,7 +360,8 @@ either_taken P true new old h k = h
 either_taken P false new old h k = k
 
 squeezed_same : (kept : KeptText) (t : List ℕ) → words (squeezed_text kept t) ≡ words t
-squeezed_same kept t = either_taken (λ u. words u ≡ words t) (fits kept (squeezed t) && (bytes_eq (squeezed t) (squeezed t) && bytes_eq (squeezed (squeezed t)) (squeezed t)))
+squeezed_same kept t = either_taken (λ u. words u ≡ words t)
+    (fits kept (squeezed t) && (bytes_eq (squeezed t) (squeezed t) && bytes_eq (squeezed (squeezed t)) (squeezed t)))
     (squeezed t) t (squeezed_words t) refl
 
 normal_renews : (kept : KeptText) (t : List ℕ) → TextRenews None t (normal_text kept t)
