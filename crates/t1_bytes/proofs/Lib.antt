@@ -12,6 +12,6 @@ pub mod EexecLemmas
 pub mod HexLines
 pub mod FileLengths
 pub mod ContainerLaws
+pub mod FlatTexts
+pub mod Splits
 mod Rows
-mod FlatTexts
-mod Splits

@@ -4,7 +4,7 @@ use Rattle.t1_bytes.specs.Laws.{AreBytes}
 use Rattle.t1_font.specs.{declared.dialect.Dialect.{Dialect}, declared.fault.ReadFault.{ReadFault}}
 use Rattle.t1_font.specs.declared.fault.ReadFault.TheVariants.{TooLong, BadSegment, NoEexec, ShortCipher, NoEncoding, BadEncoding, NoCharStrings, BadLenIV, BadSubrs, BadGlyphs, Hybrid, NoClosefile}
 use Rattle.t1_font.specs.{declared.fault.ReadFault.TheVariants.{NoNotdef, Limit, Memory}, ReadFont.{font_file}, Reasons.{RefusesIn}, Answers.{Refused, Shown, Answers}}
-use Rattle.t1_font.proofs.Spelled.{refuses}
+use Rattle.t1_font.proofs.Reasoned.{refuses}
 
 -- the bytes of a slice are bytes
 pub bytes_of_slice : (xs : List ℕ) → ((i : ℕ) → Fits w8 (get_or xs i 0)) → AreBytes xs

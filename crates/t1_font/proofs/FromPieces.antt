@@ -21,7 +21,7 @@ same_declared (Some x) (Some s) h = h.declared
 abbrev within : ClearPieces → PrivatePieces → Bool
 within c p = is_within (shell_of c p) (last_entries nat_cmp (subr_entries p)) (last_entries name_cmp (glyph_entries p))
 
-not_within : (c : ClearPieces) (p : PrivatePieces) → (FitsLimits (font_of c p) → ⊥) → within c p ≡ false
+pub not_within : (c : ClearPieces) (p : PrivatePieces) → (FitsLimits (font_of c p) → ⊥) → within c p ≡ false
 not_within c p h = by_test (within c p) refl
   where
     by_test : (b : Bool) → within c p ≡ b → b ≡ false

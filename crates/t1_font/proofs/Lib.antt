@@ -21,6 +21,7 @@ pub mod Lengths
 pub mod canonical
 pub mod ValueLaws
 pub mod Spelled
+pub mod Reasoned
 pub mod PlaceLemmas
 pub mod MapLemmas
 pub mod ByteLemmas

@@ -2,7 +2,7 @@
 use Rattle.std.proofs.{Common.{◌≡◌, ℕ, ◌≤◌, suc, inl, inr, Bool, true, false, cond, List, [], ◌∷◌, ◌++◌, length, Ok, ap, arith}, lemmas.List.{length-append}}
 use Rattle.std.specs.{Prelude.{filter}, List.{flat_map}}
 use Rattle.t1_grammar.specs.Tables.{Entries}
-use Rattle.t1_bytes.specs.{Segments.{segment}, FlatText.{starts_segment, flat_when, flat_text, IsFlat, flat_of}, Eexec.{paired, cipher_text}, Split.{split, IsSplit}}
+use Rattle.t1_bytes.specs.{Segments.{segment}, FlatText.{starts_segment, flat_when, flat_text, flat_of}, Eexec.{paired, cipher_text}, Split.{IsSplit}}
 
 piece_short : (piece text rest : List ℕ) → segment.Spells piece text rest → length piece ≤ length text
 piece_short piece text rest s =
@@ -29,7 +29,7 @@ pieces_short (p ∷ ps) text rest s =
       pieces_short ps s.1 rest s.4,
     )
 
-flat_short : (file flat : List ℕ) → IsFlat file flat → length flat ≤ length file
+flat_short : (file flat : List ℕ) → (flat_text file).Spells flat → length flat ≤ length file
 flat_short file flat s = by_start (starts_segment file) s
   where
     by_start : (b : Bool) → (flat_when b file).Spells flat → length flat ≤ length file
@@ -86,17 +86,7 @@ cipher_short cipher text rest s = elim s.0.5 [
 ]
 
 pub split_no_longer : (flat : List ℕ) (at : ℕ) (cipher : List ℕ) → IsSplit flat at cipher → length cipher ≤ length flat
-unfolding split
 split_no_longer flat at cipher s =
-    let front = s.1 in
-    let secret = s.2.1 in
-    let short = cipher_short s.2.0.0 secret.0 s.2.0.1 secret.2 in
-    omega (
-      arith,
-      ap length front.1,
-      length-append front.0 s.0.1,
-      ap length secret.1,
-      length-append secret.0 s.2.0.1,
-      short,
-      ap (λ (x : ℕ × List ℕ). length x.1) s.2.2,
-    )
+    let secret = s.secret in
+    let short = cipher_short cipher secret.0 s.rest secret.2 in
+    omega (arith, ap length s.parts, length-append s.clear s.after, ap length secret.1, length-append secret.0 s.rest, short)

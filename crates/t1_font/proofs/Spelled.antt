@@ -1,9 +1,10 @@
 -- What the reading of a file spells is what `Spelling.antt` says, part by part.
-use Rattle.std.proofs.Common.{◌≡◌, ℕ, ◌≤◌, true, cond, Bool, ltb, List, [], ◌++◌, length, take, Option, Some, None, Ok, Err, refl, sym, ap, subst, ◌∙◌, inl, inr}
+use Rattle.std.proofs.Common.{◌≡◌, ℕ, ◌≤◌, true, cond, Bool, ltb, List, [], ◌++◌, length, take, Option, Some, None, Ok, refl, sym, ap, subst, ◌∙◌, inl, inr}
 use Rattle.std.proofs.lemmas.Bool.{cases_Bool, ltb-true, ltb-false, lt-ltb, le-ltb, leb-true, le-leb}
 use Rattle.t1_grammar.specs.{Grammar.{first, AtFront, Lacks, front_again}, Tables.{TableAt}, Formats.{MayOccur, occurs_again, one_value}}
 use Rattle.t1_bytes.specs.{Cipher.{decrypted, private_text}, Limits.{file_limit}, FlatText.{IsFlat}}
-use Rattle.t1_font.specs.{declared.dialect.Spacing.{Spacing}, declared.dialect.Dialect.{Dialect}, declared.fault.ReadFault.{ReadFault}, Glyphs.{Glyph, glyph, glyphs_end}}
+use Rattle.t1_bytes.proofs.{FlatTexts.{flat_said, said_flat}, Splits.{split_said, said_split}}
+use Rattle.t1_font.specs.{declared.dialect.Spacing.{Spacing}, declared.dialect.Dialect.{Dialect}, Glyphs.{Glyph, glyph, glyphs_end}}
 use Rattle.t1_font.specs.{Encoding.{Opening, Whole, OpensPuts, OpensNames, encoding_start}, Markers.{subrs_marker, closefile, len_iv_marker}}
 use Rattle.t1_font.specs.Pieces.{FlatPieces, EncodingText, OneWord, Puts, ClearPieces, SubrsPieces, PrivatePieces, flat_pieces, encoding_from, clear_pieces, iv_at, iv_of, through, tail_after}
 use Rattle.t1_font.specs.{Pieces.{glyphs_from, before_place, tables_from, private_pieces}, FontValue.{FontValue, notdef, FitsLimits}}
@@ -32,13 +33,13 @@ is_encoding d clear bytes (Puts puts) after (inl s) =
 is_encoding d clear bytes (Puts puts) after (inr s) =
     ((OpensNames, s.1), s.4, ((s.0, s.2, after), s.5, ap (λ (p : List (ℕ × List ℕ)). (Puts p, after)) (sym s.3)))
 
-clear_is : (d : Dialect) (clear : List ℕ) (c : ClearPieces) → (clear_pieces d clear).Spells c → IsClear d clear c
+pub clear_is : (d : Dialect) (clear : List ℕ) (c : ClearPieces) → (clear_pieces d clear).Spells c → IsClear d clear c
 unfolding clear_pieces
 clear_is d clear c s =
     let encoding = encoding_is d clear s.0.1 s.2.0.0 s.2.0.1 s.2.2.0 s.2.1 s.2.2.1 in
     subst (IsClear d clear) s.2.2.2 (record { after = s.0.1; marker = s.1; encoding = encoding })
 
-is_clear : (d : Dialect) (clear : List ℕ) (c : ClearPieces) → IsClear d clear c → (clear_pieces d clear).Spells c
+pub is_clear : (d : Dialect) (clear : List ℕ) (c : ClearPieces) → IsClear d clear c → (clear_pieces d clear).Spells c
 unfolding clear_pieces
 is_clear d clear c s =
     let e = is_encoding d clear s.after c.encoding c.clear_tail s.encoding in
@@ -46,7 +47,7 @@ is_clear d clear c s =
 
 -- ---- lenIV and the tail
 
-iv_spelled : (private : List ℕ) (n : ℕ) → (iv_of private).Spells n → IsLenIV private n
+pub iv_spelled : (private : List ℕ) (n : ℕ) → (iv_of private).Spells n → IsLenIV private n
 unfolding iv_of iv_at
 iv_spelled private n s = by_marker s.0 s.1 s.2
   where
@@ -54,7 +55,7 @@ iv_spelled private n s = by_marker s.0 s.1 s.2
     by_marker None l e = unsaid l (sym e)
     by_marker (Some x) m e = subst (IsLenIV private) e.2 (said x.0.0 x.1 e.0.1 m e.1)
 
-spells_iv : (private : List ℕ) (n : ℕ) → IsLenIV private n → (iv_of private).Spells n
+pub spells_iv : (private : List ℕ) (n : ℕ) → IsLenIV private n → (iv_of private).Spells n
 unfolding iv_of iv_at
 spells_iv private n (said front after rest a b) = (Some ((front, tt), after), a, ((n, rest), b, refl))
 spells_iv private n (unsaid l e) = (None, l, sym e)
@@ -95,7 +96,7 @@ is_tail middle after tail s =
 -- ---- the tables
 
 -- the pieces up to the glyphs, with no glyphs and no tail
-abbrev made : List ℕ → ℕ → Option SubrsPieces → List ℕ → PrivatePieces
+abbrev pub made : List ℕ → ℕ → Option SubrsPieces → List ℕ → PrivatePieces
 made private iv subrs middle = record { private = private; len_iv = iv; subrs = subrs; middle = middle; glyphs = []; tail = [] }
 
 glyphs_are : (d : Spacing) (text private : List ℕ) (subrs : Option SubrsPieces) (middle : List ℕ) (iv : ℕ) (rest : List ℕ) (p : PrivatePieces) →
@@ -136,7 +137,7 @@ with_subrs d text chars x p a s =
 abbrev Chosen : Spacing → List ℕ → (List ℕ × Unit {0}) × List ℕ → (List ℕ × ℕ) × List ℕ → PrivatePieces → Bool → Type 0
 Chosen d text chars x p b = (tables_from d (length text) chars (cond b (Some x) None)).Spells p
 
-private_is : (d : Spacing) (text : List ℕ) (p : PrivatePieces) → (private_pieces d text).Spells p → IsPrivate d text p
+pub private_is : (d : Spacing) (text : List ℕ) (p : PrivatePieces) → (private_pieces d text).Spells p → IsPrivate d text p
 unfolding private_pieces
 private_is d text p s = by_marker s.2.0 s.2.1 s.2.2
   where
@@ -151,7 +152,7 @@ private_is d text p s = by_marker s.2.0 s.2.1 s.2.2
       | inr ge ↦ without_subrs d text chars p (s.1, later x.0.0 x.0.1 x.1 m (ltb-false _ _ ge)) (subst (Chosen d text chars x p) ge t)
     ]
 
-is_private : (d : Spacing) (text : List ℕ) (p : PrivatePieces) → IsPrivate d text p → (private_pieces d text).Spells p
+pub is_private : (d : Spacing) (text : List ℕ) (p : PrivatePieces) → IsPrivate d text p → (private_pieces d text).Spells p
 unfolding private_pieces tables_from glyphs_from
 is_private d text p s = by_subrs p.subrs refl b.tables.tables
   where
@@ -209,7 +210,7 @@ is_font c p f s =
 
 -- ---- the file
 
-texts_are : (file flat : List ℕ) (parts : FlatPieces) → length file ≤ file_limit → IsFlat file flat → (flat_pieces flat).Spells parts →
+pub texts_are : (file flat : List ℕ) (parts : FlatPieces) → length file ≤ file_limit → IsFlat file flat → (flat_pieces flat).Spells parts →
     HasTexts file parts.clear (private_text parts.cipher)
 unfolding flat_pieces
 texts_are file flat parts short flat_is s = subst (λ (q : FlatPieces). HasTexts file q.clear (private_text q.cipher)) s.2 (record {
@@ -219,10 +220,10 @@ texts_are file flat parts short flat_is s = subst (λ (q : FlatPieces). HasTexts
   lead = take 4 (decrypted 55665 s.0.1);
   short = short;
   flat_is = flat_is;
-  split = s.1;
+  split = split_said flat s.0.0 s.0.1 s.1;
   clear_is = refl;
   secret = private_enciphers s.0.1;
-  lead_is = lead_length s.0.1 (split_lead flat s.0.0 s.0.1 s.1);
+  lead_is = lead_length s.0.1 (split_lead flat s.0.0 s.0.1 (split_said flat s.0.0 s.0.1 s.1));
 })
 
 -- what the reading spells is spelled by the file
@@ -230,7 +231,7 @@ pub file_spells : (d : Dialect) (file : List ℕ) (font : FontValue) → (font_f
 unfolding font_file flat_reading
 file_spells d file font s =
     let parts = s.2.2.0 in
-    let texts = texts_are file s.2.0 parts (leb-true (length file) file_limit s.1) s.2.1 s.2.2.1 in
+    let texts = texts_are file s.2.0 parts (leb-true (length file) file_limit s.1) (flat_said file s.2.0 s.2.1) s.2.2.1 in
     let t = s.2.2.2 in
     let clear = clear_is d parts.clear t.0 t.1 in
     let private = private_is d.subrs (private_text parts.cipher) t.2.0 t.2.1 in
@@ -249,11 +250,12 @@ spells_file d file font s =
     let private : (private_pieces d.subrs (private_text t.cipher)).Spells s.inside =
     subst (λ (x : List ℕ). (private_pieces d.subrs x).Spells s.inside) (private_again t.lead h.text t.cipher t.secret t.lead_is)
     (is_private d.subrs h.text s.inside h.private_is) in
-    let cut : (flat_pieces t.flat).Spells parts = ((t.at, t.cipher), t.split, (λ i. record { clear = sym t.clear_is i; cipher = t.cipher })) in
+    let cut : (flat_pieces t.flat).Spells parts =
+    ((t.at, t.cipher), said_split t.flat t.at t.cipher t.split, (λ i. record { clear = sym t.clear_is i; cipher = t.cipher })) in
     let font_is = is_font s.outside s.inside font (record { value = s.value; has_notdef = s.has_notdef; within = s.within }) in
     let inside : (font_texts d h.clear (private_text t.cipher)).Spells font =
     (s.outside, is_clear d h.clear s.outside h.clear_is, (s.inside, private, font_is)) in
-    (tt, le-leb (length file) file_limit t.short, (t.flat, t.flat_is, (parts, cut, inside)))
+    (tt, le-leb (length file) file_limit t.short, (t.flat, said_flat file t.flat t.flat_is, (parts, cut, inside)))
 
 -- the font that is read is spelled by the file
 pub reads : (d : Dialect) (file : List ℕ) (font : FontValue) → (font_file d file).read ≡ Ok font → SpellsIn d file font
@@ -262,14 +264,6 @@ reads d file font e = file_spells d file font ((font_file d file).takes font e)
 -- a file that spells a font is read as it
 pub reads_again : (d : Dialect) (file : List ℕ) (font : FontValue) → SpellsIn d file font → (font_file d file).read ≡ Ok font
 reads_again d file font s = (font_file d file).again font (spells_file d file font s)
-
--- the fault that is read is the reason why the file spells no font
-pub refuses : (d : Dialect) (file : List ℕ) (fault : ReadFault) → (font_file d file).read ≡ Err fault → (font_file d file).Reason fault
-refuses d file fault e = (font_file d file).refuses fault e
-
--- a file with a reason to spell nothing is refused for it
-pub refuses_again : (d : Dialect) (file : List ℕ) (fault : ReadFault) → (font_file d file).Reason fault → (font_file d file).read ≡ Err fault
-refuses_again d file fault s = (font_file d file).refused fault s
 
 -- a file spells at most one font
 pub one_font : (d : Dialect) (file : List ℕ) (f g : FontValue) → SpellsIn d file f → SpellsIn d file g → f ≡ g

@@ -2,6 +2,7 @@
 use Rattle.std.proofs.{Common.{◌≡◌, ℕ, zero, suc, ◌/◌, ◌<◌, ◌^◌, ◌≤◌, inl, inr, Bool, true, false, leb, List, [], ◌∷◌, ◌++◌, drop, refl, subst, arith}, lemmas.Nat.{xor_lt}}
 use Rattle.std.proofs.lemmas.Bool.{cases_Bool, leb-true, agree_below_at}
 use Rattle.std.specs.{Prelude.{filter}, List.{AllByRecursion, flat_map}}
+use Rattle.t1_bytes.proofs.FlatTexts.{said_flat}
 use Rattle.t1_bytes.specs.{Cipher.{next_key, decrypted}, Segments.{segment}, FlatText.{starts_segment, flat_when, IsFlat}, Eexec.{digit_value, paired, cipher_text}, Laws.{AreBytes}}
 use Rattle.t1_grammar.specs.{Grammar.{Grammar}, Tables.{Entries}}
 use Rattle.t1_font.proofs.ByteLemmas.{AreBytes-append}
@@ -52,7 +53,7 @@ pieces_bytes (p ∷ ps) h = AreBytes-append p (flat_map (λ piece. piece) ps) h.
 
 -- the flat text of a file of bytes is bytes
 pub flat_bytes : (file flat : List ℕ) → IsFlat file flat → AreBytes file → AreBytes flat
-flat_bytes file flat s h = by_start (starts_segment file) s
+flat_bytes file flat s h = by_start (starts_segment file) (said_flat file flat s)
   where
     by_start : (b : Bool) → (flat_when b file).Spells flat → AreBytes flat
     by_start true j =

@@ -1,14 +1,14 @@
 -- The clear text of a file that was read is that of a font.
-use Rattle.std.proofs.Common.{◌≡◌, ℕ, suc, ◌+◌, ◌≤◌, inl, inr, true, false, List, [], ◌∷◌, ◌++◌, length, take, ◌-◌, get_or, Option, Some, None, refl, sym, ap, subst, ◌∙◌, append_assoc, arith}
-use Rattle.std.proofs.{Common.{true≢false}, lemmas.List.{append-nil, length-append}, lemmas.Bool.{cases_Bool}}
+use Rattle.std.proofs.Common.{◌≡◌, ℕ, suc, ◌+◌, ◌≤◌, inl, inr, true, false, List, [], ◌∷◌, ◌++◌, length, take, get_or, Option, Some, None, refl, sym, ap, subst, ◌∙◌, append_assoc, arith}
+use Rattle.std.proofs.{Common.{true≢false}, lemmas.List.{append-nil, length-append, take_at}, lemmas.Bool.{cases_Bool}}
 use Rattle.std.specs.{Prelude.{codes}, List.{AllByRecursion}, Option.{option_map}, Str.{bytes_eq}, Ordering.{nat_cmp}, Cmp.{nat_cmp_total}, FinMap.{nat_cmp-IsAntisymmetric}}
 use Rattle.t1_grammar.{specs.Grammar.{NoneIn, Stops, first, first_at, AtFront, unspelled, unread}, proofs.Grammars.{that_read, run_read}}
-use Rattle.t1_bytes.specs.{White.{is_white, white, has_bytes, gap}, Eexec.{eexec_marker, blank_comes}, Split.{split, IsSplit}, Laws.{AreBytes}}
+use Rattle.t1_bytes.specs.{White.{is_white, white, has_bytes, gap}, Eexec.{eexec_marker, blank_comes}, Split.{IsSplit}, Laws.{AreBytes}}
 use Rattle.t1_font.specs.{declared.dialect.Spacing.{Spacing}, declared.dialect.Dialect.{Dialect}, Words.{is_regular, keyword, next_name}, Markers.{encoding_marker}}
 use Rattle.t1_font.specs.Encoding.{Opening, Whole, OpensPuts, OpensNames, encoding_start, encoding_word, code_entry, encoding_end, array_end, from_code}
 use Rattle.t1_font.specs.{Pieces.{EncodingText, OneWord, Puts, ClearPieces, PrivatePieces}, FontValue.{notdef}, Entries.{last_value, unless_notdef}, ReadFont.{encoding_value, shell_of}}
 use Rattle.t1_font.specs.{Spelling.{SpellsEncoding, IsClear}, IsFont.{IsWord, IsClearShell, IsEncoding, NoMarker}, EntryLaws.{keyword_text}}
-use Rattle.t1_font.proofs.{MapLaws.{get-names_of}, MapLemmas.{Some_same, Some_None}, canonical.EntriesWritten.{fixed_read}, FileParts.{before_last}}
+use Rattle.t1_font.proofs.{MapLaws.{get-names_of}, MapLemmas.{Some_same, Some_None}, canonical.EntriesWritten.{fixed_read}}
 use Rattle.t1_font.proofs.{canonical.Moves.{first_behind, eexec_moves, encoding_moves}, read_fonts.ReadBack.{eexec_alike}, read_fonts.ReadBytes.{parts_bytes, entries_have}}
 use Rattle.t1_font.proofs.read_fonts.ReadEntries.{word_of, code_entry_of, next_name_of, IsReadPut, IsReadEntry, puts_are, last_has}
 use Rattle.t1_font.proofs.read_fonts.ReadMarkers.{meet, NoneIn-left, NoneIn-right, encoding_slash, IsMarker, marker_is, is_plain, marker_plain, plain_right}
@@ -245,19 +245,17 @@ pub record IsReadClear (c : ClearPieces) (p : PrivatePieces) : Type 0 where
 -- the clear text that bytes spell is that of a font
 pub clear_of : (d : Dialect) (flat : List ℕ) (at : ℕ) (clear cipher : List ℕ) (c : ClearPieces) (p : PrivatePieces) →
     IsSplit flat at cipher → clear ≡ take at flat → IsClear d clear c → AreBytes clear → IsReadClear c p
-unfolding split
 clear_of d flat at clear cipher c p cut clear_is s h =
     let f = s.marker.2 in
     let slash = encoding_slash f.0 s.after f.2 in
     let text = parts_bytes clear s.marker.0 s.after s.marker.1 h in
     let head = parts_bytes s.marker.0 c.head f.0 f.1 text.0 in
     let ends = encoding_ends d c.encoding s.after c.clear_tail s.encoding in
-    let front : List ℕ = cut.0.0.0 in
-    let after : List ℕ = cut.0.1 in
-    let e = cut.1.2 in
-    let marker = marker_is cut.0.0.1 e.0 after e.2 in
-    let place : length flat - length after ≡ at = ap (λ (x : ℕ × List ℕ). x.0) cut.2.2 in
-    let through : clear ≡ front ++ e.0 = clear_is ∙ (before_last flat cut.1.0 after at cut.1.1 place ∙ e.1) in
+    let front : List ℕ = cut.marker.0 in
+    let after : List ℕ = cut.after in
+    let e = cut.ends in
+    let marker = marker_is cut.marker.1 e.0 after e.2 in
+    let through : clear ≡ front ++ e.0 = clear_is ∙ (ap (take at) cut.parts ∙ (take_at cut.clear after at (sym cut.place) ∙ e.1)) in
     let behind : clear ≡ c.head ++ (47 ∷ (slash.0 ++ s.after)) =
     s.marker.1 ∙ (ap (λ (u : List ℕ). u ++ s.after) (f.1 ∙ ap (λ (u : List ℕ). c.head ++ u) slash.1) ∙ append_assoc c.head (47 ∷ slash.0) s.after) in
     let last : clear ≡ ((s.marker.0 ++ ends.body) ++ codes "def") ++ c.clear_tail =

@@ -3,7 +3,7 @@ use Rattle.std.proofs.lemmas.List.{take-append-drop}
 use Rattle.std.proofs.Common.{◌≡◌, ℕ, ◌≤◌, ◌<◌, true, cond, List, [], ◌∷◌, ◌++◌, take, drop, Option, Some, None, is_some, Ok, refl, sym, ap, subst, ◌∙◌, append_assoc, arith, true≢false}
 use Rattle.std.specs.{List.{AllByRecursion, list_any}, Option.{option_map}, Str.{bytes_eq}, Ordering.{nat_cmp, is_eq}, Cmp.{nat_cmp_total, tied_itself}, Cmp.Lexicographic.{nat_list_cmp_total}}
 use Rattle.std.specs.FinMap.{find, contains_key, nat_cmp-IsAntisymmetric}
-use Rattle.t1_bytes.specs.{declared.form.Form.TheVariants.{Pfb}, Cipher.{decrypted, plain_of}, Laws.{AreBytes}, FlatText.{starts_segment, IsFlat}, Split.{split, IsSplit}}
+use Rattle.t1_bytes.specs.{declared.form.Form.TheVariants.{Pfb}, Cipher.{decrypted, plain_of}, Laws.{AreBytes}, FlatText.{starts_segment, IsFlat}, Split.{IsSplit}}
 use Rattle.t1_bytes.proofs.{ContainerLaws.{one_flat}, Ciphers.{decrypted-is}}
 use Rattle.t1_grammar.specs.Grammar.{Stops, first, choice, front_again}
 use Rattle.t1_font.specs.{declared.dialect.Spacing.{Spacing}, declared.dialect.Dialect.{Dialect}, Words.{is_regular}, Entry.{plain_entries}, Subrs.{Subr}, Markers.{closefile}, Glyphs.{Glyph, glyph}}
@@ -118,13 +118,12 @@ private_of d text c p s h =
 -- ---- the file
 
 cut_bytes : (flat : List ℕ) (at : ℕ) (cipher : List ℕ) → IsSplit flat at cipher → AreBytes flat → AreBytes (take at flat) × AreBytes cipher
-unfolding split
 cut_bytes flat at cipher s h =
-    let secret = s.2.1 in
-    let a = parts_bytes flat s.1.0 s.0.1 s.1.1 h in
-    let b = parts_bytes s.0.1 secret.0 s.2.0.1 secret.1 a.1 in
+    let secret = s.secret in
+    let a = parts_bytes flat s.clear s.after s.parts h in
+    let b = parts_bytes s.after secret.0 s.rest secret.1 a.1 in
     let clear = parts_bytes flat (take at flat) (drop at flat) (sym (take-append-drop at flat)) h in
-    (clear.0, subst AreBytes (ap (λ (x : ℕ × List ℕ). x.1) s.2.2) (cipher_bytes_of s.2.0.0 secret.0 s.2.0.1 secret.2 b.0))
+    (clear.0, cipher_bytes_of cipher secret.0 s.rest secret.2 b.0)
 
 texts_bytes : (file clear text : List ℕ) → HasTexts file clear text → AreBytes file → AreBytes clear × AreBytes text
 texts_bytes file clear text s h =

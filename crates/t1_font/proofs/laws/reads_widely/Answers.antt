@@ -1,4 +1,4 @@
-use Rattle.t1_font.{proofs.{Spelled.{reads, reads_again, refuses, refuses_again, one_font}, Widely.{spells_widely}}, specs.Dialect.{wide}}
+use Rattle.t1_font.{proofs.{Spelled.{reads, reads_again, one_font}, Reasoned.{refuses, refuses_again}, Widely.{spells_widely}}, specs.Dialect.{wide}}
 use Rattle.t1_font.proofs.laws.reads_widely.Goals as goal
 
 pub returns : goal.returns
