@@ -100,9 +100,9 @@ name of the font, and declare no Subrs after the last one that is used. So
 white space, removes lines of UniqueID and XUID and the tags, gives all one
 FontBBox, declares as many Subrs in each table as in the largest, and adds a
 Subr `return` where one font lacks a Subr that another has; if a glyph of that
-font executes it, the font is refused. Each glyph that draws without a fault
-still draws as it did. Then it merges them as `merge` does, and refuses what
-still differs. OUT is a PFA, or with --pfb a PFB, and is opened only when the
+font executes it, the font is refused. Each glyph draws as it did, or has the
+fault that it had. Then it merges them as `merge` does, and refuses what still
+differs. OUT is a PFA, or with --pfb a PFB, and is opened only when the
 result is complete.
 
 Example: t1subset rejoin all.pfa one.pfa two.pfa";
