@@ -6,12 +6,12 @@ use Rattle.t1_bytes.specs.declared.form.Form.{Form}
 use Rattle.t1_font.specs.{FontValue.{FontValue, CharStrings}, IsFont.{IsFont}, Canon.{canon}, Normalizing.{indices_of_all, normalized_shells, normalized}}
 use Rattle.t1_font.specs.{Filling.{AreLight}, FontBoxes.{Box}, Renewing.{Renewed}}
 use Rattle.t1_join.{specs.Groupings.{one, from_left}, proofs.OrderLemmas.{leaves_from_left}}
-use Rattle.t1_algebra.specs.{Interpreter.{Names}, Profile.{profile}, Keep.{subset, IsOf}, Merges.{ComesTo, DrawsAll}, Lacks.{first_lack}, Normalized.{EachBeside, AllDrawAlike}}
+use Rattle.t1_algebra.specs.{Interpreter.{Names}, Profile.{profile}, Keep.{subset, IsOf}, Merges.{ComesTo}, Lacks.{first_lack}, Normalized.{EachBeside}}
 use Rattle.t1_algebra.specs.Rejoins.{cut_to, with_normal_texts, Truncated, IsTruncated, truncated_fonts, truncated_sets, largest, GetBox, boxed_as, shared_font, rejoined, Rejoins}
-use Rattle.t1_algebra.proofs.{Fonts.{subset_is_font}, Drawings.{answers_alike}, ManyMerges.{alike_trans}, rejoining.Unlacking.{unlacking_draw}, rejoining.Boxed.{truncated_subsets_rejoin}}
+use Rattle.t1_algebra.proofs.{Fonts.{subset_is_font}, rejoining.Unlacking.{unlacking_draw}, rejoining.Boxed.{truncated_subsets_rejoin}}
 use Rattle.t1_algebra.proofs.rejoining.Renewed.{normalized_renewed, shells_stay}
 use Rattle.t1_subset.proofs.Answered.{draws_all}
-use Rattle.t1_document.proofs.Drawn.{shells_are_fonts, each_filled, comes_to_font}
+use Rattle.t1_document.proofs.Drawn.{drawn_through, shells_are_fonts, each_filled, comes_to_font}
 use Rattle.t1_subset.proofs.Rejoining.{light_or_heavy}
 use Rattle.t1_cmd.specs.{declared.counting.Counted.{Counted}, declared.faults.Reason.{Reason}, declared.faults.Reason.TheVariants.{Memory}, declared.faults.RunFault.{RunFault}}
 use Rattle.t1_cmd.specs.{declared.faults.FilesRefusal.{FilesRefusal}, Inputs.{Input, value_and, values_of}, Files.{Values, value_before, values_from, OfFiles, RefusesFiles}, Runs.{RunEnds}}
@@ -144,18 +144,6 @@ writes_rejoined contents form is w v result ends f h t ts s o get =
 -- normalized fonts are fonts where they are within the weight limit
 normalized_are_fonts : (fs : List FontValue) → AllByRecursion IsFont fs → AreLight (normalized fs) → AllByRecursion IsFont (normalized fs)
 normalized_are_fonts fs h fit = each_filled (indices_of_all (normalized_shells fs)) (normalized_shells fs) (shells_are_fonts fs h) fit
-
--- what draws in fonts as it did, and in j as in these, draws in j as it did
-drawn_through : (fs es : List FontValue) (j : FontValue) → AllByRecursion IsFont fs → IsFont j → EachBeside AllDrawAlike fs es → DrawsAll es j → AllDrawIn fs j
-drawn_through [] [] j h joined s d = tt
-drawn_through [] (e ∷ es) j h joined s d = absurd s
-drawn_through (f ∷ fs) [] j h joined s d = absurd s
-drawn_through (f ∷ fs) (e ∷ es) j h joined s d = (
-  λ n there.
-      let alike = alike_trans f e j n (s.0 n) (d.0 n (ap is_some (s.0 n).charstring ∙ there)) in
-      (alike, answers_alike f j h.0 joined n alike),
-  drawn_through fs es j h.1 joined s.1 d.1,
-)
 
 -- so is it where no glyph lacks a Subr
 rejoined_draw_so : (form : Form) (fs : List FontValue) (text : List ℕ) → AllByRecursion IsFont fs → first_lack (normalized_shells fs) ≡ None →

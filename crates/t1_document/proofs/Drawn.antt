@@ -1,65 +1,42 @@
--- What stays drawn where fonts are normalized, get a name and rejoin.
+-- What stays where fonts are normalized, get a name and rejoin.
 use Rattle.std.proofs.Common.{◌≡◌, ℕ, ◌≤◌, arith, Bool, true, false, cond, refl, sym, ◌∙◌, ap, subst, List, [], ◌∷◌, ◌++◌, ◌-◌, length, take, drop, map, Option, Some, None, Ok}
 use Rattle.std.proofs.{lemmas.Bool.{and_parts}, lemmas.Option.{none-some, same_Some}, lemmas.List.{take-append-drop}}
 use Rattle.std.specs.{Prelude.{is_some, nat_le}, List.{AllByRecursion}, Option.{option_map}}
 use Rattle.t1_grammar.specs.Grammar.{first}
 use Rattle.t1_bytes.specs.Laws.{AreBytes}
-use Rattle.t1_run.specs.{Run.{Subrs, direct, direct3, exec}, Drawings.{draw, draw3}}
 use Rattle.t1_font.specs.FontValue.{FontValue, Shell, SubrsShell, SparseArray, Encoding, Word, Codes, declared_count, count_limit, weight, weight_limit}
-use Rattle.t1_font.specs.{FontModel.{subr_at}, IsFont.{IsFont, SubrsFit}}
+use Rattle.t1_font.specs.{IsFont.{IsFont, SubrsFit}, Renewing.{Renewed, RenewedAndNamed}}
 use Rattle.t1_font.specs.{Encodings.{SameKind, join_encodings}, Words.{is_regular}, Rewriting.{parted}, Tags.{name_marker, name_in}, NormalTexts.{both_fit}, FontBoxes.{Box, joined_box, font_with}}
 use Rattle.t1_font.specs.{Filling.{AreLight}, Normalizing.{normal, filled, largest_count, indices_of_all, each_normal, normalized_shells, filled_all}}
 use Rattle.t1_font.specs.FontNames.{name_between, text_named, clear_named, font_named, can_be_named, named, normalized_named}
 use Rattle.t1_font.proofs.{ByteLemmas.{AreBytes-append, has_bytes}, read_fonts.ReadBytes.{bytes_left, bytes_right}, normal_fonts.Normalized.{normal_is_font, filled_is_font}}
-use Rattle.t1_font.proofs.{normal_fonts.Boxes.{by_cases, boxed_are_fonts}, normal_fonts.BoxFonts.{fitting_is_font}}
+use Rattle.t1_font.proofs.{normal_fonts.Boxes.{by_cases, boxed_are_fonts}, normal_fonts.BoxFonts.{fitting_is_font}, normal_fonts.Renewed.{name_renews, stay_renewed}}
 use Rattle.t1_join.{specs.Groupings.{Grouping, one, two, from_left, leaves}, proofs.OrderLemmas.{leaves_from_left, each_leaf}}
 use Rattle.t1_algebra.specs.{Keep.{has}, Profile.{profile}, Alike.{DrawsAlike}, States.{code_state, Agree, joined_option, Compatible, joined_font}, Groupings.{Merges}, Merges.{ComesTo, DrawsAll}}
-use Rattle.t1_algebra.specs.Normalized.{StaysDrawn, map_subrs, AllStayDrawn, EachBeside}
-use Rattle.t1_algebra.proofs.{Drawings.{answers_alike}, Fonts.{merges_are_fonts}, Subsets.{code_joined}, rejoining.Normalized.{normalized_draw}}
+use Rattle.t1_algebra.specs.{Normalized.{EachBeside, AllDrawAlike}, Laws.{AnswersAlike}}
+use Rattle.t1_algebra.proofs.{Drawings.{answers_alike}, Fonts.{merges_are_fonts}, ManyMerges.{alike_trans}, Subsets.{code_joined}}
+use Rattle.t1_algebra.proofs.rejoining.{Unlacking.{SameEntries, all_unlacking}, Renewed.{count_renews, box_renews, shells_stay}}
 use Rattle.t1_subset.{specs.Rejoins.{Rejoin}, proofs.Answered.{draws_all}}
 use Rattle.t1_document.specs.JoinLaws.{StaysIn}
 use Rattle.std.specs.FinMap as maps
 
 -- ---- glyphs
 
--- a glyph that stays drawn in e, and draws in j as in e, stays drawn in j
-through : (subrs : FontValue → Subrs) (f e j : FontValue) (n : List ℕ) → StaysDrawn subrs f e n → maps.get j.glyphs n ≡ maps.get e.glyphs n →
-    ((c : List ℕ) → maps.get e.glyphs n ≡ Some c →
-    (direct (subrs j) c ≡ direct (subrs e) c) × (direct3 (subrs j) c ≡ direct3 (subrs e) c) × (exec (subrs j) c ≡ exec (subrs e) c)) →
-    draw (subrs j) (maps.get j.glyphs) n ≡ draw (subrs e) (maps.get e.glyphs) n →
-    draw3 (subrs j) (maps.get j.glyphs) n ≡ draw3 (subrs e) (maps.get e.glyphs) n → StaysDrawn subrs f j n
-through subrs f e j n s same runs drawn drawn3 = record {
-  charstring = same ∙ s.charstring;
-  answer = λ c is none. (runs c (s.charstring ∙ is)).0 ∙ s.answer c is none;
-  answer3 = λ c is none. (runs c (s.charstring ∙ is)).1 ∙ s.answer3 c is none;
-  executes = λ c is none none3. (runs c (s.charstring ∙ is)).2 ∙ s.executes c is none none3;
-  draws = λ is. drawn ∙ s.draws is;
-  draws3 = λ is. drawn3 ∙ s.draws3 is;
-}
-
--- the same over the maps, and as calls see them
-through_both : (f e j : FontValue) (n : List ℕ) → IsFont e → IsFont j → StaysDrawn map_subrs f e n × StaysDrawn subr_at f e n → DrawsAlike e j n →
-    StaysDrawn map_subrs f j n × StaysDrawn subr_at f j n
-through_both f e j n font joined s d =
-    let a = answers_alike e j font joined n d in (
-      through map_subrs f e j n s.0 d.charstring (λ c is. (d.answer c is, d.answer3 c is, d.executes c is)) d.draws d.draws3,
-      through subr_at f e j n s.1 a.charstring (λ c is. (a.answer c is, a.answer3 c is, a.executes c is)) a.draws a.draws3,
-    )
-
--- each glyph of f stays drawn in j
+-- each glyph of f draws in j as it did, over the maps of both and as calls see them
 abbrev pub AllDrawn : FontValue → FontValue → Type 0
-AllDrawn j f = (n : List ℕ) → has f n ≡ true → StaysDrawn map_subrs f j n × StaysDrawn subr_at f j n
+AllDrawn j f = (n : List ℕ) → has f n ≡ true → DrawsAlike f j n × AnswersAlike f j n
 
--- so is it with each glyph of fonts that were normalized
-pub each_through : (fs es : List FontValue) (j : FontValue) → EachBeside AllStayDrawn fs es → AllByRecursion IsFont es → IsFont j → DrawsAll es j →
+-- what draws in fonts as it did, and in j as in these, draws in j as it did
+pub drawn_through : (fs es : List FontValue) (j : FontValue) → AllByRecursion IsFont fs → IsFont j → EachBeside AllDrawAlike fs es → DrawsAll es j →
     AllByRecursion (AllDrawn j) fs
-each_through [] [] j s fonts joined d = tt
-each_through [] (e ∷ es) j s fonts joined d = absurd s
-each_through (f ∷ fs) [] j s fonts joined d = absurd s
-each_through (f ∷ fs) (e ∷ es) j s fonts joined d = (
-  λ n there. through_both f e j n fonts.0 joined (s.0 n)
-      (d.0 n (subst (λ (o : Option (List ℕ)). is_some o ≡ true) (sym (s.0 n).0.charstring) there)),
-  each_through fs es j s.1 fonts.1 joined d.1,
+drawn_through [] [] j h joined s d = tt
+drawn_through [] (e ∷ es) j h joined s d = absurd s
+drawn_through (f ∷ fs) [] j h joined s d = absurd s
+drawn_through (f ∷ fs) (e ∷ es) j h joined s d = (
+  λ n there.
+      let alike = alike_trans f e j n (s.0 n) (d.0 n (ap is_some (s.0 n).charstring ∙ there)) in
+      (alike, answers_alike f j h.0 joined n alike),
+  drawn_through fs es j h.1 joined s.1 d.1,
 )
 
 -- ---- fonts that are normalized
@@ -151,71 +128,49 @@ indices_named name (f ∷ fs) =
 
 -- ---- fonts beside those that they become
 
--- their glyphs stay drawn, and their Encoding stays
-abbrev pub Remains : FontValue → FontValue → Type 0
-Remains f e = AllStayDrawn f e × (e.encoding ≡ f.encoding)
+-- under another name a font has the Subrs, the glyphs and the Encoding that it had, and its texts but for the name
+abbrev SameBut : FontValue → FontValue → Type 0
+SameBut f g = SameEntries f g × (g.encoding ≡ f.encoding) × Renewed f.shell g.shell
 
--- a font that is filled has the same glyphs and Subrs under another name
-renamed : (subrs : FontValue → Subrs) (f e k : FontValue) (n : List ℕ) → subrs k ≡ subrs e → k.glyphs ≡ e.glyphs → StaysDrawn subrs f e n →
-    StaysDrawn subrs f k n
-renamed subrs f e k n same glyphs s = record {
-  charstring = ap (λ (m : _). maps.get m n) glyphs ∙ s.charstring;
-  answer = λ c is none. ap (λ (s : Subrs). direct s c) same ∙ s.answer c is none;
-  answer3 = λ c is none. ap (λ (s : Subrs). direct3 s c) same ∙ s.answer3 c is none;
-  executes = λ c is none none3. ap (λ (s : Subrs). exec s c) same ∙ s.executes c is none none3;
-  draws = λ is. (λ i. draw (same i) (maps.get (glyphs i)) n) ∙ s.draws is;
-  draws3 = λ is. (λ i. draw3 (same i) (maps.get (glyphs i)) n) ∙ s.draws3 is;
-}
+abbrev SameUnderName : FontValue → FontValue → Type 0
+SameUnderName f g = SameEntries f g × (g.encoding ≡ f.encoding) × RenewedAndNamed f.shell g.shell
 
-named_remains : (name : List ℕ) (indices : List ℕ) (f e : FontValue) → Remains f (filled indices e) → Remains f (filled indices (named name e))
-named_remains name indices f e r = by_test (can_be_named name e)
+under_name : (name : List ℕ) (f g : FontValue) → SameBut f g → SameUnderName f (named name g)
+under_name name f g s = by_test (can_be_named name g)
   where
-    by_test : (b : Bool) → Remains f (filled indices (cond b (font_named name e) e))
-    by_test false = r
+    by_test : (b : Bool) → SameUnderName f (cond b (font_named name g) g)
     by_test true =
-        let k = filled indices (font_named name e) in (
-          λ n. (renamed map_subrs f (filled indices e) k n refl refl (r.0 n).0, renamed subr_at f (filled indices e) k n refl refl (r.0 n).1),
-          r.1,
-        )
+        (s.0, s.1, record { between = g.shell; texts = s.2; head = name_renews name g.shell.head; others = refl })
+    by_test false = (s.0, s.1, record { between = g.shell; texts = s.2; head = inl refl; others = refl })
 
-beside_named : (name : List ℕ) (indices : List ℕ) (fs es : List FontValue) → EachBeside Remains fs (map (filled indices) es) →
-    EachBeside Remains fs (map (filled indices) (map (named name) es))
-beside_named name indices [] [] s = tt
-beside_named name indices [] (e ∷ es) s = absurd s
-beside_named name indices (f ∷ fs) [] s = absurd s
-beside_named name indices (f ∷ fs) (e ∷ es) s = (named_remains name indices f e s.0, beside_named name indices fs es s.1)
+-- fonts that are normalized
+same_count : (count : ℕ) (fs : List FontValue) → EachBeside SameBut fs (map (normal count) fs)
+same_count count [] = tt
+same_count count (f ∷ fs) = (((refl, refl), refl, count_renews count f), same_count count fs)
 
--- two facts of fonts side by side
-both_beside : (fs es : List FontValue) → EachBeside AllStayDrawn fs es → EachBeside (λ f e. e.encoding ≡ f.encoding) fs es → EachBeside Remains fs es
-both_beside [] [] s t = tt
-both_beside [] (e ∷ es) s t = absurd s
-both_beside (f ∷ fs) [] s t = absurd s
-both_beside (f ∷ fs) (e ∷ es) s t = ((s.0, t.0), both_beside fs es s.1 t.1)
+same_box : (u : Box) (count : ℕ) (fs : List FontValue) → EachBeside SameBut fs (map (font_with u) (map (normal count) fs))
+same_box u count [] = tt
+same_box u count (f ∷ fs) = (((refl, refl), refl, box_renews u count f), same_box u count fs)
 
--- the Encodings stay where fonts are normalized
-same_encodings : (indices : List ℕ) (count : ℕ) (fs : List FontValue) →
-    EachBeside (λ f e. e.encoding ≡ f.encoding) fs (map (filled indices) (map (normal count) fs))
-same_encodings indices count [] = tt
-same_encodings indices count (f ∷ fs) = (refl, same_encodings indices count fs)
+shells_same_but : (fs : List FontValue) → EachBeside SameBut fs (normalized_shells fs)
+shells_same_but fs = by_cases (λ gs. EachBeside SameBut fs gs) (each_normal fs) (λ _. same_count (largest_count fs) fs)
+    (λ bs e t. same_box (joined_box bs) (largest_count fs) fs)
 
-same_in_box : (u : Box) (indices : List ℕ) (count : ℕ) (fs : List FontValue) →
-    EachBeside (λ f e. e.encoding ≡ f.encoding) fs (map (filled indices) (map (font_with u) (map (normal count) fs)))
-same_in_box u indices count [] = tt
-same_in_box u indices count (f ∷ fs) = (refl, same_in_box u indices count fs)
+-- fonts that are normalized and get a name
+names_same : (name : List ℕ) (fs gs : List FontValue) → EachBeside SameBut fs gs → EachBeside SameUnderName fs (map (named name) gs)
+names_same name [] [] s = tt
+names_same name [] (g ∷ gs) s = absurd s
+names_same name (f ∷ fs) [] s = absurd s
+names_same name (f ∷ fs) (g ∷ gs) s = (under_name name f g s.0, names_same name fs gs s.1)
 
-encodings_stay : (fs : List FontValue) → EachBeside (λ f e. e.encoding ≡ f.encoding) fs (filled_all (normalized_shells fs))
-encodings_stay fs =
-    let indices = indices_of_all (normalized_shells fs) in
-    by_cases (λ es. EachBeside (λ f e. e.encoding ≡ f.encoding) fs (map (filled indices) es)) (each_normal fs)
-    (λ _. same_encodings indices (largest_count fs) fs)
-    (λ bs e t. same_in_box (joined_box bs) indices (largest_count fs) fs)
+entries_same : (fs gs : List FontValue) → EachBeside SameUnderName fs gs → EachBeside SameEntries fs gs
+entries_same [] [] s = tt
+entries_same [] (g ∷ gs) s = absurd s
+entries_same (f ∷ fs) [] s = absurd s
+entries_same (f ∷ fs) (g ∷ gs) s = (s.0.0, entries_same fs gs s.1)
 
--- fonts that are normalized, get a name and are filled
-pub remain_named : (name : List ℕ) (fs : List FontValue) → EachBeside Remains fs (filled_all (normalized_named name fs))
-remain_named name fs =
-    let es = normalized_shells fs in
-    subst (λ (is : List ℕ). EachBeside Remains fs (map (filled is) (map (named name) es))) (sym (indices_named name es))
-    (beside_named name (indices_of_all es) fs es (both_beside fs (filled_all es) (normalized_draw.all fs) (encodings_stay fs)))
+pub named_same : (name : List ℕ) (fs : List FontValue) → EachBeside SameUnderName fs (normalized_named name fs)
+named_same name fs = names_same name fs (normalized_shells fs) (shells_same_but fs)
 
 -- ---- codes
 
@@ -297,43 +252,55 @@ come_codes (f ∷ fs) j c = subst (AllByRecursion (CodesIn j)) (leaves_from_left
 
 -- ---- what they rejoin to
 
-drawn_of : (fs es : List FontValue) → EachBeside Remains fs es → EachBeside AllStayDrawn fs es
-drawn_of [] [] r = tt
-drawn_of [] (e ∷ es) r = absurd r
-drawn_of (f ∷ fs) [] r = absurd r
-drawn_of (f ∷ fs) (e ∷ es) r = (r.0.0, drawn_of fs es r.1)
-
-all_stay : (j : FontValue) (fs es : List FontValue) → EachBeside Remains fs es → AllByRecursion (AllDrawn j) fs → AllByRecursion (CodesIn j) es →
+all_stay : (j : FontValue) (indices : List ℕ) (fs gs : List FontValue) → EachBeside SameUnderName fs gs → AllByRecursion (AllDrawn j) fs →
+    AllByRecursion (CodesIn j) (map (filled indices) gs) → AllByRecursion (λ e. e.shell ≡ j.shell) (map (filled indices) gs) →
     AllByRecursion (λ f. StaysIn f j) fs
-all_stay j [] [] r d c = tt
-all_stay j [] (e ∷ es) r d c = absurd r
-all_stay j (f ∷ fs) [] r d c = absurd r
-all_stay j (f ∷ fs) (e ∷ es) r d c =
-    let k : CodesIn j f = subst (λ (d : Encoding). KeepsCodes j.encoding d) r.0.1 c.0 in
-    (record { glyphs = d.0; kind = k.0; codes = k.1 }, all_stay j fs es r.1 d.1 c.1)
+all_stay j indices [] [] s d c h = tt
+all_stay j indices [] (g ∷ gs) s d c h = absurd s
+all_stay j indices (f ∷ fs) [] s d c h = absurd s
+all_stay j indices (f ∷ fs) (g ∷ gs) s d c h =
+    let k : CodesIn j f = subst (λ (d : Encoding). KeepsCodes j.encoding d) s.0.1 c.0 in (
+      record { glyphs = d.0; kind = k.0; codes = k.1; texts = subst (RenewedAndNamed f.shell) h.0 s.0.2 },
+      all_stay j indices fs gs s.1 d.1 c.1 h.1,
+    )
 
 -- fonts stay in what they rejoin to under a name
 pub rejoined_stay : (name : List ℕ) (fs : List FontValue) (j : FontValue) → AreBytes name → AllByRecursion IsFont fs → Rejoin (normalized_named name fs) j →
     IsFont j × AllByRecursion (λ f. StaysIn f j) fs
 rejoined_stay name fs j n h r =
     let shells = normalized_named name fs in
+    let indices = indices_of_all shells in
     let es = filled_all shells in
-    let fonts = each_filled (indices_of_all shells) shells (each_named name (normalized_shells fs) n (shells_are_fonts fs h)) r.light in
-    let joined = comes_to_font es j fonts r.comes in
-    let remain = remain_named name fs in (
+    let joined = comes_to_font es j (each_filled indices shells (each_named name (normalized_shells fs) n (shells_are_fonts fs h)) r.light) r.comes in
+    let same = named_same name fs in
+    let alike = all_unlacking shells fs shells (entries_same fs shells same) r.lacks in (
       joined,
-      all_stay j fs es remain (each_through fs es j (drawn_of fs es remain) fonts joined (draws_all es (Ok j) r.comes)) (come_codes es j r.comes),
+      all_stay j indices fs shells same (drawn_through fs es j h joined alike (draws_all es (Ok j) r.comes)) (come_codes es j r.comes)
+          (shells_stay es j r.comes),
     )
 
 -- a font stays in itself
 pub stays_in_itself : (f : FontValue) → StaysIn f f
 stays_in_itself f =
-    let own : (subrs : FontValue → Subrs) (n : List ℕ) → StaysDrawn subrs f f n = λ subrs n. record {
+    let own : (n : List ℕ) → DrawsAlike f f n = λ n. record {
       charstring = refl;
-      answer = λ c is none. refl;
-      answer3 = λ c is none. refl;
-      executes = λ c is none none3. refl;
-      draws = λ is. refl;
-      draws3 = λ is. refl;
+      answer = λ c is. refl;
+      answer3 = λ c is. refl;
+      executes = λ c is. refl;
+      draws = refl;
+      draws3 = refl;
     } in
-    record { glyphs = λ n there. (own map_subrs n, own subr_at n); kind = same_kind f.encoding; codes = λ c n e. e }
+    let seen : (n : List ℕ) → AnswersAlike f f n = λ n. record {
+      charstring = refl;
+      answer = λ c is. refl;
+      answer3 = λ c is. refl;
+      executes = λ c is. refl;
+      draws = refl;
+      draws3 = refl;
+    } in
+    record {
+      glyphs = λ n there. (own n, seen n);
+      kind = same_kind f.encoding;
+      codes = λ c n e. e;
+      texts = record { between = f.shell; texts = stay_renewed f.shell; head = inl refl; others = refl };
+    }

@@ -1,18 +1,19 @@
 -- The laws of documents whose fonts are joined, each the contract of a function in `laws`.
 use Rattle.std.specs.{Prelude.{◌≡◌, ℕ, true, List, [], ◌∷◌, ◌++◌, Some, Ok, IsPermutation}, List.{AllByRecursion}}
 use Rattle.t1_bytes.specs.Laws.{AreBytes}
-use Rattle.t1_font.specs.{FontValue.{FontValue}, FontModel.{subr_at}, ReadFont.{read_font_widely}, Encodings.{SameKind}}
-use Rattle.t1_algebra.specs.{Keep.{has}, States.{code_state}, Normalized.{StaysDrawn, map_subrs}}
+use Rattle.t1_font.specs.{FontValue.{FontValue}, ReadFont.{read_font_widely}, Encodings.{SameKind}, Renewing.{RenewedAndNamed}}
+use Rattle.t1_algebra.specs.{Keep.{has}, States.{code_state}, Alike.{DrawsAlike}, Laws.{AnswersAlike}}
 use Rattle.t1_document.specs.{Lines.{breaks}, Documents.{Place, IsClosed}, Joins.{Outcomes, AreOutcomes, places_of_all, places_under, new_texts, PooledBy, LevelsTo}, Laws.{NoneRefused}}
 
 -- ---- glyphs
 
--- Each glyph of f stays drawn in j, over the maps of both and as calls see them. The Encodings are the same word or both tables, and each code that has a
--- name in f has it in j.
+-- Each glyph of f runs and draws in j as it did, its faults included, over the maps of both and as calls see them. The Encodings are the same word or both
+-- tables, and each code that has a name in f has it in j. The kept texts of j are those of f, renewed and with the name of the place.
 pub record StaysIn (f j : FontValue) : Type 0 where
-  pub glyphs : (n : List ℕ) → has f n ≡ true → StaysDrawn map_subrs f j n × StaysDrawn subr_at f j n
+  pub glyphs : (n : List ℕ) → has f n ≡ true → DrawsAlike f j n × AnswersAlike f j n
   pub kind : SameKind f.encoding j.encoding
   pub codes : (c : ℕ) (n : List ℕ) → code_state f.encoding c ≡ Some n → code_state j.encoding c ≡ Some n
+  pub texts : RenewedAndNamed f.shell j.shell
 
 -- the font that a place spells stays in j
 abbrev pub FontStaysIn : FontValue → Place → Type 0

@@ -82,8 +82,9 @@ pub fn pooled_twice()
     ensures { PooledTwice }
 {}
 
-/// What the places of a name get spells a font in which each glyph that draws without a fault in the font of one of these places
-/// draws the same, where hints are replaced and where they are kept, and each code keeps its name.
+/// What the places of a name get spells a font in which each glyph of the font of one of these places runs and draws as it did there,
+/// its faults included, and each code keeps its name; word by word the kept texts are those of that font, but for what normalizing may
+/// change and the name itself.
 pub fn new_texts_draw()
     ensures { NewTextsDraw }
 {}
@@ -135,8 +136,9 @@ pub fn aliased_others_stay()
     ensures bytes { AliasedOthersStay }
 {}
 
-/// What the places of a leader get spells a font in which each glyph that draws without a fault in the font of a place under that
-/// leader draws the same, where hints are replaced and where they are kept, and each code keeps its name.
+/// What the places of a leader get spells a font in which each glyph of the font of a place under that leader runs and draws as it did
+/// there, its faults included, and each code keeps its name; word by word the kept texts are those of that font, but for what normalizing
+/// may change and the name itself.
 pub fn aliases_draw()
     ensures { AliasesDraw }
 {}

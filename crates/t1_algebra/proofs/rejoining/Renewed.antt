@@ -10,7 +10,7 @@ use Rattle.t1_algebra.proofs.{Words.{AllByRecursion}, Orders.{Below, above}, Sha
 -- ---- fonts that are normalized
 
 -- a font with normalized texts that declares more Subrs
-count_renews : (count : ℕ) (f : FontValue) → Renewed f.shell (normal count f).shell
+pub count_renews : (count : ℕ) (f : FontValue) → Renewed f.shell (normal count f).shell
 count_renews count f = record {
   between = normal_texts f.shell;
   texts = texts_renewed f.shell;
@@ -29,7 +29,7 @@ count_renews count f = record {
 }
 
 -- and one that has another box, too
-box_renews : (u : Box) (count : ℕ) (f : FontValue) → Renewed f.shell (font_with u (normal count f)).shell
+pub box_renews : (u : Box) (count : ℕ) (f : FontValue) → Renewed f.shell (font_with u (normal count f)).shell
 box_renews u count f =
     let x = clear_of (normal_texts f.shell) in
     let both = box_texts u x (side_in x) refl in

@@ -22,7 +22,7 @@ one_unlacking fs f none = filled_alike f (indices_of_all fs) (unlacking_quiet fs
 -- ---- fonts that are normalized
 
 -- fonts with the same Subrs and glyphs
-abbrev SameEntries : FontValue → FontValue → Type 0
+abbrev pub SameEntries : FontValue → FontValue → Type 0
 SameEntries f g = (g.subrs ≡ f.subrs) × (g.glyphs ≡ f.glyphs)
 
 -- what draws as in a font draws as in one with the same Subrs and glyphs
@@ -38,7 +38,8 @@ as_before f g j n same d = back (subst (λ (x : SparseArray × CharStrings). Dra
     back : DrawsAlike (with_entries (f.subrs, f.glyphs)) j n → DrawsAlike f j n
     back e = record { charstring = e.charstring; answer = e.answer; answer3 = e.answer3; executes = e.executes; draws = e.draws; draws3 = e.draws3 }
 
-all_unlacking : (all fs gs : List FontValue) → EachBeside SameEntries fs gs → lack_among all gs ≡ None →
+-- fonts with the Subrs and glyphs of others that lack nothing
+pub all_unlacking : (all fs gs : List FontValue) → EachBeside SameEntries fs gs → lack_among all gs ≡ None →
     EachBeside AllDrawAlike fs (map (filled (indices_of_all all)) gs)
 all_unlacking all [] [] same none = tt
 all_unlacking all [] (g ∷ gs) same none = absurd same
@@ -56,7 +57,7 @@ box_same : (u : Box) (count : ℕ) (fs : List FontValue) → EachBeside SameEntr
 box_same u count [] = tt
 box_same u count (f ∷ fs) = ((refl, refl), box_same u count fs)
 
-shells_same : (fs : List FontValue) → EachBeside SameEntries fs (normalized_shells fs)
+pub shells_same : (fs : List FontValue) → EachBeside SameEntries fs (normalized_shells fs)
 shells_same fs = by_cases (λ gs. EachBeside SameEntries fs gs) (each_normal fs) (λ _. normal_same (largest_count fs) fs)
     (λ bs e t. box_same (joined_box bs) (largest_count fs) fs)
 
