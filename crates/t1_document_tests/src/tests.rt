@@ -3,6 +3,7 @@
 mod families;
 mod growths;
 mod joins;
+mod kept;
 mod large;
 mod places;
 mod rewriting;

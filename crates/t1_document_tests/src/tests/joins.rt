@@ -44,7 +44,7 @@ fn made(alloc: Global, text: &[u8]) -> Result<(Vec<u8>, Vec<u8>, Vec<u8>), Alloc
 }
 
 /// Whether a document comes to this.
-fn comes(
+pub fn comes(
     alloc: Global,
     parts: &[&[u8]],
     lines: &[u8],
@@ -95,11 +95,11 @@ pub fn tagged(alloc: Global, text: &[u8], tag: &[u8]) -> Result<Vec<u8>, AllocEr
     Ok(new)
 }
 
-const BEGIN: &[u8] = b"%%BeginResource: font CMR10\n";
+pub const BEGIN: &[u8] = b"%%BeginResource: font CMR10\n";
 
-const END: &[u8] = b"\n{restore}if\n%%EndResource\n";
+pub const END: &[u8] = b"\n{restore}if\n%%EndResource\n";
 
-const EMPTY_END: &[u8] = b"%%EndResource\n";
+pub const EMPTY_END: &[u8] = b"%%EndResource\n";
 
 const INSIDE: &[u8] = b"%%BeginDocument: a\n";
 

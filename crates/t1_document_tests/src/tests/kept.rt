@@ -1,0 +1,132 @@
+//! A name whose places keep their fonts for a lack, and documents of many bytes and of very many places.
+
+use super::joins::{BEGIN, EMPTY_END, END, comes, cut, whole};
+use super::{joined, tiny};
+use std::alloc::{AllocError, Global};
+use std::test::Fail;
+use t1_bytes::texts::find_from;
+use t1_bytes::{EEXEC_KEY, EEXEC_LEAD, open, seal, split_eexec};
+use t1_font::{Form, read, write};
+use t1_tiny::PFA;
+
+/// How many bytes of Tiny are its clear text.
+const CLEAR: usize = 313;
+
+/// A text without what stands from the first of these on up to the second.
+fn without(alloc: Global, text: &[u8], from: &[u8], to: &[u8]) -> Result<Vec<u8>, AllocError> {
+    let Some(start) = find_from(text, from, 0) else {
+        return Err(AllocError);
+    };
+    let Some(end) = find_from(text, to, start) else {
+        return Err(AllocError);
+    };
+    joined(alloc, &[&text[..start], &text[end..]])
+}
+
+/// The file of Tiny, with a binary cipher, without its Subr 5, which its glyph X executes.
+fn file_without_5(alloc: Global) -> Result<Vec<u8>, AllocError> {
+    let Ok((_, cipher)) = split_eexec(alloc, PFA) else {
+        return Err(AllocError);
+    };
+    let private = open(cipher, EEXEC_KEY, EEXEC_LEAD);
+    let less = without(alloc, private.as_slice(), b"dup 5 ", b"dup 6 ")?;
+    let Ok(sealed) = seal(alloc, less.as_slice(), EEXEC_KEY, EEXEC_LEAD) else {
+        return Err(AllocError);
+    };
+    joined(alloc, &[&PFA[..CLEAR], sealed.as_slice()])
+}
+
+/// The font text of that font.
+fn text_without_5(alloc: Global) -> Result<Vec<u8>, AllocError> {
+    let file = file_without_5(alloc)?;
+    let Ok(source) = read(alloc, file.as_slice()) else {
+        return Err(AllocError);
+    };
+    let font = source.font(alloc)?;
+    let mut text = write(alloc, &font, Form::Pfa)?;
+    text.pop();
+    Ok(text)
+}
+
+// meets join_fonts Ok at 2 places
+#[test]
+fn a_name_kept_for_a_lack(rt: HostRuntime) -> Result<(), Fail> {
+    let alloc = rt.alloc();
+    let less = text_without_5(alloc)?;
+    let whole = whole(alloc)?;
+    let parts = [BEGIN, less.as_slice(), END, BEGIN, whole.as_slice(), END];
+    let line = b"Tiny glyph X lacks subr 5\n";
+    assert!(rt; comes(alloc, &parts, line, &parts, &parts)?);
+    Ok(())
+}
+
+/// How many bytes the first line of a long font text has, and how many stand behind the last place of a long document.
+const LONG: usize = 250_000;
+
+/// A font text with a long first line.
+fn long(alloc: Global, text: &[u8]) -> Result<Vec<u8>, AllocError> {
+    let mut line = Vec::from_slice(alloc, b"%!")?;
+    line.resize(LONG, b'-')?;
+    line.push(b'\n')?;
+    joined(alloc, &[line.as_slice(), text])
+}
+
+// meets read_document Ok at 250000 bytes
+// meets join_fonts Ok at 250000 bytes
+// meets Document::new_texts Ok at 250000 bytes
+// meets Document::level Ok at 250000 bytes
+// meets Document::pool Ok at 250000 bytes
+#[test]
+fn a_long_document(rt: HostRuntime) -> Result<(), Fail> {
+    let alloc = rt.alloc();
+    let x = cut(alloc, b"X")?;
+    let whole = whole(alloc)?;
+    let a = long(alloc, x.as_slice())?;
+    let b = long(alloc, whole.as_slice())?;
+    let mut end = Vec::new(alloc);
+    end.resize(LONG, b'x')?;
+    let (a, b, last) = (a.as_slice(), b.as_slice(), end.as_slice());
+    let right = comes(
+        alloc,
+        &[BEGIN, a, END, BEGIN, b, END, last],
+        b"Tiny joined\n",
+        &[BEGIN, b, END, BEGIN, b, END, last],
+        &[BEGIN, b, END, BEGIN, EMPTY_END, last],
+    )?;
+    assert!(rt; right);
+    Ok(())
+}
+
+/// How many places a document of very many has.
+const MANY: usize = 1_000;
+
+// meets join_fonts Ok at 1000 places
+// meets names_of Ok at 1000 places
+// meets Document::new_texts Ok at 1000 places
+// meets Document::level Ok at 1000 places
+// meets Document::pool Ok at 1000 places
+#[test]
+fn very_many_places(rt: HostRuntime) -> Result<(), Fail> {
+    let alloc = rt.alloc();
+    let font = tiny(alloc, b"%!")?;
+    let first = [BEGIN, font.as_slice(), END];
+    let mut parts = Vec::new(alloc);
+    let mut pooled = Vec::new(alloc);
+    for at in 0..MANY {
+        parts.extend_from_slice(&first)?;
+        if at == 0 {
+            pooled.extend_from_slice(&first)?;
+        } else {
+            pooled.extend_from_slice(&[BEGIN, EMPTY_END])?;
+        }
+    }
+    let right = comes(
+        alloc,
+        parts.as_slice(),
+        b"Tiny same\n",
+        parts.as_slice(),
+        pooled.as_slice(),
+    )?;
+    assert!(rt; right);
+    Ok(())
+}
