@@ -9,6 +9,7 @@ mod engines;
 mod failing_merges;
 mod fonts;
 mod growths;
+mod kept;
 mod large;
 mod lists;
 mod mends;

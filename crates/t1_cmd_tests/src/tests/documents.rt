@@ -57,12 +57,12 @@ fn files_are_alike(alloc: Global, documents: &[&[u8]]) -> Result<bool, AllocErro
 }
 
 /// What is written of documents that are pooled, and behind it what is told; or the line of the refusal.
-fn pooled(alloc: Global, documents: &[&[u8]]) -> Result<Vec<u8>, AllocError> {
+pub fn pooled(alloc: Global, documents: &[&[u8]]) -> Result<Vec<u8>, AllocError> {
     pooled_as(alloc, false, documents)
 }
 
 /// The same, with tags or without.
-fn pooled_as(alloc: Global, tags: bool, documents: &[&[u8]]) -> Result<Vec<u8>, AllocError> {
+pub fn pooled_as(alloc: Global, tags: bool, documents: &[&[u8]]) -> Result<Vec<u8>, AllocError> {
     let mut readers = Vec::new(alloc);
     for document in documents {
         readers.push(Counted::new(*document))?;
@@ -84,7 +84,7 @@ fn pooled_as(alloc: Global, tags: bool, documents: &[&[u8]]) -> Result<Vec<u8>, 
 }
 
 /// Documents that are levelled, each behind a `|`, and behind them what is told; or the line of the refusal.
-fn levelled(alloc: Global, documents: &[&[u8]]) -> Result<Vec<u8>, AllocError> {
+pub fn levelled(alloc: Global, documents: &[&[u8]]) -> Result<Vec<u8>, AllocError> {
     let mut readers = Vec::new(alloc);
     for document in documents {
         readers.push(Counted::new(*document))?;
@@ -196,7 +196,7 @@ fn other_fonts_are_kept(rt: HostRuntime) -> Result<(), Fail> {
 }
 
 /// A font text in which the font's name has this tag.
-fn tagged(alloc: Global, text: &[u8], tag: &[u8]) -> Result<Vec<u8>, AllocError> {
+pub fn tagged(alloc: Global, text: &[u8], tag: &[u8]) -> Result<Vec<u8>, AllocError> {
     let mut new = Vec::new(alloc);
     for byte in text {
         new.push(*byte)?;
