@@ -1,6 +1,6 @@
 // The names of StandardEncoding, and the parts that outcomes name by them.
 
-use crate::tests::fonts::Font;
+use crate::tests::fonts::{Font, GlyphFont};
 use std::alloc::Global;
 use std::test::Fail;
 use t1_run::{SubrSet, parts_and_executed, standard_name};
@@ -234,5 +234,22 @@ fn first_other<'a>(
 #[test]
 fn names_parts(rt: HostRuntime) -> Result<(), Fail> {
     assert_eq!(rt; first_other(rt.alloc(), &PARTS)?, None);
+    Ok(())
+}
+
+// `50 120 200 65 194 seac`, as Subr 8.
+const SUBR_8: &[u8] = b"\xbd\xf7\x0c\xf7\x5c\xcc\xf7\x56\x0c\x06";
+
+// `0 500 hsbw 8 1 3 callothersubr pop callsubr 50 120 200 66 194 seac`: Subr 8 is called where hints are replaced, and Subr 3 where
+// they are kept.
+const BY_HINTS: &[u8] =
+    b"\x8b\xf8\x88\x0d\x93\x8c\x8e\x0c\x10\x0c\x11\x0a\xbd\xf7\x0c\xf7\x5c\xcd\xf7\x56\x0c\x06";
+
+#[test]
+fn each_run_names_its_own_parts(rt: HostRuntime) -> Result<(), Fail> {
+    let font = GlyphFont::new(rt.alloc(), &[(8, SUBR_8)], &[], None)?;
+    let mut called = SubrSet::new(rt.alloc());
+    let names = parts_and_executed(rt.alloc(), &font, BY_HINTS, &mut called)?;
+    assert!(rt; names.as_slice() == ["A", "acute", "B", "acute"].as_slice());
     Ok(())
 }

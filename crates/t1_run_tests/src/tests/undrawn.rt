@@ -108,6 +108,21 @@ const PARTS: &[(&str, &[u8], DrawFault)] = &[
         DrawFault::NestedSeac,
     ),
     (
+        "two accented parts",
+        b"\x8b\xf8\x88\x0d\xbd\xf7\x0c\xf7\x5c\xcd\xcd\x0c\x06",
+        DrawFault::NestedSeac,
+    ),
+    (
+        "a faulty part, and one that the font lacks",
+        b"\x8b\xf8\x88\x0d\xbd\xf7\x0c\xf7\x5c\xd7\xce\x0c\x06",
+        DrawFault::MissingPart,
+    ),
+    (
+        "an accented part, and one that the font lacks",
+        b"\x8b\xf8\x88\x0d\xbd\xf7\x0c\xf7\x5c\xcd\xce\x0c\x06",
+        DrawFault::MissingPart,
+    ),
+    (
         "a faulty part, and an accented one",
         b"\x8b\xf8\x88\x0d\xbd\xf7\x0c\xf7\x5c\xd7\xcd\x0c\x06",
         DrawFault::NestedSeac,
