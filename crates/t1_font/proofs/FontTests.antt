@@ -4,7 +4,7 @@ use Rattle.std.proofs.{Common.{subst, true, false}, lemmas.List.{drop_more, drop
 use Rattle.std.proofs.lemmas.Option.{none-some, same_Some}
 use Rattle.std.specs.{Prelude.{not}, Option.{option_and_then, option_map}}
 use Rattle.t1_grammar.specs.{Grammar.{Grammar, NoneIn, first, count, unread}, Places.{NoneBelow, first_found, first_nowhere, one_more, unread_lacks}}
-use Rattle.t1_font.{specs.{Words.{is_regular}, FontTest.{token, test_tokens, font_test, apart_test, found_test, place_and_around}}, proofs.Untested.{begins_test}}
+use Rattle.t1_font.{specs.{FontTest.{token, test_tokens, font_test, precedes_test, apart_test, found_test, place_and_around}}, proofs.Untested.{begins_test}}
 
 -- ---- tokens
 
@@ -68,13 +68,13 @@ padded_at head place le =
 one_of : (b : ℕ) (bs : List ℕ) → (count 1).read (b ∷ bs) ≡ Some (b ∷ [], bs)
 one_of b bs = (count 1).again (b ∷ []) (b ∷ []) bs (refl, refl)
 
--- no test stands apart behind a regular byte
-pub no_break : (b : ℕ) (bs : List ℕ) → not (is_regular b) ≡ false → apart_test.read (b ∷ bs) ≡ None
+-- no test stands apart behind a byte that none may follow
+pub no_break : (b : ℕ) (bs : List ℕ) → precedes_test b ≡ false → apart_test.read (b ∷ bs) ≡ None
 unfolding apart_test
 no_break b bs h = rw (one_of b bs, h) refl
 
 -- behind another byte one stands apart where one is read
-pub one_break : (b : ℕ) (bs : List ℕ) → not (is_regular b) ≡ true → apart_test.read (b ∷ bs) ≡ option_and_then (λ x. Some (b ∷ [], x.1)) (font_test.read bs)
+pub one_break : (b : ℕ) (bs : List ℕ) → precedes_test b ≡ true → apart_test.read (b ∷ bs) ≡ option_and_then (λ x. Some (b ∷ [], x.1)) (font_test.read bs)
 unfolding apart_test
 one_break b bs h = rw (one_of b bs, h) refl
 
@@ -96,7 +96,7 @@ later head from k le = ap (λ (n : ℕ). drop n head) (omega (arith, le)) ∙ sy
 
 -- where no test is read, none stands apart
 none_apart : (head : List ℕ) (k : ℕ) → k ≤ length head → font_test.read (drop k head) ≡ None → apart_test.read (drop k (padded head)) ≡ None
-none_apart head k le none = ap apart_test.read (padded_at head k le) ∙ elim (cases_Bool (not (is_regular (get_or (padded head) k 0)))) [
+none_apart head k le none = ap apart_test.read (padded_at head k le) ∙ elim (cases_Bool (precedes_test (get_or (padded head) k 0))) [
   | inl t ↦ one_break _ _ t ∙ ap (option_and_then _) none
   | inr t ↦ no_break _ _ t
 ]
@@ -164,7 +164,7 @@ module _ (head : List ℕ) (from place : ℕ) (behind : List ℕ) (none : NoneBe
   none_before = none_between head from place (omega (arith, m.within)) none m.absent
 
   -- a test that is met where no word goes on is the first
-  pub found_there : not (is_regular (get_or (padded head) place 0)) ≡ true →
+  pub found_there : precedes_test (get_or (padded head) place 0) ≡ true →
       Some (length (take place head), take place head ++ behind) ≡ option_map place_and_around (found_test head)
   found_there h =
       let b : ℕ = get_or (padded head) place 0 in
@@ -176,7 +176,7 @@ module _ (head : List ℕ) (from place : ℕ) (behind : List ℕ) (none : NoneBe
       ∙ (λ i. Some (same i, drop 1 (front_of place 10 head behind (omega (arith, m.within)) i))))
 
   -- one that is met in a word is passed
-  pub passed_there : not (is_regular (get_or (padded head) place 0)) ≡ false → NoneBelow apart_test (padded head) (place + 1)
+  pub passed_there : precedes_test (get_or (padded head) place 0) ≡ false → NoneBelow apart_test (padded head) (place + 1)
   passed_there h = one_more apart_test (padded head) place none_before
       (ap apart_test.read (padded_at head place (omega (arith, m.within))) ∙ no_break (get_or (padded head) place 0) (drop place head) h)
 

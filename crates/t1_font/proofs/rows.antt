@@ -3,6 +3,8 @@ pub mod FontTestRows
 pub mod TagRows
 pub mod NormalRows
 pub mod BoxRows
+pub mod NameRows
+pub mod WideRows
 pub mod Tiny
 pub mod TinyCuts
 pub mod TinyFiles

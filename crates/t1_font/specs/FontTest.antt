@@ -1,8 +1,9 @@
 -- Heads without the test whether their font was loaded before, which asks PostScript's FontDirectory for it.
-use Rattle.std.{specs.{Prelude.{◌≡◌, ℕ, ◌≤◌, ◌&&◌, ◌||◌, not, Bool, List, [], ◌∷◌, ◌++◌, length, drop, codes, Option, Some, None, is_some, if◌then◌else◌}, Str.{bytes_eq}}, proofs.Common.{refl}}
+use Rattle.std.specs.{Prelude.{◌≡◌, ℕ, ◌≤◌, ◌==◌, ◌&&◌, ◌||◌, not, Bool, false, List, [], ◌∷◌, ◌++◌, length, drop, codes, Option, Some, None, is_some, if◌then◌else◌}}
+use Rattle.std.{specs.Str.{bytes_eq}, proofs.Common.{refl}}
 use Rattle.t1_grammar.specs.{Grammar.{Grammar, pure, ◌>>=◌, ◌>>◌, that, before, count, fixed, first, Begins}, Places.{occurs}}
 use Rattle.t1_bytes.specs.{White.{white}, FlatText.{starts_segment}, Eexec.{eexec_marker}}
-use Rattle.t1_font.specs.{declared.dialect.Spacing.TheVariants.{White}, Words.{regular_comes, keyword, decimal, next_name}, Markers.{break_comes, encoding_marker}}
+use Rattle.t1_font.specs.{declared.dialect.Spacing.TheVariants.{White}, Words.{is_regular, regular_comes, keyword, decimal, next_name}, Markers.{encoding_marker}}
 use Rattle.t1_font.specs.{FontValue.{FontValue, Shell, weight}, IsFont.{IsFont}}
 
 -- ---- tokens
@@ -83,10 +84,19 @@ font_test = do
   test_tokens is_same
   test_tokens then_save
 
--- a byte that isn't regular, and the test behind it; its value is that byte
+-- a test may follow this byte: white space or a delimiter, but no slash, with which its first word would be a literal
+abbrev pub precedes_test : ℕ → Bool
+precedes_test b = not (is_regular b) && not (b == 47)
+
+-- such a byte comes
+abbrev pub parting_comes : List ℕ → Bool
+parting_comes [] = false
+parting_comes (b ∷ bs) = precedes_test b
+
+-- a byte that a test may follow, and the test behind it; its value is that byte
 unfoldable pub apart_test : Grammar (List ℕ)
 apart_test = do
-  break ← that break_comes (count 1)
+  break ← that parting_comes (count 1)
   font_test
   pure break
 

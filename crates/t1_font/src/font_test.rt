@@ -7,9 +7,9 @@ ghost use Rattle.std.specs.Prelude.{◌≡◌, ℕ, List, ◌++◌, ◌∷◌, �
 ghost use Rattle.std.specs.{Prelude.{if◌then◌else◌}, Option.{option_map}};
 ghost use Rattle.t1_grammar.specs.Grammar.{first};
 ghost use Rattle.t1_bytes.specs.Eexec.{blank_comes};
-ghost use Rattle.t1_font.specs.Words.{is_regular, keyword};
+ghost use Rattle.t1_font.specs.Words.{keyword};
 ghost use Rattle.t1_font.specs.FontTest.{is_brace, get_number, is_same, then_save, token, test_tokens, literal, known_name, known_number, font_test};
-ghost use Rattle.t1_font.specs.FontTest.{found_test, place_and_around, eexec_there, test_begins, eexec_begins, has_marker, is_untested, untested, taken_test};
+ghost use Rattle.t1_font.specs.FontTest.{precedes_test, found_test, place_and_around, eexec_there, test_begins, eexec_begins, has_marker, is_untested, untested, taken_test};
 ghost use Rattle.t1_font.specs.{FontTest.{untested_font}, FontBoxes.{with_texts}, IsFont.{IsFont}};
 
 use crate::markers::{EncodingMarker, Marker, first};
@@ -178,12 +178,12 @@ impl Marker for FontTest {
     ghost begins = { test_begins };
 }
 
-/// Whether no word goes on at a place of a head.
+/// Whether the test may stand at a place of a head: no word goes on there, nor a literal.
 fn breaks_at(head: &[u8], place: usize) -> bool
     requires { place ≤ length head.now }
-    ensures { result ≡ not (is_regular (get_or (10 ∷ head.now) place 0)) }
+    ensures { result ≡ precedes_test (get_or (10 ∷ head.now) place 0) }
 {
-    place == 0 || !is_regular(head[place - 1])
+    place == 0 || (!is_regular(head[place - 1]) && head[place - 1] != b'/')
 }
 
 /// The place of the first test from a place of a head on, wherever it stands, and what stands behind it.

@@ -1,8 +1,9 @@
 -- Boxes of texts and shells, and the one box for several, computed on the definitions.
 use Rattle.std.{proofs.Common.{◌≡◌, true, false, ℕ, List, [], ◌∷◌, ◌++◌, Option, Some, None, refl}, specs.Prelude.{codes}}
+use Rattle.std.specs.declared.cmp.Ordering.TheVariants.{Less, Equal}
 use Rattle.t1_grammar.specs.Grammar.{first_at}
 use Rattle.t1_bytes.specs.White.{gap}
-use Rattle.t1_font.specs.{FontValue.{FontValue, Shell, Encoding, SparseArray, CharStrings}, Numbers.{number, is_number}}
+use Rattle.t1_font.specs.{FontValue.{FontValue, Shell, Encoding, SparseArray, CharStrings}, Numbers.{number, is_number, value_cmp}}
 use Rattle.t1_font.specs.FontBoxes.{Box, opening, spaced, box_numbers, font_box, joined_box, box_of, clear_with, box_stays, boxes_of}
 
 -- a shell with these two texts
@@ -90,6 +91,26 @@ whole_number = refl
 
 no_digit : is_number (codes "-.") ≡ false
 no_digit = refl
+
+-- a sign alone, and one before a point alone
+plus_alone : is_number (codes "+") ≡ false
+plus_alone = refl
+
+minus_alone : is_number (codes "-") ≡ false
+minus_alone = refl
+
+point_alone : is_number (codes ".") ≡ false
+point_alone = refl
+
+-- minus zero is zero, above what is below it and below what is above
+minus_zero_is_zero : value_cmp (codes "-0") (codes "0") ≡ Equal
+minus_zero_is_zero = refl
+
+below_minus_zero : value_cmp (codes "-0.1") (codes "-0") ≡ Less
+below_minus_zero = refl
+
+above_minus_zero : value_cmp (codes "-0.0") (codes "+.1") ≡ Less
+above_minus_zero = refl
 
 two_signs : is_number (codes "--1") ≡ false
 two_signs = refl

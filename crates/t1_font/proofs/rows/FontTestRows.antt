@@ -22,6 +22,12 @@ tight_test number answer =
     codes "FontDirectory/X known{/X findfont dup/UniqueID known{dup/UniqueID get " ++ (number ++ (codes " eq exch/FontType get 1 eq and}{pop "
     ++ (answer ++ codes "}ifelse{save true}{false}ifelse}{false}ifelse")))
 
+-- one with this word where the number is got
+abbrev long_test : List ℕ → List ℕ
+long_test get =
+    codes "FontDirectory/X known{/X findfont dup/UniqueID known{dup/UniqueID " ++ (get ++ (codes " 1 eq exch/FontType get 1 eq and}{pop "
+    ++ codes "false}ifelse{save true}{false}ifelse}{false}ifelse"))
+
 -- the test of CMR10
 abbrev test : List ℕ
 test = test_of (codes "CMR10") (codes "CMR10")
@@ -107,3 +113,26 @@ no_test : untested (codes "%!\n/FontDirectory def") ≡ codes "%!\n/FontDirector
 unfolding first_at gap eexec_marker keyword decimal name next_name encoding_marker
     token test_tokens literal known_name known_number font_test apart_test eexec_there
 no_test = refl
+
+-- a literal is not the test
+behind_slash : untested (codes "/" ++ test) ≡ codes "/" ++ test
+unfolding first_at gap eexec_marker keyword decimal name next_name encoding_marker
+    token test_tokens literal known_name known_number font_test apart_test eexec_there
+behind_slash = refl
+
+-- the test behind such a literal is found
+behind_a_literal : untested (codes "/" ++ (test ++ (codes " a " ++ (test ++ codes " b")))) ≡ codes "/" ++ (test ++ codes " a  b")
+unfolding first_at gap eexec_marker keyword decimal name next_name encoding_marker
+    token test_tokens literal known_name known_number font_test apart_test eexec_there
+behind_a_literal = refl
+
+-- `gets` is another word than `get`
+token_goes_on : untested (long_test (codes "gets")) ≡ long_test (codes "gets")
+unfolding first_at gap eexec_marker keyword decimal name next_name encoding_marker
+    token test_tokens literal known_name known_number font_test apart_test eexec_there
+token_goes_on = refl
+
+token_ends : untested (long_test (codes "get")) ≡ []
+unfolding first_at gap eexec_marker keyword decimal name next_name encoding_marker
+    token test_tokens literal known_name known_number font_test apart_test eexec_there
+token_ends = refl

@@ -68,3 +68,19 @@ untagged_name = refl
 behind_encoding : without_tags (codes "%! ABCDEF+Tiny ", codes " /FontName /ABCDEF+Tiny def ") ≡ (codes "%! Tiny ", codes " /FontName /Tiny def ")
 unfolding first_at tag name_marker behind_tags
 behind_encoding = refl
+
+-- a word with another tag before the whole name stays, and so does one that has the last of the name's tags alone
+longer_tags : without_tags (codes "GHIJKL+ABCDEF+Tiny /FontName /ABCDEF+Tiny def", []) ≡ (codes "GHIJKL+ABCDEF+Tiny /FontName /Tiny def", [])
+unfolding first_at tag name_marker behind_tags
+longer_tags = refl
+
+last_tag_alone : without_tags (codes "GHIJKL+Tiny ABCDEF+GHIJKL+TinyBold /FontName /ABCDEF+GHIJKL+Tiny def", [])
+    ≡ (codes "GHIJKL+Tiny TinyBold /FontName /Tiny def", [])
+unfolding first_at tag name_marker behind_tags
+last_tag_alone = refl
+
+-- the name of the head is the font's, whatever that of the clear tail is
+head_first : without_tags (codes "/FontName /Tiny def ABCDEF+Other", codes " /FontName /ABCDEF+Other def") ≡
+    (codes "/FontName /Tiny def ABCDEF+Other", codes " /FontName /ABCDEF+Other def")
+unfolding first_at tag name_marker behind_tags
+head_first = refl
