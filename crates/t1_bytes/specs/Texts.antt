@@ -1,8 +1,8 @@
 -- The texts that are written: PFB segments, lines of hexadecimal digits, the trailer.
-use Rattle.std.specs.Prelude.{ℕ, zero, suc, ◌/◌, ◌%◌, List, [], ◌∷◌, ◌++◌, length, get_or, codes}
+use Rattle.std.specs.Prelude.{ℕ, zero, suc, ◌/◌, ◌%◌, ◌&&◌, nat_le, List, [], ◌∷◌, ◌++◌, length, get_or, codes, Option, Some, None, if◌then◌else◌}
 use Rattle.byteorder.specs.Endian.{little_bytes}
 use Rattle.hex.specs.Hex.{lower_digits}
-use Rattle.t1_bytes.specs.{declared.form.Form.{Form}, declared.form.Form.TheVariants.{Pfa, Pfb}}
+use Rattle.t1_bytes.specs.{declared.form.Form.{Form}, declared.form.Form.TheVariants.{Pfa, Pfb}, Limits.{file_limit}}
 
 -- a segment of a kind: 128, the kind, the length in four bytes, least significant first, and the bytes (Technical Note 5040)
 abbrev pub segment_text : ℕ → List ℕ → List ℕ
@@ -44,3 +44,7 @@ trailer = zero_lines 8 ++ (codes "cleartomark" ++ 10 ∷ [])
 abbrev pub file_text : Form → List ℕ → List ℕ → List ℕ
 file_text Pfa clear cipher = clear ++ (hex_lines cipher ++ trailer)
 file_text Pfb clear cipher = pfb_text clear cipher trailer
+
+-- a file of these, if each is within the limit of files
+abbrev pub file_within : Form → List ℕ → List ℕ → Option (List ℕ)
+file_within form clear cipher = if nat_le (length clear) file_limit && nat_le (length cipher) file_limit then Some (file_text form clear cipher) else None

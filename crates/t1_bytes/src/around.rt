@@ -1,10 +1,11 @@
 //! A file around its cipher, made in the cipher's own vector.
 
-ghost use Rattle.std.specs.Prelude.{◌≡◌, ◌++◌, ◌≤◌, ◌-◌, ◌^◌, ℕ, List, min, length, OnOk, IfOk};
-ghost use Rattle.t1_bytes.specs.{Limits.{file_limit}, Texts.{file_text, hex_lines, trailer}};
+ghost use Rattle.std.specs.{Prelude.{◌≡◌, ◌++◌, ◌≤◌, ◌-◌, ◌^◌, ℕ, List, min, length, OnOk, IfOk}, Option.{option_map}};
+ghost use Rattle.t1_bytes.specs.{Limits.{file_limit}, Texts.{file_text, file_within, hex_lines, trailer}};
 
 use crate::form::Form;
 use crate::hexadecimal::{lines_len, spread_hex_lines, trailer};
+use crate::limits::FILE_LIMIT;
 use crate::pfb::{AROUND, put_front, put_segments};
 use std::alloc::{AllocError, Global};
 
@@ -30,13 +31,8 @@ pub fn room_around(form: Form, cipher: usize, clear: usize) -> usize
     body.saturating_add(clear).saturating_add(trailer().len())
 }
 
-/// The file of a clear part and a cipher, in this form, with the trailer at its end. It is made in the cipher's vector, which takes no
-/// other memory if it has room for [`room_around`] bytes, but for a copy of the clear part.
-///
-/// # Errors
-///
-/// Only want of memory.
-pub fn file_around(
+/// The file of a clear part and a cipher that are within the limit of files.
+fn made_around(
     alloc: Global,
     cipher: Vec<u8>,
     clear: &[u8],
@@ -52,4 +48,26 @@ pub fn file_around(
         Form::Pfb => put_segments(alloc, &mut out, clear, trailer())?,
     }
     Ok(out)
+}
+
+/// The file of a clear part and a cipher, in this form, with the trailer at its end; `None` if one of the two has more than
+/// [`FILE_LIMIT`] bytes. It is made in the cipher's vector, which takes no other memory if it has room for [`room_around`] bytes,
+/// but for a copy of the clear part.
+///
+/// # Errors
+///
+/// Only want of memory.
+pub fn file_around(
+    alloc: Global,
+    cipher: Vec<u8>,
+    clear: &[u8],
+    form: Form,
+) -> Result<Option<Vec<u8>>, AllocError>
+    ensures { IfOk result (λ o. option_map (λ v. v.items) o ≡ file_within form clear.now cipher.items) }
+{
+    if clear.len() <= FILE_LIMIT && cipher.len() <= FILE_LIMIT {
+        Ok(Some(made_around(alloc, cipher, clear, form)?))
+    } else {
+        Ok(None)
+    }
 }

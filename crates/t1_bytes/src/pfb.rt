@@ -93,7 +93,8 @@ pub fn flatten(alloc: Global, file: &[u8]) -> Result<Vec<u8>, BytesFault>
 
 /// Flattens a file in its own vector, by the reading of segments from left to right.
 fn join(file: &mut Vec<u8>) -> Result<(), BytesFault>
-    ensures { Gives (λ _. file.new.items) result (flat_of file.old.items) }
+    ensures exact { Gives (λ _. file.new.items) result (flat_of file.old.items) }
+    ensures memory { IfErr result (λ fault. fault ≡ Memory → ⊥) }
 {
     if !is_segmented(file.as_slice()) {
         return Ok(());
@@ -124,7 +125,8 @@ fn join(file: &mut Vec<u8>) -> Result<(), BytesFault>
 ///
 /// `BadSegment`, as in [`flatten`]. The file is gone then, as it is handed over.
 pub fn flatten_vec(file: Vec<u8>) -> Result<Vec<u8>, BytesFault>
-    ensures { Gives (λ v. v.items) result (flat_of file.items) }
+    ensures exact { Gives (λ v. v.items) result (flat_of file.items) }
+    ensures memory { IfErr result (λ fault. fault ≡ Memory → ⊥) }
 {
     let mut flat = file;
     match join(&mut flat) {

@@ -4,11 +4,12 @@ mod blocks;
 mod growths;
 mod large;
 
+use large::is_made;
 use std::alloc::{AllocError, Global};
 use std::test::Fail;
 use t1_bytes::{
-    BytesFault, CHARSTRING_KEY, Cipher, EEXEC_KEY, EEXEC_LEAD, Form, decrypt, encrypt, file_around,
-    find_cipher, flatten, flatten_vec, hex_lines, open, seal, segments, split_eexec, trailer,
+    BytesFault, CHARSTRING_KEY, Cipher, EEXEC_KEY, EEXEC_LEAD, Form, decrypt, encrypt, find_cipher,
+    flatten, flatten_vec, hex_lines, open, seal, segments, split_eexec, trailer,
 };
 use t1_tiny::{PFA, PFB};
 
@@ -75,7 +76,7 @@ fn is_enciphered(
     Ok(sealed && decrypted && encrypted && open(bytes, key, lead).as_slice() == text)
 }
 
-// meets seal Ok at 1 bytes
+// meets seal Ok at 0, 1 bytes
 #[test]
 fn enciphers_worked_bytes(rt: HostRuntime) -> Result<(), Fail> {
     const ROWS: &[(u16, u8, &[u8], &[u8], &str)] = &[
@@ -86,6 +87,14 @@ fn enciphers_worked_bytes(rt: HostRuntime) -> Result<(), Fail> {
             b"\xd9\xd6\x6f\x63\x3b",
             "the beginning of a private text",
         ),
+        (
+            EEXEC_KEY,
+            EEXEC_LEAD,
+            b"\x00\x00\x00\x00",
+            b"\xd9\xd6\x6f\x63",
+            "no private text",
+        ),
+        (CHARSTRING_KEY, 0, b"", b"", "nothing"),
         (
             CHARSTRING_KEY,
             0,
@@ -420,7 +429,7 @@ fn splits_digits(rt: HostRuntime) {
 }
 
 // meets hex_lines Ok at 0, 32, 40 bytes
-// meets file_around Ok at 0, 32, 40 bytes
+// meets file_around Some at 0, 32, 40 bytes
 #[test]
 fn writes_lines_of_digits(rt: HostRuntime) -> Result<(), Fail> {
     const ROWS: &[(&[u8], &[u8])] = &[
@@ -440,10 +449,10 @@ fn writes_lines_of_digits(rt: HostRuntime) -> Result<(), Fail> {
         let lines = hex_lines(rt.alloc(), bytes)?;
         assert!(rt; lines.as_slice() == text, "{text:?}");
         let cipher = Vec::from_slice(rt.alloc(), bytes)?;
-        let file = file_around(rt.alloc(), cipher, b"eexec\n", Form::Pfa)?;
         let want = joined(rt.alloc(), b"eexec\n", text)?;
         let want = joined(rt.alloc(), want.as_slice(), trailer())?;
-        assert!(rt; file.as_slice() == want.as_slice(), "{text:?}");
+        let made = is_made(rt.alloc(), cipher, b"eexec\n", Form::Pfa, want.as_slice())?;
+        assert!(rt; made, "{text:?}");
     }
     assert!(rt; trailer().len() == 532);
     Ok(())
@@ -498,22 +507,13 @@ fn is_taken_apart(alloc: Global, file: &[u8]) -> Result<bool, BytesFault> {
 
 /// Whether the file around the cipher of Tiny is its file, in both forms.
 fn is_around(alloc: Global, cipher: &[u8]) -> Result<bool, BytesFault> {
-    if cipher.len() > 2893 {
-        return Ok(false);
-    }
-    let pfb = file_around(
-        alloc,
-        Vec::from_slice(alloc, cipher)?,
-        &PFA[..CLEAR],
-        Form::Pfb,
-    )?;
-    let pfa = file_around(
-        alloc,
-        Vec::from_slice(alloc, cipher)?,
-        &PFA[..CLEAR],
-        Form::Pfa,
-    )?;
-    Ok(pfb.as_slice() == PFB.as_slice() && pfa.as_slice() == PFA.as_slice())
+    let clear = &PFA[..CLEAR];
+    let copy = Vec::from_slice(alloc, cipher)?;
+    let other = Vec::from_slice(alloc, cipher)?;
+    Ok(
+        is_made(alloc, copy, clear, Form::Pfb, PFB)?
+            && is_made(alloc, other, clear, Form::Pfa, PFA)?,
+    )
 }
 
 /// Whether a file of Tiny is taken apart and put together again in both forms.

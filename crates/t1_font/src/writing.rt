@@ -105,7 +105,10 @@ fn canonical(alloc: Global, parts: &FontParts<'_>, form: Form) -> Result<Vec<u8>
 {
     let clear = clear_text(alloc, parts)?;
     let cipher = private_cipher(alloc, parts, form, clear.len())?;
-    file_around(alloc, cipher, clear.as_slice(), form)
+    match file_around(alloc, cipher, clear.as_slice(), form)? {
+        Some(file) => Ok(file),
+        None => unreachable!(),
+    }
 }
 
 /// The canonical file of a font (Adobe Type 1 Font Format 1.1, chapter 2; Technical Note 5040). It depends on the font

@@ -4,8 +4,8 @@ use super::{joined, refusal, splits, with_digits};
 use std::alloc::{AllocError, Global};
 use std::test::Fail;
 use t1_bytes::{
-    BytesFault, EEXEC_KEY, EEXEC_LEAD, Form, file_around, find_cipher, flatten_vec, hex_lines,
-    seal, segments, trailer,
+    BytesFault, EEXEC_KEY, EEXEC_LEAD, Form, file_around, find_cipher, flatten, flatten_vec,
+    hex_lines, seal, segments, trailer,
 };
 
 /// The refusal of a file in a vector of its own, if it has no flat text or no cipher.
@@ -128,21 +128,36 @@ fn is_read_again(alloc: Global, clear: &[u8], cipher: &[u8]) -> Result<bool, Byt
 
 /// Whether the file around a cipher is the one that is written of both, in both forms.
 fn is_around(alloc: Global, clear: &[u8], cipher: Vec<u8>) -> Result<bool, BytesFault> {
-    if clear.len() > 200_000 || cipher.len() > 2_000_000 {
+    if clear.len() > 20_000_000 || cipher.len() > 2_000_000 {
         return Ok(false);
     }
     let pfb = segments(alloc, clear, cipher.as_slice(), trailer())?;
     let pfa = with_digits(alloc, clear, cipher.as_slice())?;
     let copy = Vec::from_slice(alloc, cipher.as_slice())?;
-    let lines = file_around(alloc, copy, clear, Form::Pfa)?;
-    let around = file_around(alloc, cipher, clear, Form::Pfb)?;
-    Ok(around.as_slice() == pfb.as_slice() && lines.as_slice() == pfa.as_slice())
+    Ok(
+        is_made(alloc, copy, clear, Form::Pfa, pfa.as_slice())?
+            && is_made(alloc, cipher, clear, Form::Pfb, pfb.as_slice())?,
+    )
+}
+
+/// Whether this file is made around a cipher.
+pub fn is_made(
+    alloc: Global,
+    cipher: Vec<u8>,
+    clear: &[u8],
+    form: Form,
+    want: &[u8],
+) -> Result<bool, BytesFault> {
+    match file_around(alloc, cipher, clear, form)? {
+        Some(file) => Ok(file.as_slice() == want),
+        None => Ok(false),
+    }
 }
 
 // meets seal Ok at 1400000 bytes
 // meets segments Ok at 1400000 bytes
 // meets hex_lines Ok at 1400000 bytes
-// meets file_around Ok at 1400000 bytes
+// meets file_around Some at 1400000 bytes
 // meets split_eexec Ok at 1400000 bytes
 // meets find_cipher Ok at 1400000 bytes
 #[test]
@@ -159,5 +174,64 @@ fn takes_large_files_that_were_written(rt: HostRuntime) -> Result<(), Fail> {
     let cipher = seal(rt.alloc(), private.as_slice(), EEXEC_KEY, EEXEC_LEAD)?;
     assert!(rt; is_read_again(rt.alloc(), clear.as_slice(), cipher.as_slice())?);
     assert!(rt; is_around(rt.alloc(), clear.as_slice(), cipher)?);
+    Ok(())
+}
+
+/// A segment of ten million bytes, and bytes behind it.
+fn long_segment(alloc: Global, behind: &[u8]) -> Result<Vec<u8>, AllocError> {
+    let mut file = Vec::from_slice(alloc, b"\x80\x01\x80\x96\x98\0")?;
+    file.resize(10_000_006, b'x')?;
+    file.extend_from_slice(behind)?;
+    Ok(file)
+}
+
+// meets flatten Ok at 10000008 bytes
+// meets flatten BadSegment at 10000008 bytes
+// like flatten: flatten_vec
+#[test]
+fn flattens_ten_million_bytes(rt: HostRuntime) -> Result<(), Fail> {
+    const BAD: BytesFault = BytesFault::BadSegment { at: 10_000_006 };
+    let file = long_segment(rt.alloc(), b"\x80\x03")?;
+    assert!(rt; file.len() == 10_000_008);
+    let flat = flatten(rt.alloc(), file.as_slice())?;
+    assert!(rt; flat.as_slice() == &file[6..10_000_006]);
+    let own = flatten_vec(file)?;
+    assert!(rt; own.as_slice() == flat.as_slice());
+    let bad = long_segment(rt.alloc(), b"\x80\x04")?;
+    assert!(rt; flatten(rt.alloc(), bad.as_slice()).err() == Some(BAD));
+    assert!(rt; flatten_vec(bad).err() == Some(BAD), "in its own vector");
+    Ok(())
+}
+
+// meets split_eexec Ok at 10000018 bytes
+// meets find_cipher Ok at 10000018 bytes
+#[test]
+fn splits_ten_million_bytes(rt: HostRuntime) -> Result<(), Fail> {
+    let mut flat = Vec::from_slice(rt.alloc(), b"currentfile eexec\n")?;
+    flat.resize(10_000_018, b'x')?;
+    assert!(rt; splits(rt.alloc(), flat.as_slice(), Ok((17, &flat[18..]))));
+    Ok(())
+}
+
+// meets file_around Some at 10000000 bytes
+#[test]
+fn puts_ten_million_bytes_around(rt: HostRuntime) -> Result<(), Fail> {
+    let mut clear = Vec::new(rt.alloc());
+    clear.resize(10_000_000, b'x')?;
+    let cipher = Vec::from_slice(rt.alloc(), b"\xd9\xd6\x6f\x63")?;
+    assert!(rt; is_around(rt.alloc(), clear.as_slice(), cipher)?);
+    Ok(())
+}
+
+// meets file_around None at 268435457 bytes
+#[test]
+fn puts_nothing_around_too_much(rt: HostRuntime) -> Result<(), Fail> {
+    let mut much = Vec::new(rt.alloc());
+    much.resize(268_435_457, b'x')?;
+    let none = Vec::new(rt.alloc());
+    let around = file_around(rt.alloc(), none, much.as_slice(), Form::Pfb)?;
+    assert!(rt; around.is_none(), "a clear part");
+    let around = file_around(rt.alloc(), much, b"", Form::Pfa)?;
+    assert!(rt; around.is_none(), "a cipher");
     Ok(())
 }

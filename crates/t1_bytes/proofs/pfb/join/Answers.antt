@@ -5,8 +5,8 @@ use Rattle.t1_bytes.proofs.pfb.join.Goals as goal
 pub segments-init : goal.segments-init
 segments-init c = none_moved c.args.file.now.items
 
-pub returns-in-Some : goal.returns-in-Some
-returns-in-Some c =
+pub returns-in-Some-clause-exact : goal.returns-in-Some-clause-exact
+returns-in-Some-clause-exact c =
     let now = c.segments.file.items in
     let rest : c.split_at.result.1.now ≡ drop c.segments.at now = c.split_at.ensures.back ∙ ap (drop c.segments.at) c.as_slice-in-segments.ensures.value in
     let starts : starts_segment c.args.file.now.items ≡ true =
@@ -14,8 +14,8 @@ returns-in-Some c =
     joined_end c.args.file.now.items now c.segments.len c.segments.at _ starts c.segments.invariant (ap end.read (sym rest) ∙ sym c.in-Some.ensures)
     ∙ ap (λ (u : List ℕ). Ok u) (sym c.truncate.ensures.items)
 
-pub returns-in_default-segment_at : goal.returns-in_default-segment_at
-returns-in_default-segment_at c =
+pub returns-in_default-segment_at-clause-exact : goal.returns-in_default-segment_at-clause-exact
+returns-in_default-segment_at-clause-exact c =
     let now = c.segments.file.items in
     let rest : c.split_at.result.1.now ≡ drop c.segments.at now = c.split_at.ensures.back ∙ ap (drop c.segments.at) c.as_slice-in-segments.ensures.value in
     let starts : starts_segment c.args.file.now.items ≡ true =
