@@ -1,6 +1,6 @@
 -- Lines that number a font: UniqueID and XUID (Adobe Type 1 Font Format 1.1, chapters 2 and 5; PostScript Language Reference, 5.6).
 -- A printer may keep what it drew of a font under its number, so a font that cuts of another come to has no number.
-use Rattle.std.{specs.{Prelude.{ℕ, ◌==◌, ◌||◌, not, Bool, true, List, [], ◌∷◌, ◌++◌, codes, Option, Some, None, is_some}, Option.{option_and_then}}, proofs.Common.{ap}}
+use Rattle.std.{specs.{Prelude.{ℕ, ◌==◌, ◌||◌, not, Bool, List, length, [], ◌∷◌, ◌++◌, codes, Option, Some, None, is_some}, Option.{option_and_then}}, proofs.Common.{ap}}
 use Rattle.t1_grammar.specs.Grammar.{Grammar, pure, ◌>>◌, before, fixed, run, either, may_be, Begins}
 use Rattle.t1_font.specs.{Words.{is_digit, keyword, decimal}, Rewriting.{Piece, parted, rewritten}}
 
@@ -41,8 +41,8 @@ defining = either (keyword (codes "def")) (either (keyword (codes "ND")) (keywor
 
 -- the text ends, as it does before the marker of a table; or a name, a comment or the end of the dictionary comes
 abbrev pub goes_on : List ℕ → Bool
-goes_on [] = true
-goes_on (b ∷ bs) = b == 47 || b == 37 || is_some ((fixed (codes "currentdict")).read (b ∷ bs))
+goes_on text = length text == 0 || is_some ((fixed (codes "/")).read text) || is_some ((fixed (codes "%")).read text)
+    || is_some ((fixed (codes "currentdict")).read text)
 
 -- a line that numbers its font, with the LF that ends it, before what goes on with the dictionary or ends it
 unfoldable pub identity_line : Grammar (Unit {0})

@@ -190,10 +190,10 @@ fn defining_at(text: &[u8]) -> Option<&[u8]>
 fn goes_on(text: &[u8]) -> bool
     ensures { result ≡ goes_on text.now }
 {
-    match text.first() {
-        Some(b'/' | b'%') | None => true,
-        Some(_) => fixed_at(text, b"currentdict").is_some(),
-    }
+    text.is_empty()
+        || fixed_at(text, b"/").is_some()
+        || fixed_at(text, b"%").is_some()
+        || fixed_at(text, b"currentdict").is_some()
 }
 
 /// What stands behind a line that numbers its font.
