@@ -77,6 +77,16 @@ const ROWS: &[Row] = &[
     ),
     (
         &[
+            (b"%!\n/FontBBox{0 0 0 0}def\n", b""),
+            (b"%!\n/FontBBox{0 0 0 0}def\n", b""),
+            (b"%!\n/FontBBox{0 0 0 0}def\n", b""),
+        ],
+        b"%!\n/FontBBox{0 0 0 0}def\n|\ncurrentfile eexec|%!\n/FontBBox{0 0 0 0}def\n|\ncurrentfile eexec|\
+          %!\n/FontBBox{0 0 0 0}def\n|\ncurrentfile eexec|",
+        "zeros in each of three",
+    ),
+    (
+        &[
             (b"%!\n/FontBBox{-.5 +7 12.50 0.5}def\n", b""),
             (b"%!\n/FontBBox{-0.25 007 12.5 .5}def\n", b""),
         ],

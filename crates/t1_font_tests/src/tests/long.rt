@@ -53,6 +53,32 @@ fn long_names_and_charstrings(rt: HostRuntime) -> Result<(), Fail> {
     Ok(())
 }
 
+/// A private text of so many blanks and a Subr, with glyphs, and as many blanks before the last words.
+fn blank(alloc: Global, blanks: usize) -> Result<Vec<u8>, AllocError> {
+    let mut text = Vec::new(alloc);
+    text.resize(blanks, b' ')?;
+    text.extend_from_slice(b"/lenIV 0 def /Subrs 1 array\ndup 0 1 RD \x0b NP\nND\n")?;
+    text.extend_from_slice(b"/CharStrings 1 dict dup begin\n/.notdef 1 RD \x1b ND\nend\n")?;
+    text.resize(text.len().saturating_add(blanks), b' ')?;
+    text.extend_from_slice(b"mark currentfile closefile\n")?;
+    Ok(text)
+}
+
+// meets read Ok at 0, 100000 bytes
+// like read: read_vec, read_wide, read_wide_vec, mends
+#[test]
+fn long_private_texts(rt: HostRuntime) -> Result<(), Fail> {
+    for &blanks in &[0, 100_000] {
+        let private = blank(rt.alloc(), blanks)?;
+        let fault = fault(rt.alloc(), CLEAR, private.as_slice());
+        assert!(rt; fault.is_none(), "{blanks} blanks");
+        let file = file(rt.alloc(), CLEAR, private.as_slice())?;
+        let written = is_written_again(rt.alloc(), file.as_slice());
+        assert!(rt; written, "{blanks} blanks, written");
+    }
+    Ok(())
+}
+
 // meets read Ok at 127 bytes
 // meets read BadEncoding at 128 bytes
 // like read: read_vec, read_wide, read_wide_vec, mends

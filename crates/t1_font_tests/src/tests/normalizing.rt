@@ -273,12 +273,17 @@ fn subr_counts(alloc: Global, fonts: &[Font<'_>]) -> Result<Vec<usize>, AllocErr
     Ok(counts)
 }
 
+/// How many Subrs the fonts of sources have when they are filled.
+fn counts_of(alloc: Global, sources: &[Source]) -> Result<Vec<usize>, PartsFault> {
+    let mut indices = Vec::new(alloc);
+    let filled = fill_all(alloc, fonts_of(alloc, sources)?, &mut indices)?;
+    Ok(subr_counts(alloc, filled.as_slice())?)
+}
+
 /// How many Subrs two such fonts have when they are filled.
 fn counts_of_halves(alloc: Global, declared: u16, blanks: usize) -> Result<Vec<usize>, PartsFault> {
     let halves = halves(alloc, declared, blanks)?;
-    let mut indices = Vec::new(alloc);
-    let filled = fill_all(alloc, fonts_of(alloc, halves.as_slice())?, &mut indices)?;
-    Ok(subr_counts(alloc, filled.as_slice())?)
+    counts_of(alloc, halves.as_slice())
 }
 
 /// A byte more than a font may weigh.
@@ -311,6 +316,18 @@ fn halves_of_all_subrs(rt: HostRuntime) -> Result<(), Fail> {
     let blanks = blanks_for(rt.alloc(), 65_535, HEAVY)?;
     let heavy = counts_of_halves(rt.alloc(), 65_535, blanks);
     assert!(rt; heavy.err() == Some(PartsFault::Limit));
+    Ok(())
+}
+
+// The first table declares fewer Subrs than the second has, so its stubs are put into a list of its own.
+// meets fill_all Ok at 2002 subrs
+#[test]
+fn stubs_among_too_many_indices(rt: HostRuntime) -> Result<(), Fail> {
+    let normal = every_other(rt.alloc(), 2_002, 0)?;
+    let odd = every_other(rt.alloc(), 4_000, 1)?;
+    let pair = sources(rt.alloc(), &[normal.as_slice(), odd.as_slice()])?;
+    let counts = counts_of(rt.alloc(), pair.as_slice())?;
+    assert!(rt; counts.as_slice() == [2_002, 3_001].as_slice());
     Ok(())
 }
 
