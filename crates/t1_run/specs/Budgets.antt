@@ -1,5 +1,5 @@
 -- Budgets of tokens, and what runs take out of them.
-use Rattle.std.specs.{Prelude.{◌≡◌, ℕ, ◌+◌, ◌-◌, ◌<◌, ◌≤◌, min, max, Bool, true, false, cond, List, length, Option, None, Some}, List.{list_any}}
+use Rattle.std.specs.{Prelude.{◌≡◌, ℕ, ◌+◌, ◌-◌, ◌<◌, ◌≤◌, min, Bool, true, false, cond, List, length, Option, None, Some}, List.{list_any}}
 use Rattle.t1_run.specs.{declared.answer.Hints.{Hints}, declared.answer.Hints.TheVariants.{Replaced, Kept}, declared.answer.Mark.{Mark}}
 use Rattle.t1_run.specs.{State.{token_limit}, Run.{Subrs, run_glyph, marks_made}}
 use Rattle.t1_run.specs.declared.answer.Mark.TheVariants as mark
@@ -41,20 +41,6 @@ abbrev pub NoMore : Option ℕ → Option ℕ → Type 0
 NoMore None None = Unit {0}
 NoMore (Some old) (Some new) = new ≤ old
 NoMore _ _ = ⊥
-
--- The tokens that both of its runs execute, where hints are replaced and where they are kept.
-abbrev pub tokens_of_both : Subrs → List ℕ → ℕ
-tokens_of_both subrs c = tokens_by Replaced subrs c + tokens_by Kept subrs c
-
--- The tokens that the longer of both runs executes.
-abbrev pub tokens_of_longer : Subrs → List ℕ → ℕ
-tokens_of_longer subrs c = max (tokens_by Replaced subrs c) (tokens_by Kept subrs c)
-
--- So many tokens, at least and at most, were taken out of what was left; where tokens aren't counted, they still aren't.
-abbrev pub Takes : (least most : ℕ) → Option ℕ → Option ℕ → Type 0
-Takes least most None None = Unit {0}
-Takes least most (Some old) (Some new) = (new + least ≤ old) × (old ≤ new + most)
-Takes least most _ _ = ⊥
 
 -- The tokens that a run may execute: as many as its own limit allows, or all that are left where these are fewer.
 abbrev pub allowed_by : Option ℕ → ℕ

@@ -3,7 +3,7 @@
 ghost use Rattle.std.specs.Prelude.{◌≡◌, ◌≤◌, ◌+◌, IfOk, IfErr, OnOk, OnErr, ◌<◌, [], ◌∷◌, Some, true};
 ghost use Rattle.t1_run.specs.Limits.{EndsWithinLimits};
 ghost use Rattle.t1_run.specs.Run.{run_glyph, direct_by, direct, direct3, calls_of, with_indices, AddsFirst, index_of, index_taken};
-ghost use Rattle.t1_run.specs.{Machine.{ending_of, value_of, left_of, Runs, IsEntered}, Budgets.{tokens_by, is_replace, Spends, RunsOut, NoMore, HasFewer, Takes}, State.{token_limit}};
+ghost use Rattle.t1_run.specs.{Machine.{ending_of, value_of, left_of, Runs, IsEntered}, Budgets.{tokens_by, is_replace, Spends, RunsOut, NoMore}, State.{token_limit}};
 ghost use Rattle.t1_run.specs.{declared.budget.Stop.TheVariants.{TooManyTokens}, Pens.{Draws}};
 
 use crate::answer::{Curve, Direct, Fault, Halt, Hints, Mark};
@@ -178,12 +178,6 @@ pub(crate) fn run<'s, S: Subroutines, P: Pen>(
         → RunsOut (tokens_by hints (S.subrs subrs.now) charstring.now)
         budget.old.left budget.new.left) }
     ensures lowers { OnErr result (NoMore budget.old.left budget.new.left) }
-    ensures takes { OnOk result (Takes (tokens_by hints (S.subrs subrs.now) charstring.now)
-        (tokens_by hints (S.subrs subrs.now) charstring.now) budget.old.left budget.new.left) }
-    ensures spent { OnErr result (Takes 0 (tokens_by hints (S.subrs subrs.now) charstring.now)
-        budget.old.left budget.new.left) }
-    ensures refused { IfErr result (λ e. e ≡ TooManyTokens
-        → HasFewer budget.old.left (tokens_by hints (S.subrs subrs.now) charstring.now)) }
 {
     let mut allowance = Allowance::of(*budget);
     let allowed = allowance.allowed;

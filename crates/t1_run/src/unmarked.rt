@@ -3,7 +3,7 @@
 ghost use Rattle.std.specs.Prelude.{◌≡◌, ◌++◌, IfOk, IfErr, OnOk, OnErr, map, not, [], true};
 ghost use Rattle.t1_run.specs.Run.{run_glyph, calls_of, calls, calls3, exec, with_executed, with_indices, AddsFirst};
 ghost use Rattle.t1_run.specs.{Budgets.{tokens_by, tokens_of, replaces_hints, Spends, RunsOut, NoMore}};
-ghost use Rattle.t1_run.specs.{Budgets.{tokens_of_longer, tokens_of_both, HasFewer, Takes}, declared.budget.Stop.TheVariants.{TooManyTokens}};
+ghost use Rattle.t1_run.specs.declared.budget.Stop.TheVariants.{TooManyTokens};
 ghost use Rattle.t1_run.specs.{Machine.{ending_of}, Drawings.{parts, parts_by, parts_of}};
 
 use crate::answer::{Halt, Hints};
@@ -42,12 +42,6 @@ fn halt_of<S: Subroutines>(
         → RunsOut (tokens_by hints (S.subrs subrs.now) charstring.now)
         budget.old.left budget.new.left) }
     ensures lowers { OnErr result (NoMore budget.old.left budget.new.left) }
-    ensures takes { OnOk result (Takes (tokens_by hints (S.subrs subrs.now) charstring.now)
-        (tokens_by hints (S.subrs subrs.now) charstring.now) budget.old.left budget.new.left) }
-    ensures spent { OnErr result (Takes 0 (tokens_by hints (S.subrs subrs.now) charstring.now)
-        budget.old.left budget.new.left) }
-    ensures refused { IfErr result (λ e. e ≡ TooManyTokens
-        → HasFewer budget.old.left (tokens_by hints (S.subrs subrs.now) charstring.now)) }
 {
     run(subrs, hints, charstring, &mut Blank, called, budget)
 }
@@ -75,12 +69,6 @@ fn both_halts<S: Subroutines>(
         → RunsOut (tokens_of (S.subrs subrs.now) charstring.now)
         budget.old.left budget.new.left) }
     ensures lowers { OnErr result (NoMore budget.old.left budget.new.left) }
-    ensures takes { OnOk result (Takes (tokens_of_longer (S.subrs subrs.now) charstring.now)
-        (tokens_of_both (S.subrs subrs.now) charstring.now) budget.old.left budget.new.left) }
-    ensures spent { OnErr result (Takes 0 (tokens_of_both (S.subrs subrs.now) charstring.now)
-        budget.old.left budget.new.left) }
-    ensures refused { IfErr result (λ e. e ≡ TooManyTokens
-        → HasFewer budget.old.left (tokens_of_both (S.subrs subrs.now) charstring.now)) }
 {
     let (replaced, is_one) = halt_of(subrs, Hints::Replaced, charstring, called, budget)?;
     if is_one {
@@ -116,12 +104,6 @@ pub fn parts_and_executed_within<S: Subroutines>(
         → RunsOut (tokens_of (S.subrs subrs.now) charstring.now)
         budget.old.left budget.new.left) }
     ensures lowers { OnErr result (NoMore budget.old.left budget.new.left) }
-    ensures takes { OnOk result (Takes (tokens_of_longer (S.subrs subrs.now) charstring.now)
-        (tokens_of_both (S.subrs subrs.now) charstring.now) budget.old.left budget.new.left) }
-    ensures spent { OnErr result (Takes 0 (tokens_of_both (S.subrs subrs.now) charstring.now)
-        budget.old.left budget.new.left) }
-    ensures refused { IfErr result (λ e. e ≡ TooManyTokens
-        → HasFewer budget.old.left (tokens_of_both (S.subrs subrs.now) charstring.now)) }
 {
     let (replaced, kept) = both_halts(subrs, charstring, called, budget)?;
     let mut names = parts_of(alloc, replaced)?;

@@ -1,10 +1,10 @@
 -- What follows for a glyph that has the charstring of the one that was run last.
-use Rattle.std.proofs.Common.{◌≡◌, ◌∙◌, ◌≤◌, ℕ, true, true≢false, List, [], Option, Some, None, Bor, IfSome, unwrap_or, option_map, map, sym, subst, arith, nat_cmp}
+use Rattle.std.proofs.Common.{◌≡◌, ℕ, true, true≢false, List, [], Option, Some, None, Bor, IfSome, unwrap_or, option_map, map, sym, subst, arith}
 use Rattle.std.specs.{Cmp.{nat_cmp_total}, Cmp.Lexicographic.{nat_list_cmp_total}, FinSet.{nat_cmp-IsAntisymmetric}}
-use Rattle.t1_run.{specs.Budgets.{HasFewer, Takes}, proofs.Taken.{takes_wider}}
+use Rattle.t1_run.specs.Budgets.{HasFewer, Spends}
 use Rattle.t1_font.specs.FontValue.{FontValue}
 use Rattle.t1_algebra.{specs.{Interpreter.{Numbers}, Keep.{charstring, components}, Profile.{profile}}, proofs.Sets.{cases, tied, name_same}}
-use Rattle.t1_subset.specs.{Budgets.{longer_tokens, glyph_tokens}, References.{same_charstring}, LastRuns.{RunsTo, WasRun, IsBetween}, declared.last_runs.LastRun.{LastRun}}
+use Rattle.t1_subset.specs.{Budgets.{glyph_tokens}, References.{same_charstring}, LastRuns.{RunsTo, WasRun}, declared.last_runs.LastRun.{LastRun}}
 use Rattle.std.specs.FinMap as maps
 use Rattle.std.specs.FinSet as sets
 
@@ -45,27 +45,27 @@ none_ran f calls left r none = subst
 
 -- ---- what is taken once more
 
-module _ (least most tokens : ℕ) (old new : Option ℕ) where
-  pub taken_again : IfSome old (IsBetween least most tokens) → Takes tokens tokens old new → Takes least most old new
+module _ (tokens noted : ℕ) (old new : Option ℕ) where
+  pub taken_again : IfSome old (λ _. noted ≡ tokens) → Spends noted old new → Spends tokens old new
   taken_again = by old new
     where
-      by : (old new : Option ℕ) → IfSome old (IsBetween least most tokens) → Takes tokens tokens old new → Takes least most old new
+      by : (old new : Option ℕ) → IfSome old (λ _. noted ≡ tokens) → Spends noted old new → Spends tokens old new
       by None None w h = h
       by None (Some new) w h = h
       by (Some old) None w h = h
-      by (Some old) (Some new) w h = takes_wider tokens tokens least most (Some old) (Some new) w.0 w.1 h
+      by (Some old) (Some new) w h = omega (arith, w, h)
 
-  pub refused_again : IfSome old (IsBetween least most tokens) → HasFewer old tokens → HasFewer old most
+  pub refused_again : IfSome old (λ _. noted ≡ tokens) → HasFewer old noted → HasFewer old tokens
   refused_again = by old
     where
-      by : (old : Option ℕ) → IfSome old (IsBetween least most tokens) → HasFewer old tokens → HasFewer old most
+      by : (old : Option ℕ) → IfSome old (λ _. noted ≡ tokens) → HasFewer old noted → HasFewer old tokens
       by None w h = h
-      by (Some old) w h = let above = w.1 in omega (arith, above, h)
+      by (Some old) w h = omega (arith, w, h)
 
-  pub within_again : Takes tokens tokens old new → IfSome old (IsBetween least most tokens) → IfSome new (IsBetween least most tokens)
+  pub within_again : Spends noted old new → IfSome old (λ _. noted ≡ tokens) → IfSome new (λ _. noted ≡ tokens)
   within_again = by old new
     where
-      by : (old new : Option ℕ) → Takes tokens tokens old new → IfSome old (IsBetween least most tokens) → IfSome new (IsBetween least most tokens)
+      by : (old new : Option ℕ) → Spends noted old new → IfSome old (λ _. noted ≡ tokens) → IfSome new (λ _. noted ≡ tokens)
       by old None h w = tt
       by None (Some new) h w = absurd h
       by (Some old) (Some new) h w = w
@@ -74,8 +74,8 @@ module _ (f : FontValue) (n : List ℕ) (calls : Numbers) (named : List (List �
   -- a glyph that was run, which had its calls added and its tokens taken
   pub ran : (left : Option ℕ) (before : Numbers) → named ≡ components profile f.subrs (charstring f n) →
       calls ≡ sets.union before (profile.exec f.subrs (charstring f n)) →
-      IfSome left (IsBetween (longer_tokens f n) (glyph_tokens f n) tokens) → RunsTo f calls left named tokens (charstring f n)
-  unfolding longer_tokens glyph_tokens
+      IfSome left (λ _. tokens ≡ glyph_tokens f n) → RunsTo f calls left named tokens (charstring f n)
+  unfolding glyph_tokens
   ran left before is more within = record {
     names = is;
     executes = subst (λ (s : Numbers). sets.union s (profile.exec f.subrs (charstring f n)) ≡ s) (sym more)
@@ -84,15 +84,14 @@ module _ (f : FontValue) (n : List ℕ) (calls : Numbers) (named : List (List �
   }
 
   -- what is known of the last run is known of a glyph that comes to the same
-  pub runs_within : (left : Option ℕ) → RunsTo f calls left named tokens (charstring f n) →
-      IfSome left (IsBetween (longer_tokens f n) (glyph_tokens f n) tokens)
-  unfolding longer_tokens glyph_tokens
+  pub runs_within : (left : Option ℕ) → RunsTo f calls left named tokens (charstring f n) → IfSome left (λ _. tokens ≡ glyph_tokens f n)
+  unfolding glyph_tokens
   runs_within left h = h.takes
 
   -- and still once that was taken again
-  pub runs_on : (c : List ℕ) (old new : Option ℕ) → Takes tokens tokens old new → RunsTo f calls old named tokens c → RunsTo f calls new named tokens c
+  pub runs_on : (c : List ℕ) (old new : Option ℕ) → Spends tokens old new → RunsTo f calls old named tokens c → RunsTo f calls new named tokens c
   runs_on c old new h r = record {
     names = r.names;
     executes = r.executes;
-    takes = within_again _ _ tokens old new h r.takes;
+    takes = within_again _ tokens old new h r.takes;
   }

@@ -1,7 +1,8 @@
 mod closing
 mod Tokens
 mod LastRuns
-mod Trying
+mod Within
+mod LackTokens
 mod Plain
 pub mod state_tables
 pub mod Telling

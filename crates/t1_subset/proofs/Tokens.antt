@@ -8,16 +8,44 @@ use Rattle.std.proofs.lemmas.Map.Keys.{IsDistinct-head, IsDistinct-tail, IsDisti
 use Rattle.std.specs.{List.{AllByRecursion, IsDistinct, list_any, find, sum_by}, List.Sorted.{IsStrictlySortedBy}, Cmp.{IsEquivalence, eq_by_cmp_equiv}, Set.{remove_key}}
 use Rattle.std.specs.Cmp.Lexicographic.{nat_list_cmp_total}
 use Rattle.std.specs.{declared.cmp.Ordering.TheVariants.{Less, Equal, Greater}, Ordering.{is_lt}, FinMap.Entries.{below_all, is_sorted}, Prelude.{T}}
-use Rattle.t1_run.specs.{Budgets.{tokens_of_longer, tokens_of_both, HasFewer, Takes}, Run.{Subrs}}
-use Rattle.t1_run.proofs.Taken.{takes_wider, takes_twice, takes_nothing, fewer_before, fewer_than_more}
+use Rattle.t1_run.specs.{Budgets.{tokens_of, HasFewer, Spends}, Run.{Subrs}}
+use Rattle.t1_run.proofs.Taken.{spends_nothing, spends_then, fewer_then}
 use Rattle.t1_font.{specs.{FontValue.{FontValue, CharStrings, name_cmp, names_in}, FontModel.{subr_at}, IsFont.{IsFont}}, proofs.FontReaders.{all_seen}}
 use Rattle.t1_algebra.{specs.{Interpreter.{same_bytes, Names}, Keep.{charstring, keep}, Profile.{profile}}, proofs.{Sets.{in_list, tied, name_same, any_filter, any_filtered}, Kept.{keep_from}}}
-use Rattle.t1_subset.specs.{Budgets.{longer_tokens, glyph_tokens, font_tokens, fonts_tokens, least_of, font_least, fonts_least, kept_names, kept_longer, kept_tokens, IsEnough}}
+use Rattle.t1_subset.specs.{Budgets.{glyph_tokens, tokens_from, font_tokens, fonts_tokens, kept_names, kept_tokens, IsEnough}}
 use Rattle.t1_subset.specs.{References.{same_charstring}}
 use Rattle.t1_subset.{proofs.closing.Closures.{ClosureSoFar, closure_end, all_front}}
 use Rattle.t1_subset.specs.ClosureNames.{push_all}
 use Rattle.std.specs.FinMap as maps
 use Rattle.std.specs.FinSet as sets
+
+-- ---- budgets
+
+-- as many tokens, by another number
+pub spends_as : (a b : ℕ) (old new : Option ℕ) → a ≡ b → Spends a old new → Spends b old new
+spends_as a b old new is h = subst (λ n. Spends n old new) is h
+
+-- too little for some is too little for more
+pub fewer_than_more : (tokens more : ℕ) (left : Option ℕ) → tokens ≤ more → HasFewer left tokens → HasFewer left more
+fewer_than_more tokens more None above h = h
+fewer_than_more tokens more (Some left) above h = omega (arith, above, h)
+
+-- what is taken out of a budget is allowed by it
+pub spends_enough : (tokens : ℕ) (old new : Option ℕ) → Spends tokens old new → IsEnough old tokens
+spends_enough tokens None new h = tt
+spends_enough tokens (Some old) None h = absurd h
+spends_enough tokens (Some old) (Some new) h = omega (arith, h)
+
+-- no token is always allowed
+pub none_enough : (left : Option ℕ) → IsEnough left 0
+none_enough None = tt
+none_enough (Some left) = omega arith
+
+-- what is allowed after some tokens is allowed with them
+pub enough_then : (a b : ℕ) (old mid : Option ℕ) → Spends a old mid → IsEnough mid b → IsEnough old (a + b)
+enough_then a b None mid h k = tt
+enough_then a b (Some old) None h k = absurd h
+enough_then a b (Some old) (Some mid) h k = omega (arith, h, k)
 
 -- ---- one glyph
 
@@ -28,108 +56,93 @@ module _ (f : FontValue) (w : IsFont f) (n c : List ℕ) (e : maps.get f.glyphs 
       subst (λ s. P s (charstring f n)) (all_seen f w) (subst (λ x. P (subr_at f) x) (ap (λ (x : Option (List ℕ)). unwrap_or x []) (sym e)) h)
 
   -- what its runs take is what the glyph does
-  pub glyph_takes : (old new : Option ℕ) → Takes (tokens_of_longer (subr_at f) c) (tokens_of_both (subr_at f) c) old new →
-      Takes (longer_tokens f n) (glyph_tokens f n) old new
-  unfolding longer_tokens glyph_tokens
-  glyph_takes old new h = of_glyph (λ s x. Takes (tokens_of_longer s x) (tokens_of_both s x) old new) h
+  pub glyph_takes : (old new : Option ℕ) → Spends (tokens_of (subr_at f) c) old new → Spends (glyph_tokens f n) old new
+  unfolding glyph_tokens
+  glyph_takes old new h = of_glyph (λ s x. Spends (tokens_of s x) old new) h
 
   -- if too little is left for its runs, it is for the glyph
-  pub glyph_refused : (left : Option ℕ) → HasFewer left (tokens_of_both (subr_at f) c) → HasFewer left (glyph_tokens f n)
+  pub glyph_refused : (left : Option ℕ) → HasFewer left (tokens_of (subr_at f) c) → HasFewer left (glyph_tokens f n)
   unfolding glyph_tokens
-  glyph_refused left h = of_glyph (λ s x. HasFewer left (tokens_of_both s x)) h
+  glyph_refused left h = of_glyph (λ s x. HasFewer left (tokens_of s x)) h
 
 -- a name without a glyph takes nothing
-pub no_glyph : (f : FontValue) (n : List ℕ) → maps.get f.glyphs n ≡ None → (left : Option ℕ) → Takes (longer_tokens f n) (glyph_tokens f n) left left
-unfolding longer_tokens glyph_tokens
+pub no_glyph : (f : FontValue) (n : List ℕ) → maps.get f.glyphs n ≡ None → (left : Option ℕ) → Spends (glyph_tokens f n) left left
+unfolding glyph_tokens
 no_glyph f n e left =
     let s : Subrs = maps.get f.subrs in
-    subst (λ (x : Option (List ℕ)). Takes (tokens_of_longer s (unwrap_or x [])) (tokens_of_both s (unwrap_or x [])) left left) (sym e) (takes_nothing left)
+    subst (λ (x : Option (List ℕ)). Spends (tokens_of s (unwrap_or x [])) left left) (sym e) (spends_nothing left)
 
 -- ---- some, one after another
 
 module _ {X : Type 0} (g : X → ℕ) where
   -- what was taken for some, and then for one more
-  pub takes_more : (g' : X → ℕ) (done next : List X) (x : X) (old mid new : Option ℕ) → next ≡ done ++ x ∷ [] →
-      Takes (sum_by g' done) (sum_by g done) old mid → Takes (g' x) (g x) mid new → Takes (sum_by g' next) (sum_by g next) old new
-  takes_more g' done next x old mid new is h k =
-      let least : sum_by g' next ≡ sum_by g' done + g' x = ap (sum_by g') is ∙ sum_by_push g' done x in
-      let most : sum_by g next ≡ sum_by g done + g x = ap (sum_by g) is ∙ sum_by_push g done x in
-      takes_wider (sum_by g' done + g' x) (sum_by g done + g x) (sum_by g' next) (sum_by g next) old new (omega (arith, least)) (omega (arith, most))
-      (takes_twice (sum_by g' done) (sum_by g done) (g' x) (g x) old mid new h k)
+  pub takes_more : (done next : List X) (x : X) (old mid new : Option ℕ) → next ≡ done ++ x ∷ [] →
+      Spends (sum_by g done) old mid → Spends (g x) mid new → Spends (sum_by g next) old new
+  takes_more done next x old mid new is h k =
+      spends_as (sum_by g done + g x) (sum_by g next) old new (sym (ap (sum_by g) is ∙ sum_by_push g done x))
+      (spends_then (sum_by g done) (g x) old mid new h k)
 
   -- if too little is left for one more, what there was is too little for all
-  pub refused_on : (least : ℕ) (done next : List X) (x : X) (all : ℕ) (old mid : Option ℕ) → next ≡ done ++ x ∷ [] → sum_by g next ≤ all →
-      Takes least (sum_by g done) old mid → HasFewer mid (g x) → HasFewer old all
-  refused_on least done next x all old mid is few h k =
+  pub refused_on : (done next : List X) (x : X) (all : ℕ) (old mid : Option ℕ) → next ≡ done ++ x ∷ [] → sum_by g next ≤ all →
+      Spends (sum_by g done) old mid → HasFewer mid (g x) → HasFewer old all
+  refused_on done next x all old mid is few h k =
       let most : sum_by g next ≡ sum_by g done + g x = ap (sum_by g) is ∙ sum_by_push g done x in
-      fewer_than_more (sum_by g done + g x) all old (omega (arith, most, few)) (fewer_before least (sum_by g done) (g x) old mid h k)
+      fewer_than_more (sum_by g done + g x) all old (omega (arith, most, few)) (fewer_then (sum_by g done) (g x) old mid h k)
 
 -- ---- the glyphs of a font, of which one with the charstring of the one before takes nothing
 
 module _ (f : FontValue) where
   -- What was taken so far, where these glyphs are left, and this is the charstring of the one before.
   pub record SpentSoFar (before : Option (List ℕ)) (left : List (List ℕ)) (old new : Option ℕ) : Type 0 where
-    pub least : ℕ
-    pub most : ℕ
-    pub must : least + least_of f before left ≡ font_least f
-    pub may : most + sum_by (glyph_tokens f) left ≡ font_tokens f
-    pub takes : Takes least most old new
+    pub spent : ℕ
+    pub are : spent + tokens_from f before left ≡ font_tokens f
+    pub takes : Spends spent old new
 
   -- before anything is taken
   pub spent_starts : (left : List (List ℕ)) (budget : Option ℕ) → left ≡ names_in f.glyphs → SpentSoFar None left budget budget
   spent_starts left budget is = record {
-    least = 0;
-    most = 0;
-    must = let e : least_of f None left ≡ font_least f = ap (least_of f None) is in omega (arith, e);
-    may = let e : sum_by (glyph_tokens f) left ≡ font_tokens f = ap (sum_by (glyph_tokens f)) is in omega (arith, e);
-    takes = takes_nothing budget;
+    spent = 0;
+    are = let e : tokens_from f None left ≡ font_tokens f = ap (tokens_from f None) is in omega (arith, e);
+    takes = spends_nothing budget;
   }
 
   module _ (before : Option (List ℕ)) (names left : List (List ℕ)) (n : List ℕ) (old mid : Option ℕ) (is : names ≡ n ∷ left)
       (h : SpentSoFar before names old mid) where
-    tokens_of_next : sum_by (glyph_tokens f) names ≡ glyph_tokens f n + sum_by (glyph_tokens f) left
-    tokens_of_next = ap (sum_by (glyph_tokens f)) is ∙ sum_by-cons (glyph_tokens f) n left
-
-    least_of_next : (b : Bool) → same_charstring before (maps.get f.glyphs n) ≡ b →
-        least_of f before names ≡ cond b 0 (longer_tokens f n) + least_of f (maps.get f.glyphs n) left
-    unfolding least_of
-    least_of_next b same = ap (least_of f before) is ∙ ap (λ x. cond x 0 (longer_tokens f n) + least_of f (maps.get f.glyphs n) left) same
+    of_next : (b : Bool) → same_charstring before (maps.get f.glyphs n) ≡ b →
+        tokens_from f before names ≡ cond b 0 (glyph_tokens f n) + tokens_from f (maps.get f.glyphs n) left
+    unfolding tokens_from
+    of_next b same = ap (tokens_from f before) is ∙ ap (λ x. cond x 0 (glyph_tokens f n) + tokens_from f (maps.get f.glyphs n) left) same
 
     -- the next takes its part
     pub spent_more : (c : Option (List ℕ)) (new : Option ℕ) → c ≡ maps.get f.glyphs n → same_charstring before (maps.get f.glyphs n) ≡ false →
-        Takes (longer_tokens f n) (glyph_tokens f n) mid new → SpentSoFar c left old new
+        Spends (glyph_tokens f n) mid new → SpentSoFar c left old new
     spent_more c new there other k = record {
-      least = h.least + longer_tokens f n;
-      most = h.most + glyph_tokens f n;
-      must = let e = least_of_next false other in let m = ap (λ x. least_of f x left) there in omega (arith, e, m, h.must);
-      may = let e = tokens_of_next in omega (arith, e, h.may);
-      takes = takes_twice h.least h.most (longer_tokens f n) (glyph_tokens f n) old mid new h.takes k;
+      spent = h.spent + glyph_tokens f n;
+      are = let e = of_next false other in let m = ap (λ x. tokens_from f x left) there in omega (arith, e, m, h.are);
+      takes = spends_then h.spent (glyph_tokens f n) old mid new h.takes k;
     }
 
     -- the next takes nothing
     pub spent_again : before ≡ maps.get f.glyphs n → same_charstring before (maps.get f.glyphs n) ≡ true → SpentSoFar before left old mid
     spent_again there same = record {
-      least = h.least;
-      most = h.most + glyph_tokens f n;
-      must = let e = least_of_next true same in let m = ap (λ x. least_of f x left) there in omega (arith, e, m, h.must);
-      may = let e = tokens_of_next in omega (arith, e, h.may);
-      takes = takes_wider h.least h.most h.least (h.most + glyph_tokens f n) old mid (omega arith) (omega arith) h.takes;
+      spent = h.spent;
+      are = let e = of_next true same in let m = ap (λ x. tokens_from f x left) there in omega (arith, e, m, h.are);
+      takes = h.takes;
     }
 
     -- too little is left for the next
-    pub spent_refused : HasFewer mid (glyph_tokens f n) → HasFewer old (font_tokens f)
-    spent_refused k =
-        let e = tokens_of_next in
-        fewer_than_more (h.most + glyph_tokens f n) (font_tokens f) old (omega (arith, e, h.may))
-        (fewer_before h.least h.most (glyph_tokens f n) old mid h.takes k)
+    pub spent_refused : same_charstring before (maps.get f.glyphs n) ≡ false → HasFewer mid (glyph_tokens f n) → HasFewer old (font_tokens f)
+    spent_refused other k =
+        let e = of_next false other in
+        fewer_than_more (h.spent + glyph_tokens f n) (font_tokens f) old (omega (arith, e, h.are)) (fewer_then h.spent (glyph_tokens f n) old mid h.takes k)
 
   -- what was taken in all
   pub spent_ends : (before : Option (List ℕ)) (left : List (List ℕ)) (old new : Option ℕ) → left ≡ [] → SpentSoFar before left old new →
-      Takes (font_least f) (font_tokens f) old new
-  unfolding least_of
+      Spends (font_tokens f) old new
+  unfolding tokens_from
   spent_ends before left old new none h =
-      let e : least_of f before left ≡ 0 = ap (least_of f before) none in
-      takes_wider h.least h.most (font_least f) (font_tokens f) old new (omega (arith, e, h.must)) (omega (arith, h.may)) h.takes
+      let e : tokens_from f before left ≡ 0 = ap (tokens_from f before) none in
+      spends_as h.spent (font_tokens f) old new (omega (arith, e, h.are)) h.takes
 
 -- ---- names without repeats, and those that are kept
 
@@ -175,12 +188,6 @@ module _ {K : Type 0} {eq : K → K → Bool} (laws : IsEquivalence eq) (same : 
       or_right : (b : Bool) {c : Bool} → c ≡ true → (b || c) ≡ true
       or_right true m = refl
       or_right false m = m
-
--- what is taken out of a budget is allowed by it
-pub takes_enough : (least most : ℕ) (old new : Option ℕ) → Takes least most old new → IsEnough old least
-takes_enough least most None new h = tt
-takes_enough least most (Some old) None h = absurd h
-takes_enough least most (Some old) (Some new) h = omega (arith, h.0)
 
 -- ---- the names of a font, and those that are kept
 
@@ -251,29 +258,28 @@ module _ (f : FontValue) (a : Names) (ns : List (List ℕ)) (i : ℕ) (k : Closu
       (ap (λ (s : Names). sets.contains s q) all ∙ (any_filter nat_list_cmp_total name_same (sets.contains (keep profile f a)) q (names_in f.glyphs) m).1))
 
   -- so what was taken for its names was taken for those that are kept
-  pub closure_takes : length ns ≤ i → (old new : Option ℕ) → Takes (sum_by (longer_tokens f) (take i ns)) (sum_by (glyph_tokens f) (take i ns)) old new →
-      Takes (kept_longer f a) (kept_tokens f a) old new
+  pub closure_takes : length ns ≤ i → (old new : Option ℕ) → Spends (sum_by (glyph_tokens f) (take i ns)) old new → Spends (kept_tokens f a) old new
   closure_takes end old new h =
-      let whole : Takes (sum_by (longer_tokens f) ns) (sum_by (glyph_tokens f) ns) old new =
-      subst (λ (ms : List (List ℕ)). Takes (sum_by (longer_tokens f) ms) (sum_by (glyph_tokens f) ms) old new) (take_all i ns end) h in
-      takes_wider (sum_by (longer_tokens f) ns) (sum_by (glyph_tokens f) ns) (kept_longer f a) (kept_tokens f a) old new
-      (closure_covers end (longer_tokens f)) (closure_costs (glyph_tokens f)) whole
+      let whole : sum_by (glyph_tokens f) (take i ns) ≡ sum_by (glyph_tokens f) ns = ap (sum_by (glyph_tokens f)) (take_all i ns end) in
+      let least = closure_covers end (glyph_tokens f) in
+      let most = closure_costs (glyph_tokens f) in
+      spends_as (sum_by (glyph_tokens f) (take i ns)) (kept_tokens f a) old new (omega (arith, whole, least, most)) h
 
   -- if too little is left for the next name, there was too little for those that are kept
-  pub closure_refused : (n : List ℕ) → i < length ns → get_or ns i n ≡ n → (least : ℕ) (old mid : Option ℕ) →
-      Takes least (sum_by (glyph_tokens f) (take i ns)) old mid → HasFewer mid (glyph_tokens f n) → HasFewer old (kept_tokens f a)
-  closure_refused n l at least old mid h fewer =
+  pub closure_refused : (n : List ℕ) → i < length ns → get_or ns i n ≡ n → (old mid : Option ℕ) →
+      Spends (sum_by (glyph_tokens f) (take i ns)) old mid → HasFewer mid (glyph_tokens f n) → HasFewer old (kept_tokens f a)
+  closure_refused n l at old mid h fewer =
       let part : sum_by (glyph_tokens f) (take (i + 1) ns) ≤ sum_by (glyph_tokens f) ns = sum_by-take-le (glyph_tokens f) ns (i + 1) in
       let whole : sum_by (glyph_tokens f) ns ≤ kept_tokens f a = closure_costs (glyph_tokens f) in
-      refused_on (glyph_tokens f) least (take i ns) (take (i + 1) ns) n (kept_tokens f a) old mid
+      refused_on (glyph_tokens f) (take i ns) (take (i + 1) ns) n (kept_tokens f a) old mid
       (take_more ns i n l ∙ ap (λ (x : List ℕ). take i ns ++ x ∷ []) at) (omega (arith, part, whole)) h fewer
 
 -- one name more of a closure
 pub closure_more : (f : FontValue) (ns found : List (List ℕ)) (i : ℕ) (n : List ℕ) → i < length ns → get_or ns i n ≡ n → (old mid new : Option ℕ) →
-    Takes (sum_by (longer_tokens f) (take i ns)) (sum_by (glyph_tokens f) (take i ns)) old mid → Takes (longer_tokens f n) (glyph_tokens f n) mid new →
-    Takes (sum_by (longer_tokens f) (take (i + 1) (push_all ns found))) (sum_by (glyph_tokens f) (take (i + 1) (push_all ns found))) old new
+    Spends (sum_by (glyph_tokens f) (take i ns)) old mid → Spends (glyph_tokens f n) mid new →
+    Spends (sum_by (glyph_tokens f) (take (i + 1) (push_all ns found))) old new
 closure_more f ns found i n l at old mid new h k =
-    takes_more (glyph_tokens f) (longer_tokens f) (take i ns) (take (i + 1) (push_all ns found)) n old mid new
+    takes_more (glyph_tokens f) (take i ns) (take (i + 1) (push_all ns found)) n old mid new
     (all_front (i + 1) found ns (omega (arith, l)) ∙ take_more ns i n l ∙ ap (λ (x : List ℕ). take i ns ++ x ∷ []) at) h k
 
 -- ---- parts of lists
@@ -286,42 +292,25 @@ sum_taken h g i xs =
     ∙ sum_by-append g (map h (take i xs)) (map h (drop i xs)) in
     omega (arith, whole)
 
-module _ {X : Type 0} (g : X → ℕ) (xs : List X) (i : ℕ) (x : X) (l : i < length xs) (at : x ≡ get_or xs i x) where
-  one_more : take (i + 1) xs ≡ take i xs ++ x ∷ []
-  one_more = take_more xs i x l ∙ ap (λ (y : X). take i xs ++ y ∷ []) (sym at)
-
-  -- the next of a list takes its part
-  pub list_takes : (g' : X → ℕ) (old mid new : Option ℕ) → Takes (sum_by g' (take i xs)) (sum_by g (take i xs)) old mid → Takes (g' x) (g x) mid new →
-      Takes (sum_by g' (take (i + 1) xs)) (sum_by g (take (i + 1) xs)) old new
-  list_takes g' old mid new h k = takes_more g g' (take i xs) (take (i + 1) xs) x old mid new one_more h k
-
-  -- too little is left for the next of a list
-  pub list_refused : (least : ℕ) (old mid : Option ℕ) → Takes least (sum_by g (take i xs)) old mid → HasFewer mid (g x) → HasFewer old (sum_by g xs)
-  list_refused least old mid h k = refused_on g least (take i xs) (take (i + 1) xs) x (sum_by g xs) old mid one_more (sum_by-take-le g xs (i + 1)) h k
-
 -- ---- two fonts
 
 module _ (f g : FontValue) (old : Option ℕ) where
-  two_least : fonts_least (f ∷ g ∷ []) ≡ font_least f + font_least g
-  two_least = let one = sum_by-cons font_least f (g ∷ []) in let two = sum_by-cons font_least g [] in omega (arith, one, two)
-
   two_tokens : fonts_tokens (f ∷ g ∷ []) ≡ font_tokens f + font_tokens g
   two_tokens = let one = sum_by-cons font_tokens f (g ∷ []) in let two = sum_by-cons font_tokens g [] in omega (arith, one, two)
 
   -- what both took is allowed
-  pub two_enough : (mid new : Option ℕ) → Takes (font_least f) (font_tokens f) old mid → Takes (font_least g) (font_tokens g) mid new →
-      IsEnough old (fonts_least (f ∷ g ∷ []))
+  pub two_enough : (mid new : Option ℕ) → Spends (font_tokens f) old mid → Spends (font_tokens g) mid new → IsEnough old (fonts_tokens (f ∷ g ∷ []))
   two_enough mid new h k =
-      takes_enough (fonts_least (f ∷ g ∷ [])) (fonts_tokens (f ∷ g ∷ [])) old new
-      (takes_wider (font_least f + font_least g) (font_tokens f + font_tokens g) (fonts_least (f ∷ g ∷ [])) (fonts_tokens (f ∷ g ∷ [])) old new
-      (omega (arith, two_least)) (omega (arith, two_tokens)) (takes_twice (font_least f) (font_tokens f) (font_least g) (font_tokens g) old mid new h k))
+      spends_enough (fonts_tokens (f ∷ g ∷ [])) old new
+      (spends_as (font_tokens f + font_tokens g) (fonts_tokens (f ∷ g ∷ [])) old new (sym two_tokens)
+      (spends_then (font_tokens f) (font_tokens g) old mid new h k))
 
   -- too little is left for the first
   pub first_refused : HasFewer old (font_tokens f) → HasFewer old (fonts_tokens (f ∷ g ∷ []))
   first_refused h = fewer_than_more (font_tokens f) (fonts_tokens (f ∷ g ∷ [])) old (omega (arith, two_tokens)) h
 
   -- too little is left for the second
-  pub second_refused : (mid : Option ℕ) → Takes (font_least f) (font_tokens f) old mid → HasFewer mid (font_tokens g) → HasFewer old (fonts_tokens (f ∷ g ∷ []))
+  pub second_refused : (mid : Option ℕ) → Spends (font_tokens f) old mid → HasFewer mid (font_tokens g) → HasFewer old (fonts_tokens (f ∷ g ∷ []))
   second_refused mid h k =
       fewer_than_more (font_tokens f + font_tokens g) (fonts_tokens (f ∷ g ∷ [])) old (omega (arith, two_tokens))
-      (fewer_before (font_least f) (font_tokens f) (font_tokens g) old mid h k)
+      (fewer_then (font_tokens f) (font_tokens g) old mid h k)

@@ -2,8 +2,8 @@
 
 ghost use Rattle.std.specs.Prelude.{◌≡◌, ℕ, List, Some, IfOk, IfErr, OnOk, ◌∷◌, [], map};
 ghost use Rattle.t1_algebra.specs.{Profile.{profile, set_of}, Keep.{components, charstring}};
-ghost use Rattle.t1_run.specs.{Budgets.{Takes, HasFewer}, declared.budget.Stop.TheVariants.{TooManyTokens}};
-ghost use Rattle.t1_subset.specs.Budgets.{longer_tokens, glyph_tokens};
+ghost use Rattle.t1_run.specs.{Budgets.{Spends, HasFewer}, declared.budget.Stop.TheVariants.{TooManyTokens}};
+ghost use Rattle.t1_subset.specs.Budgets.{glyph_tokens};
 ghost use Rattle.std.specs.FinMap as maps;
 ghost use Rattle.std.specs.FinSet as sets;
 
@@ -28,7 +28,7 @@ fn run(
         → set_of calls.new ≡ sets.union (set_of calls.old) (profile.exec font.now.subrs (charstring font.now n))) }
     ensures takes { OnOk result ((n : List ℕ)
         → maps.get font.now.glyphs n ≡ Some body.now
-        → Takes (longer_tokens font.now n) (glyph_tokens font.now n) budget.old.left budget.new.left) }
+        → Spends (glyph_tokens font.now n) budget.old.left budget.new.left) }
     ensures refused { IfErr result (λ e. e ≡ TooManyTokens
         → (n : List ℕ)
         → maps.get font.now.glyphs n ≡ Some body.now
@@ -53,8 +53,7 @@ pub(crate) fn run_of(
     ensures calls { OnOk result (set_of calls.new
         ≡ sets.union (set_of calls.old)
         (profile.exec font.now.subrs (charstring font.now name.now))) }
-    ensures takes { OnOk result (Takes (longer_tokens font.now name.now) (glyph_tokens font.now name.now)
-        budget.old.left budget.new.left) }
+    ensures takes { OnOk result (Spends (glyph_tokens font.now name.now) budget.old.left budget.new.left) }
     ensures refused { IfErr result (λ e. e ≡ TooManyTokens
         → HasFewer budget.old.left (glyph_tokens font.now name.now)) }
 {
@@ -81,7 +80,7 @@ pub(crate) fn run_alone(
         → set_of calls.new ≡ profile.exec font.now.subrs (charstring font.now n)) }
     ensures takes { OnOk result ((n : List ℕ)
         → maps.get font.now.glyphs n ≡ Some body.now
-        → Takes (longer_tokens font.now n) (glyph_tokens font.now n) budget.old.left budget.new.left) }
+        → Spends (glyph_tokens font.now n) budget.old.left budget.new.left) }
     ensures refused { IfErr result (λ e. e ≡ TooManyTokens
         → (n : List ℕ)
         → maps.get font.now.glyphs n ≡ Some body.now

@@ -5,8 +5,8 @@ ghost use Rattle.t1_join.specs.Meaning.{of_number};
 ghost use Rattle.t1_algebra.specs.{Profile.{profile}, Searches.{passing}, Shared.{same_part}, Keep.{has}, States.{Join}};
 ghost use Rattle.t1_algebra.specs.Conflicts.{ShellDiffers, CodeDiffers, GlyphDiffers, agrees, codes_of_both, keys_of_both, code_clashes, glyph_clashes};
 ghost use Rattle.t1_algebra.specs.Conflicts.{glyphs_of_both, component_clashes, subr_clashes, lacks_component, subr_differs, states_conflicts, conflicts};
-ghost use Rattle.t1_run.specs.{Budgets.{Takes, HasFewer}, declared.budget.Stop.TheVariants.{TooManyTokens}};
-ghost use Rattle.t1_subset.specs.{Budgets.{font_least, font_tokens, fonts_least, fonts_tokens, IsEnough}, Differences.{shell_part}, References.{IsNoted}};
+ghost use Rattle.t1_run.specs.{Budgets.{Spends, HasFewer}, declared.budget.Stop.TheVariants.{TooManyTokens}};
+ghost use Rattle.t1_subset.specs.{Budgets.{font_tokens, fonts_least, fonts_tokens, IsEnough, StopsWithin}, Differences.{shell_part}, References.{IsNoted}};
 ghost use Rattle.t1_subset.specs.Refusals.{Adds, AddsOne, TellEach};
 ghost use Rattle.std.specs.FinMap as maps;
 
@@ -38,7 +38,7 @@ fn side_of<'t, 'a>(
 ) -> Result<Side<'t, 'a>, Stop>
     ensures font { IfOk result (λ side. side.references.font.now ≡ font.now) }
     ensures noted { IfOk result (λ side. IsNoted side.references side.states) }
-    ensures takes { OnOk result (Takes (font_least font.now) (font_tokens font.now) budget.old.left budget.new.left) }
+    ensures takes { OnOk result (Spends (font_tokens font.now) budget.old.left budget.new.left) }
     ensures refused { IfErr result (λ e. e ≡ TooManyTokens
         → HasFewer budget.old.left (font_tokens font.now)) }
 {
@@ -346,9 +346,9 @@ fn all_conflicts(
     Ok(all)
 }
 
-/// The same as [`conflicts`] within a budget, out of which each run takes its tokens. It is refused with [`Stop::TooManyTokens`] only
-/// if the runs of all glyphs of both fonts execute more. Each glyph is run once, or twice if the two answers after OtherSubr 3 lead to
-/// different runs, or not at all if the one before it has the same charstring.
+/// The same as [`conflicts`] within a budget, out of which each run takes its tokens. It is refused with [`Stop::TooManyTokens`] if the
+/// runs of the glyphs of both fonts execute more than are left. Each glyph is run once, and once more if it runs OtherSubr 3, or not at
+/// all if the one before it has the same charstring.
 pub fn conflicts_within<'a>(
     alloc: Global,
     left: &Font<'a>,
@@ -357,6 +357,7 @@ pub fn conflicts_within<'a>(
 ) -> Result<Vec<Conflict>, Stop>
     ensures all { IfOk result (λ all. TellEach all.items (conflicts profile left.now right.now)) }
     ensures joins { IfOk result (λ all. (all.items ≡ []) ↔ Join profile left.now right.now) }
+    ensures within { StopsWithin budget.left (fonts_tokens (left.now ∷ right.now ∷ [])) result }
     ensures enough { OnOk result (IsEnough budget.left (fonts_least (left.now ∷ right.now ∷ []))) }
     ensures refused { IfErr result (λ e. e ≡ TooManyTokens
         → HasFewer budget.left (fonts_tokens (left.now ∷ right.now ∷ []))) }

@@ -4,8 +4,8 @@ ghost use Rattle.std.specs.{Prelude.{◌≡◌, ◌++◌, ◌∷◌, [], IfOk, I
 ghost use Rattle.t1_font.specs.IsFont.{IsFont};
 ghost use Rattle.t1_algebra.specs.{Profile.{profile}, Conflicts.{shell_conflict, conflict, shell_conflict_among, shells_conflict}, StateTables.{states_of}};
 ghost use Rattle.t1_subset.specs.{Differences.{shell_part}, References.{AreNoted, fonts_of}, Merger.{NotMerged, FirstShare}, Refusals.{Tells}};
-ghost use Rattle.t1_subset.specs.{declared.conflict.Conflict.TheVariants.{Memory}, Budgets.{fonts_least, fonts_tokens}};
-ghost use Rattle.t1_run.specs.{Budgets.{Takes, HasFewer}, declared.budget.Stop.TheVariants.{TooManyTokens}};
+ghost use Rattle.t1_subset.specs.{declared.conflict.Conflict.TheVariants.{Memory}, Budgets.{fonts_tokens}};
+ghost use Rattle.t1_run.specs.{Budgets.{Spends, HasFewer}, declared.budget.Stop.TheVariants.{TooManyTokens}};
 
 use crate::conflict::{Conflict, ShellPart};
 use crate::references::References;
@@ -119,8 +119,8 @@ pub(crate) fn note_fonts<'t, 'a>(
     ensures fonts { IfOk result (λ n. fonts_of n.0.items ≡ map (λ f. f.now) fonts.now) }
     ensures noted { IfOk result (λ n. AreNoted n.0.items) }
     ensures states { IfOk result (λ n. n.1.items ≡ map (states_of profile) (fonts_of n.0.items)) }
-    ensures takes { OnOk result (Takes (fonts_least (map (λ f. f.now) fonts.now))
-        (fonts_tokens (map (λ f. f.now) fonts.now)) budget.old.left budget.new.left) }
+    ensures takes { OnOk result (Spends (fonts_tokens (map (λ f. f.now) fonts.now))
+        budget.old.left budget.new.left) }
     ensures refused { IfErr result (λ e. e ≡ TooManyTokens
         → HasFewer budget.old.left (fonts_tokens (map (λ f. f.now) fonts.now))) }
 {

@@ -3,8 +3,8 @@
 ghost use Rattle.std.specs.{Prelude.{◌≡◌, ◌<◌, ℕ, IfOk, IfErr, OnOk}, Option.{option_map}};
 ghost use Rattle.t1_font.specs.FontValue.{declared_count};
 ghost use Rattle.t1_algebra.specs.Lacks.{user_of, is_had, lack_at, lack_in, first_lack};
-ghost use Rattle.t1_subset.specs.{Lacks.{lack_view, have_same_subrs}, Users.{user_at}, Budgets.{font_least, font_tokens, fonts_tokens}};
-ghost use Rattle.t1_run.specs.{Budgets.{Takes, HasFewer}, declared.budget.Stop.TheVariants.{TooManyTokens}};
+ghost use Rattle.t1_subset.specs.{Lacks.{lack_view, have_same_subrs}, Users.{user_at}, Budgets.{font_tokens, rejoin_tokens, lack_tokens, StopsWithin}};
+ghost use Rattle.t1_run.specs.{Budgets.{Spends, HasFewer}, declared.budget.Stop.TheVariants.{TooManyTokens}};
 
 use crate::state_making::uses_of;
 use crate::users::{UserArray, first_user, reached_below};
@@ -92,7 +92,7 @@ fn lack_in<'a>(
     budget: &mut Budget,
 ) -> Result<Option<Lack<'a>>, Stop>
     ensures lack { IfOk result (λ lack. option_map lack_view lack ≡ lack_in fonts.now font.now) }
-    ensures takes { OnOk result (Takes (font_least font.now) (font_tokens font.now) budget.old.left budget.new.left) }
+    ensures takes { OnOk result (Spends (font_tokens font.now) budget.old.left budget.new.left) }
     ensures refused { IfErr result (λ e. e ≡ TooManyTokens
         → HasFewer budget.old.left (font_tokens font.now)) }
 {
@@ -100,28 +100,16 @@ fn lack_in<'a>(
     Ok(lack_by(fonts, font, &uses.users))
 }
 
-/// The first of the fonts that has a glyph that executes a Subr that the font declares and lacks and that another of the fonts has:
-/// the smallest such index, and the smallest such glyph. If a stub stood there, the glyph would draw something else.
-///
-/// If all fonts have Subrs at the same indices, none lacks any, and no glyph is run.
-///
-/// # Errors
-///
-/// Want of memory, and [`Stop::TooManyTokens`] only if the budget doesn't cover all glyphs of the fonts.
-pub fn first_lack<'a>(
+/// The first of the fonts that has a glyph that executes a Subr that the font declares and lacks and that another of the fonts has, by
+/// the runs of all glyphs of the fonts up to it, within a budget.
+pub(crate) fn lack_by_runs<'a>(
     alloc: Global,
     fonts: &[Font<'a>],
     budget: Budget,
 ) -> Result<Option<Lack<'a>>, Stop>
     ensures lack { IfOk result (λ lack. option_map lack_view lack ≡ first_lack fonts.now) }
-    ensures refused { IfErr result (λ e. e ≡ TooManyTokens
-        → HasFewer budget.left (fonts_tokens fonts.now)) }
+    ensures within { StopsWithin budget.left (rejoin_tokens fonts.now) result }
 {
-    if let [first, ..] = fonts {
-        if have_same_subrs(first, fonts) {
-            return Ok(None);
-        }
-    }
     let mut left = budget;
     'fonts: for font in fonts {
         if let Some(lack) = lack_in(alloc, fonts, font, &mut left)? {
@@ -129,4 +117,30 @@ pub fn first_lack<'a>(
         }
     }
     Ok(None)
+}
+
+/// The first of the fonts that has a glyph that executes a Subr that the font declares and lacks and that another of the fonts has:
+/// the smallest such index, and the smallest such glyph. If a stub stood there, the glyph would draw something else.
+///
+/// If all fonts have Subrs at the same indices, none lacks any, and no glyph is run. Else the glyphs of the fonts are run up to the
+/// first that lacks a Subr.
+///
+/// # Errors
+///
+/// Want of memory, and [`Stop::TooManyTokens`] if these runs execute more tokens than are left in the budget.
+pub fn first_lack<'a>(
+    alloc: Global,
+    fonts: &[Font<'a>],
+    budget: Budget,
+) -> Result<Option<Lack<'a>>, Stop>
+    ensures lack { IfOk result (λ lack. option_map lack_view lack ≡ first_lack fonts.now) }
+    ensures within { StopsWithin budget.left (lack_tokens fonts.now) result }
+{
+    let [first, ..] = fonts else {
+        return Ok(None);
+    };
+    if have_same_subrs(first, fonts) {
+        return Ok(None);
+    }
+    lack_by_runs(alloc, fonts, budget)
 }

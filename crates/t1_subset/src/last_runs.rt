@@ -1,9 +1,9 @@
 //! The runs of the glyphs of a closure, one behind another. A glyph that has the charstring of the one before it isn't run again.
 
 ghost use Rattle.std.specs.{Prelude.{◌≡◌, ℕ, map, None, IfErr, IfSome, OnOk}, Option.{option_map}};
-ghost use Rattle.t1_run.specs.{Budgets.{Takes, HasFewer}, declared.budget.Stop.TheVariants.{TooManyTokens}};
+ghost use Rattle.t1_run.specs.{Budgets.{Spends, HasFewer}, declared.budget.Stop.TheVariants.{TooManyTokens}};
 ghost use Rattle.t1_algebra.specs.{Keep.{components, charstring}, Profile.{profile, set_of}};
-ghost use Rattle.t1_subset.specs.{Budgets.{longer_tokens, glyph_tokens}, References.{same_charstring}, LastRuns.{IsBetween, WasRun}};
+ghost use Rattle.t1_subset.specs.{Budgets.{glyph_tokens}, References.{same_charstring}, LastRuns.{WasRun}};
 ghost use Rattle.std.specs.FinSet as sets;
 
 use crate::calls::run_of;
@@ -36,9 +36,9 @@ pub(crate) struct LastRun<'a> {
 
 /// The tokens that were taken out of what was left.
 fn taken(before: Option<u64>, after: Option<u64>) -> u64
-    ensures { (least most : ℕ)
-        → Takes least most before after
-        → IfSome after (IsBetween least most result) }
+    ensures { (tokens : ℕ)
+        → Spends tokens before after
+        → IfSome after (λ _. result ≡ tokens) }
 {
     match (before, after) {
         (Some(before), Some(after)) => before.saturating_sub(after),
@@ -48,7 +48,7 @@ fn taken(before: Option<u64>, after: Option<u64>) -> u64
 
 /// Takes tokens out of a budget for runs that are left out.
 fn take(budget: &mut Budget, tokens: u64) -> Result<(), Stop>
-    ensures takes { OnOk result (Takes tokens tokens budget.old.left budget.new.left) }
+    ensures takes { OnOk result (Spends tokens budget.old.left budget.new.left) }
     ensures refused { IfErr result (λ e. (e ≡ TooManyTokens) × HasFewer budget.old.left tokens) }
 {
     if let Some(left) = budget.left {
@@ -89,8 +89,7 @@ impl<'a> LastRun<'a> {
         ensures calls { OnOk result (set_of calls.new
             ≡ sets.union (set_of calls.old)
             (profile.exec font.now.subrs (charstring font.now name.now))) }
-        ensures takes { OnOk result (Takes (longer_tokens font.now name.now) (glyph_tokens font.now name.now)
-            budget.old.left budget.new.left) }
+        ensures takes { OnOk result (Spends (glyph_tokens font.now name.now) budget.old.left budget.new.left) }
         ensures refused { IfErr result (λ e. e ≡ TooManyTokens
             → HasFewer budget.old.left (glyph_tokens font.now name.now)) }
     {

@@ -3,9 +3,9 @@
 ghost use Rattle.std.specs.Prelude.{◌≡◌, ◌<◌, length, map, OnOk, IfOk, IfErr};
 ghost use Rattle.t1_algebra.specs.{Profile.{profile}, States.{Join, joined_font}, Conflicts.{conflict}, StateTables.{states_of}};
 ghost use Rattle.t1_algebra.specs.Merges.{DrawsBoth, DrawsAll, ComesTo};
-ghost use Rattle.t1_subset.specs.{Refusals.{Tells}, declared.conflict.Conflict.TheVariants.{Empty}, References.{AreNoted, fonts_of}};
+ghost use Rattle.t1_subset.specs.{Refusals.{Tells}, declared.conflict.Conflict.TheVariants.{Memory, Empty}, References.{AreNoted, fonts_of}};
 ghost use Rattle.t1_subset.specs.declared.budgets.BudgetFault.TheVariants.{TooManyTokens};
-ghost use Rattle.t1_subset.specs.Budgets.{fonts_least, fonts_tokens, IsEnough, OnPlain, IsMergerOf, IsMergerOfFonts, TriesWithin};
+ghost use Rattle.t1_subset.specs.Budgets.{fonts_least, fonts_tokens, merge_tokens, IsEnough, IsWithin, OnPlain, IsMergerOf, IsMergerOfFonts};
 ghost use Rattle.t1_subset.specs.Merger.{IsMerger, MergesItself, NotMerged, AcceptsAllJoin, MergesInAnyOrder, MergesSubsets, MergesAllSubsets};
 ghost use Rattle.t1_run.specs.Budgets.{HasFewer};
 
@@ -44,7 +44,7 @@ pub(crate) fn merge_noted<'a>(
 
 /// The join of one or more fonts, or the first conflict from left to right, within a budget. If the first two don't share what they
 /// have to, no glyph is run.
-#[tactic(auto, using(crate::proofs::Plain::no_memory, crate::proofs::Tokens::takes_enough))]
+#[tactic(auto, using(crate::proofs::Plain::no_memory, crate::proofs::Tokens::spends_enough, crate::proofs::Within::shared_enough, crate::proofs::Within::shared_fewer))]
 fn merge_lent<'a>(
     alloc: Global,
     fonts: &[&Font<'a>],
@@ -52,7 +52,7 @@ fn merge_lent<'a>(
 ) -> Result<Font<'a>, BudgetFault<Conflict>>
     requires { 0 < length fonts.now }
     ensures merges { OnPlain result (IsMergerOf (map (λ f. f.now) fonts.now)) }
-    ensures tried { OnPlain result (λ r. IfErr r (TriesWithin budget.left (map (λ f. f.now) fonts.now))) }
+    ensures within { IsWithin Memory budget.left (merge_tokens (map (λ f. f.now) fonts.now)) result }
     ensures enough { OnOk result (IsEnough budget.left (fonts_least (map (λ f. f.now) fonts.now))) }
     ensures refused { IfErr result (λ e. e ≡ TooManyTokens
         → HasFewer budget.left (fonts_tokens (map (λ f. f.now) fonts.now))) }
@@ -124,7 +124,7 @@ fn merge_list<'a>(
     budget: Budget,
 ) -> Result<Font<'a>, BudgetFault<Conflict>>
     ensures merges { OnPlain result (IsMergerOfFonts fonts.now) }
-    ensures tried { OnPlain result (λ r. IfErr r (TriesWithin budget.left fonts.now)) }
+    ensures within { IsWithin Memory budget.left (merge_tokens fonts.now) result }
     ensures enough { OnOk result (IsEnough budget.left (fonts_least fonts.now)) }
     ensures refused { IfErr result (λ e. e ≡ TooManyTokens
         → HasFewer budget.left (fonts_tokens fonts.now)) }
@@ -139,9 +139,10 @@ fn merge_list<'a>(
 }
 
 /// The same as [`merge_all`] within a budget, out of which each run takes its tokens. It is refused with
-/// [`BudgetFault::TooManyTokens`] only if the runs of all glyphs of all fonts execute more. Each glyph is run once, or twice if the
-/// two answers after OtherSubr 3 lead to different runs, or not at all if the one before it has the same charstring; no glyph is run
-/// if the shells of the first two fonts differ. Else it answers what [`merge_all`] answers.
+/// [`BudgetFault::TooManyTokens`] if the runs of the glyphs of all fonts execute more than are left. Each glyph is run once, and once
+/// more if it runs OtherSubr 3, or not at all if the one before it has the same charstring; no glyph is run if the shells of the first
+/// two fonts differ. Else it answers what [`merge_all`] answers; a conflict is told only if the runs of all fonts are within the
+/// budget.
 pub fn merge_all_within<'a>(
     alloc: Global,
     fonts: &[Font<'a>],
@@ -153,7 +154,7 @@ pub fn merge_all_within<'a>(
     ensures any_order { OnPlain result (MergesInAnyOrder fonts.now) }
     ensures draws { IfOk result (λ j. DrawsAll fonts.now j) }
     ensures subsets { OnPlain result (MergesAllSubsets fonts.now) }
-    ensures tried { OnPlain result (λ r. IfErr r (TriesWithin budget.left fonts.now)) }
+    ensures within { IsWithin Memory budget.left (merge_tokens fonts.now) result }
     ensures enough { OnOk result (IsEnough budget.left (fonts_least fonts.now)) }
     ensures refused { IfErr result (λ e. e ≡ TooManyTokens
         → HasFewer budget.left (fonts_tokens fonts.now)) }

@@ -2,8 +2,8 @@
 
 ghost use Rattle.std.specs.Prelude.{◌≡◌, IfOk, IfErr, OnOk};
 ghost use Rattle.t1_algebra.specs.{Profile.{profile}, Keep.{keep, kept, IsOf}};
-ghost use Rattle.t1_subset.specs.{Calls.{number_set}, NameSets.{asked}, Budgets.{kept_longer, kept_tokens}};
-ghost use Rattle.t1_run.specs.{Budgets.{Takes, HasFewer}, declared.budget.Stop.TheVariants.{TooManyTokens}};
+ghost use Rattle.t1_subset.specs.{Calls.{number_set}, NameSets.{asked}, Budgets.{kept_tokens}};
+ghost use Rattle.t1_run.specs.{Budgets.{Spends, HasFewer}, declared.budget.Stop.TheVariants.{TooManyTokens}};
 ghost use Rattle.std.specs.FinSet as sets;
 
 use crate::calls::first_four;
@@ -39,8 +39,8 @@ pub(crate) fn needed<'a>(
     ensures names { IfOk result (λ r. sets.from_list r.0
         ≡ keep profile font.now (asked names.now)) }
     ensures subrs { IfOk result (λ r. number_set r.1 ≡ kept profile font.now (asked names.now)) }
-    ensures takes { OnOk result (Takes (kept_longer font.now (asked names.now))
-        (kept_tokens font.now (asked names.now)) budget.old.left budget.new.left) }
+    ensures takes { OnOk result (Spends (kept_tokens font.now (asked names.now))
+        budget.old.left budget.new.left) }
     ensures refused { IfErr result (λ e. e ≡ TooManyTokens
         → HasFewer budget.old.left (kept_tokens font.now (asked names.now))) }
 {

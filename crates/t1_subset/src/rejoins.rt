@@ -5,14 +5,15 @@ ghost use Rattle.t1_font.specs.{Normalizing.{filled, filled_all, indices_of_all}
 ghost use Rattle.t1_algebra.specs.{Profile.{profile}, StateTables.{states_of}, Lacks.{lack_in, first_lack}};
 ghost use Rattle.t1_subset.specs.{References.{AreReferencesOf, AreNoted, fonts_of}, Lacks.{lack_view}, Refusals.{Tells}};
 ghost use Rattle.t1_subset.specs.{Rejoins.{heavy_conflict, TellsLack, Rejoin, NotRejoined}, declared.budgets.BudgetFault.TheVariants.{Plain, TooManyTokens}};
-ghost use Rattle.t1_subset.specs.Budgets.{font_least, font_tokens, fonts_least, fonts_tokens, IsEnough, OnPlain, RejoinTriesWithin};
-ghost use Rattle.t1_run.specs.Budgets.{Takes, HasFewer};
+ghost use Rattle.t1_subset.specs.Budgets.{font_tokens, fonts_least, fonts_tokens, rejoin_tokens, IsEnough, RefusedWithin, IsWithin, OnPlain};
+ghost use Rattle.t1_subset.specs.{declared.conflict.Conflict.TheVariants.{Memory}, declared.fault.RejoinFault.TheVariants.{Merge}};
+ghost use Rattle.t1_run.specs.Budgets.{Spends, HasFewer};
 
 use crate::budgets::BudgetFault;
 use crate::conflict::Conflict;
 use crate::fault::RejoinFault;
 use crate::groupings::{keep, shells_conflict};
-use crate::lacks::{Lack, first_lack, lack_by};
+use crate::lacks::{Lack, lack_by, lack_by_runs};
 use crate::merger::merge_noted;
 use crate::references::References;
 use crate::shared::Shared;
@@ -64,9 +65,9 @@ fn heavy_conflict(alloc: Global, fonts: &[Font<'_>]) -> Conflict
 fn too_heavy(alloc: Global, fonts: &[Font<'_>], budget: Budget) -> BudgetFault<RejoinFault>
     requires { AnyHeavy (filled_all fonts.now) }
     ensures told { (e : RejoinFault) → result ≡ Plain e → NotRejoined fonts.now e }
-    ensures refused { result ≡ TooManyTokens → HasFewer budget.left (fonts_tokens fonts.now) }
+    ensures within { RefusedWithin (Merge Memory) budget.left (rejoin_tokens fonts.now) result }
 {
-    match first_lack(alloc, fonts, budget) {
+    match lack_by_runs(alloc, fonts, budget) {
         Ok(Some(lack)) => BudgetFault::Plain(lacking(alloc, lack)),
         Ok(None) => BudgetFault::Plain(RejoinFault::Merge(heavy_conflict(alloc, fonts))),
         Err(stop) => BudgetFault::from(stop),
@@ -88,9 +89,8 @@ fn note_filled<'t, 'a>(
     ensures states { IfOk result (λ n. n.1 ≡ states_of profile full.now) }
     ensures none { IfOk result (λ _. lack_in fonts.now font.now ≡ None) }
     ensures lack { OnPlain result (λ r. IfErr r (λ e. TellsLack e (lack_in fonts.now font.now))) }
-    ensures takes { OnOk result (Takes (font_least font.now) (font_tokens font.now) budget.old.left budget.new.left) }
-    ensures refused { IfErr result (λ e. e ≡ TooManyTokens
-        → HasFewer budget.old.left (font_tokens font.now)) }
+    ensures takes { OnOk result (Spends (font_tokens font.now) budget.old.left budget.new.left) }
+    ensures within { IfErr result (RefusedWithin (Merge Memory) budget.old.left (font_tokens font.now)) }
 {
     let uses = uses_of(alloc, font, budget)?;
     if let Some(lack) = lack_by(fonts, font, &uses.users) {
@@ -114,9 +114,7 @@ fn note_each<'t, 'a>(
     ensures states { IfOk result (λ n. n.1.items ≡ map (states_of profile) (fonts_of n.0.items)) }
     ensures none { IfOk result (λ _. first_lack fonts.now ≡ None) }
     ensures lack { OnPlain result (λ r. IfErr r (λ e. TellsLack e (first_lack fonts.now))) }
-    ensures enough { OnOk result (IsEnough budget.left (fonts_least fonts.now)) }
-    ensures refused { IfErr result (λ e. e ≡ TooManyTokens
-        → HasFewer budget.left (fonts_tokens fonts.now)) }
+    ensures within { IsWithin (Merge Memory) budget.left (rejoin_tokens fonts.now) result }
 {
     let mut left = budget;
     let mut references = Vec::with_capacity(alloc, full.len())?;
@@ -134,7 +132,7 @@ fn note_each<'t, 'a>(
 }
 
 /// The join of fonts that are filled, if no glyph executes a Subr that its font lacked and another has, within a budget.
-#[tactic(auto, using(crate::proofs::Trying::lack_tried, crate::proofs::Plain::plain_err))]
+#[tactic(auto, using(crate::proofs::LackTokens::rejoined_enough, crate::proofs::LackTokens::refused_of_all, crate::proofs::Plain::plain_err))]
 fn merge_filled<'a>(
     alloc: Global,
     fonts: &[Font<'a>],
@@ -146,7 +144,7 @@ fn merge_filled<'a>(
     requires light { AreLight full.now }
     ensures ok { IfOk result (λ j. Rejoin fonts.now j) }
     ensures err { OnPlain result (λ r. IfErr r (λ e. NotRejoined fonts.now e)) }
-    ensures tried { OnPlain result (λ r. IfErr r (RejoinTriesWithin budget.left fonts.now)) }
+    ensures within { IsWithin (Merge Memory) budget.left (rejoin_tokens fonts.now) result }
     ensures enough { OnOk result (IsEnough budget.left (fonts_least fonts.now)) }
     ensures refused { IfErr result (λ e. e ≡ TooManyTokens
         → HasFewer budget.left (fonts_tokens fonts.now)) }
@@ -162,10 +160,10 @@ fn merge_filled<'a>(
 }
 
 /// The same as [`rejoin`] within a budget, out of which each run takes its tokens. It is refused with
-/// [`BudgetFault::TooManyTokens`] only if the runs of all glyphs of all fonts, as they are before they are filled, execute more. Each
-/// glyph is run once, or twice if the two answers after OtherSubr 3 lead to different runs, or not at all if the one before it has the
-/// same charstring. Else it answers what [`rejoin`] answers.
-#[tactic(auto, using(crate::proofs::Trying::none_tried, crate::proofs::Rejoining::light_or_heavy))]
+/// [`BudgetFault::TooManyTokens`] if the runs of the glyphs of the fonts, as they are before they are filled, execute more than are
+/// left, up to and with the first font that lacks a Subr. Each glyph is run once, and once more if it runs OtherSubr 3, or not at all
+/// if the one before it has the same charstring. Else it answers what [`rejoin`] answers, and only if these runs are within the budget.
+#[tactic(auto, using(crate::proofs::LackTokens::none_rejoined, crate::proofs::LackTokens::refused_of_all, crate::proofs::Rejoining::light_or_heavy))]
 pub fn rejoin_within<'a>(
     alloc: Global,
     sources: &'a [Source],
@@ -174,7 +172,7 @@ pub fn rejoin_within<'a>(
 ) -> Result<Font<'a>, BudgetFault<RejoinFault>>
     ensures ok { IfOk result (λ j. Rejoin sources.now j) }
     ensures err { OnPlain result (λ r. IfErr r (λ e. NotRejoined sources.now e)) }
-    ensures tried { OnPlain result (λ r. IfErr r (RejoinTriesWithin budget.left sources.now)) }
+    ensures within { IsWithin (Merge Memory) budget.left (rejoin_tokens sources.now) result }
     ensures enough { OnOk result (IsEnough budget.left (fonts_least sources.now)) }
     ensures refused { IfErr result (λ e. e ≡ TooManyTokens
         → HasFewer budget.left (fonts_tokens sources.now)) }

@@ -2,8 +2,8 @@
 
 ghost use Rattle.std.specs.Prelude.{◌≡◌, Some, IfOk, IfErr, OnOk};
 ghost use Rattle.t1_algebra.specs.{Profile.{profile}, StateTables.{states_of}, Shared.{shared_of}};
-ghost use Rattle.t1_run.specs.{Budgets.{Takes, HasFewer}, declared.budget.Stop.TheVariants.{TooManyTokens}};
-ghost use Rattle.t1_subset.specs.{Budgets.{font_least, font_tokens}, References.{AreUsesOf, AreReferencesOf, RunAlike}};
+ghost use Rattle.t1_run.specs.{Budgets.{Spends, HasFewer}, declared.budget.Stop.TheVariants.{TooManyTokens}};
+ghost use Rattle.t1_subset.specs.{Budgets.{font_tokens}, References.{AreUsesOf, AreReferencesOf, RunAlike}};
 
 use crate::calls::run_alone;
 use crate::last_runs::is_again;
@@ -33,7 +33,7 @@ pub(crate) fn uses_of<'a>(
     budget: &mut Budget,
 ) -> Result<Uses<'a>, Stop>
     ensures uses { IfOk result (λ uses. AreUsesOf uses font.now) }
-    ensures takes { OnOk result (Takes (font_least font.now) (font_tokens font.now) budget.old.left budget.new.left) }
+    ensures takes { OnOk result (Spends (font_tokens font.now) budget.old.left budget.new.left) }
     ensures refused { IfErr result (λ e. e ≡ TooManyTokens
         → HasFewer budget.old.left (font_tokens font.now)) }
 {
@@ -117,7 +117,7 @@ pub(crate) fn note_font<'t, 'a>(
     ensures font { IfOk result (λ n. n.0.font.now ≡ font.now) }
     ensures references { IfOk result (λ n. AreReferencesOf n.0 font.now) }
     ensures states { IfOk result (λ n. n.1 ≡ states_of profile font.now) }
-    ensures takes { OnOk result (Takes (font_least font.now) (font_tokens font.now) budget.old.left budget.new.left) }
+    ensures takes { OnOk result (Spends (font_tokens font.now) budget.old.left budget.new.left) }
     ensures refused { IfErr result (λ e. e ≡ TooManyTokens
         → HasFewer budget.old.left (font_tokens font.now)) }
 {

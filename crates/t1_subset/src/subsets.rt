@@ -3,7 +3,8 @@
 ghost use Rattle.std.specs.{Prelude.{◌≡◌, IfOk, IfErr, OnOk, None, not, List, ℕ, true}, List.{find}};
 ghost use Rattle.t1_algebra.specs.{Profile.{profile}, Keep.{has, keep, subset}, Alike.{DrawsAlike}};
 ghost use Rattle.t1_subset.specs.{NameSets.{lent, asked}, Refusals.{Absent}, declared.budgets.BudgetFault.TheVariants.{TooManyTokens}};
-ghost use Rattle.t1_subset.specs.Budgets.{kept_longer, kept_tokens, IsEnough, OnPlain};
+ghost use Rattle.t1_subset.specs.Budgets.{kept_longer, kept_tokens, subset_tokens, IsEnough, IsWithin, OnPlain};
+ghost use Rattle.t1_subset.specs.declared.fault.SubsetFault.TheVariants.{Memory};
 ghost use Rattle.t1_run.specs.Budgets.{HasFewer};
 ghost use Rattle.std.specs.FinSet as sets;
 
@@ -14,11 +15,10 @@ use std::alloc::Global;
 use t1_font::{Font, restrict};
 use t1_run::Budget;
 
-/// The same as [`subset`] within a budget: no more tokens are executed in all than are left in it, and it is refused with
-/// [`BudgetFault::TooManyTokens`] only if the runs of the glyphs that are kept execute more. Each glyph that is kept is run once, or
-/// twice if the two answers after OtherSubr 3 lead to different runs. If it has the charstring of the one before it, in the order in
-/// which they are met, it isn't run, and the tokens that the one before it took are taken once more. Else it answers what [`subset`]
-/// answers.
+/// The same as [`subset`] within a budget: it is refused with [`BudgetFault::TooManyTokens`] if the font has all names, and the runs of
+/// the glyphs that are kept execute more tokens than are left in it. Each glyph that is kept is run once, and once more if it runs
+/// OtherSubr 3. If it has the charstring of the one before it, in the order in which they are met, it isn't run, and the tokens that the
+/// one before it took are taken once more. Else it answers what [`subset`] answers; a name that is absent is told whatever is left.
 pub fn subset_within<'a>(
     alloc: Global,
     font: &Font<'a>,
@@ -33,6 +33,7 @@ pub fn subset_within<'a>(
         ≡ None) }
     ensures absent { OnPlain result (λ r. IfErr r
         (λ e. Absent e (find (λ n. not (has font.now n)) (lent names.now)))) }
+    ensures within { IsWithin Memory budget.left (subset_tokens font.now (lent names.now)) result }
     ensures enough { OnOk result (IsEnough budget.left (kept_longer font.now (asked names.now))) }
     ensures refused { IfErr result (λ e. e ≡ TooManyTokens
         → HasFewer budget.left (kept_tokens font.now (asked names.now))) }

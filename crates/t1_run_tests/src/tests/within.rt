@@ -9,6 +9,9 @@ use t1_run::{Budget, Stop, SubrSet, parts_and_executed, parts_and_executed_withi
 // `0 500 hsbw 0 20 hstem 7 4 callsubr`: 20 tokens with the endchar, or 17 where hints are kept.
 const HINTS: [u8; 10] = [0x8B, 0xF8, 0x88, 0x0D, 0x8B, 0x9F, 0x01, 0x92, 0x8F, 0x0A];
 
+// `0 500 hsbw 3 4 callsubr`: 14 tokens with the endchar, by either answer, which are both 3.
+const SAME_HINTS: [u8; 7] = [0x8B, 0xF8, 0x88, 0x0D, 0x8E, 0x8F, 0x0A];
+
 // A glyph's beginning, its dotsections and its end; what is left before it, and after it, or nothing if it is refused.
 type Row = (
     &'static [u8],
@@ -18,7 +21,7 @@ type Row = (
     Option<Option<u64>>,
 );
 
-const ROWS: [Row; 17] = [
+const ROWS: [Row; 19] = [
     (b"", 0, b"", Some(0), Some(Some(0))),
     (&WIDTH, 0, b"\x0e", Some(4), Some(Some(0))),
     (&WIDTH, 0, b"\x0e", Some(5), Some(Some(1))),
@@ -43,6 +46,8 @@ const ROWS: [Row; 17] = [
     (&HINTS, 0, b"\x0e", Some(20), None),
     (&HINTS, 0, b"\x0e", Some(19), None),
     (&HINTS, 0, b"\x0e", None, Some(None)),
+    (&SAME_HINTS, 0, b"\x0e", Some(28), Some(Some(0))),
+    (&SAME_HINTS, 0, b"\x0e", Some(27), None),
 ];
 
 // Whether a glyph is answered so within that budget, and, where it is, as it is without one.

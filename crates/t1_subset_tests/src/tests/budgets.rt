@@ -1,7 +1,7 @@
 //! Subsets, mergers and rejoined fonts within budgets of tokens.
 
 use super::fonts::{ACCENTED, SHELL, Shell, whole, with_glyph, with_shell};
-use super::lacks::sources;
+use super::lacks::{FIVE, Made, lacking, sources};
 use std::alloc::{AllocError, Global};
 use std::test::Fail;
 use t1_subset::{
@@ -128,8 +128,10 @@ fn differs_within_budgets(rt: HostRuntime) -> Result<(), Fail> {
     assert!(rt; differs_within(alloc, two, Some(2 * ALL))? == Answer::Made);
     assert!(rt; differs_within(alloc, two, Some(2 * ALL - 1))? == Answer::TooMany);
     assert!(rt; differs_within(alloc, two, None)? == Answer::Made);
+    // The other A, of one token, is 11 tokens shorter.
     let unlike = [file.as_slice(), other.as_slice()];
-    assert!(rt; differs_within(alloc, unlike, Some(2 * ALL))? == Answer::Refused);
+    assert!(rt; differs_within(alloc, unlike, Some(2 * ALL - 11))? == Answer::Refused);
+    assert!(rt; differs_within(alloc, unlike, Some(2 * ALL - 12))? == Answer::TooMany);
     assert!(rt; differs_within(alloc, unlike, Some(0))? == Answer::TooMany);
     Ok(())
 }
@@ -163,10 +165,18 @@ fn refuses_within_budgets(rt: HostRuntime) -> Result<(), Fail> {
     let shell = with_shell(alloc, &TAIL)?;
     let glyph = with_glyph(alloc, 9, (b"acute", ACCENTED))?;
     let shells = [file.as_slice(), shell.as_slice()];
+    let third = [file.as_slice(), file.as_slice(), shell.as_slice()];
+    // The other acute, of nine tokens, is three tokens shorter.
     let glyphs = [file.as_slice(), glyph.as_slice()];
     assert!(rt; merged_within(alloc, &shells, Some(0))? == Answer::Refused);
-    assert!(rt; merged_within(alloc, &glyphs, Some(2 * ALL))? == Answer::Refused);
-    assert!(rt; merged_within(alloc, &glyphs, Some(ALL))? == Answer::TooMany);
+    assert!(rt; merged_within(alloc, &third, Some(3 * ALL))? == Answer::Refused);
+    assert!(rt; merged_within(alloc, &third, Some(3 * ALL - 1))? == Answer::TooMany);
+    assert!(rt; merged_within(alloc, &glyphs, Some(2 * ALL - 3))? == Answer::Refused);
+    assert!(rt; merged_within(alloc, &glyphs, Some(2 * ALL - 4))? == Answer::TooMany);
+    assert!(rt; rejoined_within(alloc, &shells, Some(2 * ALL))? == Answer::Refused);
+    assert!(rt; rejoined_within(alloc, &shells, Some(2 * ALL - 1))? == Answer::TooMany);
+    assert!(rt; rejoined_within(alloc, &glyphs, Some(2 * ALL - 3))? == Answer::Refused);
+    assert!(rt; rejoined_within(alloc, &glyphs, Some(2 * ALL - 4))? == Answer::TooMany);
     Ok(())
 }
 
@@ -183,5 +193,54 @@ fn rejoins_within_budgets(rt: HostRuntime) -> Result<(), Fail> {
     assert!(rt; rejoined_within(alloc, &two, Some(2 * ALL - 1))? == Answer::TooMany);
     assert!(rt; rejoined_within(alloc, &two, None)? == Answer::Made);
     assert!(rt; rejoined_within(alloc, &[], Some(0))? == Answer::Refused);
+    Ok(())
+}
+
+/// The tokens of the same font without Subr 5, which P, X, Y and acute call.
+const WITHOUT_5: u64 = 121;
+
+/// A file that has so long a line before it that its font is near the greatest weight, 67,108,864: a stub is too heavy for it.
+fn near_the_limit(alloc: Global, made: &Made) -> Result<Vec<u8>, AllocError> {
+    let mut heavy = Vec::from_slice(alloc, b"%")?;
+    heavy.resize(67_104_845, b'!')?;
+    heavy.push(b'\n')?;
+    heavy.extend_from_slice(lacking(alloc, made)?.as_slice())?;
+    Ok(heavy)
+}
+
+/// Whether so many tokens are enough for fonts that are refused, and one fewer is not.
+fn is_refused_from(alloc: Global, files: &[&[u8]], tokens: u64) -> Result<bool, AllocError> {
+    let enough = rejoined_within(alloc, files, Some(tokens))?;
+    let fewer = rejoined_within(alloc, files, Some(tokens - 1))?;
+    Ok(enough == Answer::Refused && fewer == Answer::TooMany)
+}
+
+// Fonts behind the first that lacks a Subr aren't run.
+#[test]
+fn lacks_within_budgets(rt: HostRuntime) -> Result<(), Fail> {
+    let alloc = rt.alloc();
+    let all = whole(alloc)?;
+    let five = lacking(alloc, &FIVE)?;
+    let (all, five) = (all.as_slice(), five.as_slice());
+    assert!(rt; is_refused_from(alloc, &[five, all], WITHOUT_5)?);
+    assert!(rt; is_refused_from(alloc, &[all, five], ALL + WITHOUT_5)?);
+    assert!(rt; is_refused_from(alloc, &[all, five, all], ALL + WITHOUT_5)?);
+    Ok(())
+}
+
+// Fonts that are too heavy with their stubs are run as the others are.
+#[test]
+fn heavy_fonts_within_budgets(rt: HostRuntime) -> Result<(), Fail> {
+    const NONE_EXECUTES: Made = (SHELL, &[b"8", b"9"]);
+    let alloc = rt.alloc();
+    let all = whole(alloc)?;
+    let lacks = near_the_limit(alloc, &FIVE)?;
+    let heavy = near_the_limit(alloc, &NONE_EXECUTES)?;
+    let (all, lacks, heavy) = (all.as_slice(), lacks.as_slice(), heavy.as_slice());
+    assert!(rt; rejoined_within(alloc, &[heavy], Some(ALL))? == Answer::Made);
+    assert!(rt; is_refused_from(alloc, &[lacks, all], WITHOUT_5)?);
+    assert!(rt; is_refused_from(alloc, &[all, lacks], ALL + WITHOUT_5)?);
+    assert!(rt; is_refused_from(alloc, &[heavy, all], 2 * ALL)?);
+    assert!(rt; is_refused_from(alloc, &[all, heavy], 2 * ALL)?);
     Ok(())
 }

@@ -284,10 +284,16 @@ fn is_cut_off(alloc: Global, files: &[&[u8]], tokens: u64) -> Result<bool, Alloc
 // meets first_lack TooManyTokens at 2 fonts
 #[test]
 fn a_lack_within_a_budget(rt: HostRuntime) -> Result<(), Fail> {
-    let files = files(rt.alloc(), &[WHOLE, FIVE])?;
+    // 150 tokens of the whole font, and 121 of the other.
+    for (made, tokens) in [([WHOLE, FIVE], 271u64), ([FIVE, WHOLE], 121)] {
+        let files = files(rt.alloc(), &made)?;
+        let lent = lent(rt.alloc(), files.as_slice())?;
+        assert!(rt; is_cut_off(rt.alloc(), lent.as_slice(), tokens - 1)?);
+        assert!(rt; !is_cut_off(rt.alloc(), lent.as_slice(), tokens)?);
+    }
+    let files = files(rt.alloc(), &[WHOLE, WHOLE])?;
     let lent = lent(rt.alloc(), files.as_slice())?;
-    assert!(rt; is_cut_off(rt.alloc(), lent.as_slice(), 1)?);
-    assert!(rt; !is_cut_off(rt.alloc(), lent.as_slice(), 1_000)?);
+    assert!(rt; !is_cut_off(rt.alloc(), lent.as_slice(), 0)?);
     Ok(())
 }
 

@@ -1,7 +1,7 @@
 use Rattle.std.proofs.Common.{rules, sym, ap, subst, ◌∙◌, ℕ, List}
 use Rattle.t1_run.specs.{declared.answer.Hints.TheVariants.{Replaced}, Run.{Outcome, with_indices, calls_of, calls, calls3}, Budgets.{Spends}}
 use Rattle.t1_run.proofs.Indices.{with_again, first_of_more, first_after}
-use Rattle.t1_run.proofs.Taken.{one_takes, both_take, tokens_of_one, tokens_of_two, spends_then}
+use Rattle.t1_run.proofs.Taken.{tokens_of_one, tokens_of_two, spends_then}
 use Rattle.t1_run.proofs.unmarked.both_halts.Goals as goal
 
 -- both runs are one, and its indices are all
@@ -23,18 +23,6 @@ pub returns-in_err-kept-clause-some : goal.returns-in_err-kept-clause-some
 returns-in_err-kept-clause-some g c = let some =
     first_after (calls (g.S.Subroutines.subrs c.args.subrs.now) c.args.charstring.now) (calls3 (g.S.Subroutines.subrs c.args.subrs.now) c.args.charstring.now)
     c.args.called.now c.halt_of.new.called _ c.in_ok-replaced.ensures.called c.in_err-kept.ensures.some in search rules
-
--- what both runs take is what the one takes
-pub returns-then-is_one-clause-takes : goal.returns-then-is_one-clause-takes
-returns-then-is_one-clause-takes g c =
-    one_takes (g.S.Subroutines.subrs c.args.subrs.now) c.args.charstring.now c.args.budget.now.left c.halt_of.new.budget.left
-    (c.in_ok-replaced.ensures.one c.if-is_one.true) c.in_ok-replaced.ensures.takes
-
--- both runs take what is theirs
-pub returns-clause-takes : goal.returns-clause-takes
-returns-clause-takes g c =
-    both_take (g.S.Subroutines.subrs c.args.subrs.now) c.args.charstring.now c.args.budget.now.left c.halt_of.new.budget.left c.halt_of-2.new.budget.left
-    c.in_ok-replaced.ensures.takes c.in_ok-kept.ensures.takes
 
 -- one run is all
 pub returns-then-is_one-clause-spends : goal.returns-then-is_one-clause-spends

@@ -20,10 +20,10 @@ returns-clause-calls c = λ n there.
 pub returns-clause-takes : goal.returns-clause-takes
 returns-clause-takes c = λ n there.
     glyph_takes c.args.font.now c.proof_is_font.ensures n c.args.body.now there
-    c.args.budget.now.left c.parts_and_executed_within.new.budget.left c.in_ok-names.ensures.takes
+    c.args.budget.now.left c.parts_and_executed_within.new.budget.left c.in_ok-names.ensures.spends
 
 pub returns-in_err-names-clause-refused : goal.returns-in_err-names-clause-refused
 returns-in_err-names-clause-refused c =
     let fewer = λ (h : c.in_err-names.field-0.0 ≡ TooManyTokens) (n : List ℕ) (there : maps.get c.args.font.now.glyphs n ≡ Some c.args.body.now).
-    glyph_refused c.args.font.now c.proof_is_font.ensures n c.args.body.now there c.args.budget.now.left (c.in_err-names.ensures.refused h) in
+    glyph_refused c.args.font.now c.proof_is_font.ensures n c.args.body.now there c.args.budget.now.left (c.in_err-names.ensures.runs_out h).0 in
     search rules

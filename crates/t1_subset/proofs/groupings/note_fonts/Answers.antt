@@ -1,8 +1,8 @@
 use Rattle.t1_run.specs.declared.budget.Stop.TheVariants.{TooManyTokens}
 use Rattle.std.proofs.Common.{rules, ◌≡◌, ◌+◌, ◌∙◌, ap, map, sym, subst, take_all}
 use Rattle.t1_algebra.specs.{Profile.{profile}, StateTables.{states_of}}
-use Rattle.t1_run.{specs.Budgets.{Takes}, proofs.Taken.{takes_nothing}}
-use Rattle.t1_subset.specs.{References.{AreNoted, fonts_of}, Budgets.{font_least, font_tokens, fonts_least, fonts_tokens}}
+use Rattle.t1_run.{specs.Budgets.{Spends}, proofs.Taken.{spends_nothing}}
+use Rattle.t1_subset.specs.{References.{AreNoted, fonts_of}, Budgets.{font_tokens, fonts_tokens}}
 use Rattle.t1_subset.proofs.{state_tables.Walks.{noted_more, shown, shown_more}, Tokens.{takes_more, refused_on, sum_taken}}
 use Rattle.t1_subset.proofs.groupings.note_fonts.Goals as goal
 
@@ -13,7 +13,7 @@ fonts-init c = (
     noted = subst AreNoted (sym c.in_ok-references.ensures.items) tt;
     states = c.in_ok-states.ensures.items;
   },
-  takes_nothing c.args.budget.now.left,
+  spends_nothing c.args.budget.now.left,
 )
 
 pub fonts-preserved : goal.fonts-preserved
@@ -22,7 +22,7 @@ fonts-preserved c =
     let next = shown_more c.args.fonts.now c.fonts.font-index _ c.fonts-test.true c.font-item.is in (
       noted_more _ _ _ _ _ _ _ _ _ c.fonts.invariant.0 next c.proof_is_font.ensures noted.ensures.font noted.ensures.references noted.ensures.states
           c.in_ok-keep.ensures.references c.in_ok-keep.ensures.states,
-      takes_more font_tokens font_least _ _ _ _ _ _ (sym next) c.fonts.invariant.1 noted.ensures.takes,
+      takes_more font_tokens _ _ _ _ _ _ (sym next) c.fonts.invariant.1 noted.ensures.takes,
     )
 
 pub returns-clause-fonts : goal.returns-clause-fonts
@@ -33,12 +33,12 @@ returns-clause-states c = c.fonts.invariant.0.states ∙ ap (map (states_of prof
 
 pub returns-clause-takes : goal.returns-clause-takes
 returns-clause-takes c =
-    subst (λ bs. Takes (fonts_least (shown bs)) (fonts_tokens (shown bs)) c.args.budget.now.left c.fonts.budget.left)
+    subst (λ bs. Spends (fonts_tokens (shown bs)) c.args.budget.now.left c.fonts.budget.left)
     (take_all c.fonts.font-index c.args.fonts.now c.fonts-test.false) c.fonts.invariant.1
 
 pub returns-in_err-own-clause-refused : goal.returns-in_err-own-clause-refused
 returns-in_err-own-clause-refused c =
     let next = shown_more c.args.fonts.now c.fonts.font-index _ c.fonts-test.true c.font-item.is in
-    let fewer = λ (h : c.in_err-own.field-0.0 ≡ TooManyTokens). refused_on font_tokens _ _ _ _ (fonts_tokens (shown c.args.fonts.now)) _ _ (sym next)
+    let fewer = λ (h : c.in_err-own.field-0.0 ≡ TooManyTokens). refused_on font_tokens _ _ _ (fonts_tokens (shown c.args.fonts.now)) _ _ (sym next)
     (sum_taken (λ b. b.now) font_tokens (c.fonts.font-index + 1) c.args.fonts.now) c.fonts.invariant.1 (c.in_err-own.ensures.refused h) in
     search rules

@@ -3,8 +3,8 @@ use Rattle.std.proofs.Common.{rules, ◌≡◌, ℕ, ◌+◌, take, List, [], Bo
 use Rattle.t1_font.specs.FontValue.{notdef}
 use Rattle.t1_algebra.specs.{Keep.{has, charstring, components}, Profile.{profile, set_of}}
 use Rattle.std.specs.List.{sum_by}
-use Rattle.t1_run.{specs.Budgets.{Takes}, proofs.Taken.{takes_nothing}}
-use Rattle.t1_subset.specs.{ClosureNames.{push_new, push_all}, NameSets.{lent, asked}, Budgets.{longer_tokens, glyph_tokens}}
+use Rattle.t1_run.{specs.Budgets.{Spends}, proofs.Taken.{spends_nothing}}
+use Rattle.t1_subset.specs.{ClosureNames.{push_new, push_all}, NameSets.{lent, asked}, Budgets.{glyph_tokens}}
 use Rattle.t1_subset.proofs.Tokens.{closure_more, closure_takes, closure_refused}
 use Rattle.t1_subset.proofs.LastRuns.{none_ran}
 use Rattle.t1_subset.proofs.{closing.Closures.{ClosureSoFar, closure_start, closure_step, place_below, all_front, got, past}, closing.NumberSets.{calls_to, calls_step}}
@@ -20,7 +20,7 @@ closure-init c =
       subst (λ (ns : List (List ℕ)). ClosureSoFar profile f (asked c.args.names.now) ns 0) (sym start)
           (closure_start profile f (lent c.args.names.now) c.proof_is_font.ensures.glyphs.notdef c.requires),
       ap (λ (ks : List ℕ). sets.from_list {R = nat_cmp} ks) c.in_ok-calls.ensures,
-      takes_nothing c.args.budget.now.left,
+      spends_nothing c.args.budget.now.left,
       none_ran f _ _ c.none-last.result c.none-last.ensures,
     )
 
@@ -50,8 +50,8 @@ closure-preserved c =
           (sym more) (closure_step profile f (asked c.args.names.now) ns c.closure.place n c.closure.invariant.0 at.0 at.1),
       calls_step f ns c.closure.place n (set_of c.closure.calls) (set_of c.go_on.new.calls) at.0 at.1 c.closure.invariant.1 c.in_ok-go_on.ensures.calls
           ∙ ap (calls_to f) (sym (ap (take (c.closure.place + 1)) more ∙ all_front (c.closure.place + 1) found ns (omega (arith, l)))),
-      subst (λ (ns : List (List ℕ)). Takes (sum_by (longer_tokens f) (take (c.closure.place + 1) ns))
-          (sum_by (glyph_tokens f) (take (c.closure.place + 1) ns)) c.args.budget.now.left c.go_on.new.budget.left) (sym more)
+      subst (λ (ns : List (List ℕ)). Spends (sum_by (glyph_tokens f) (take (c.closure.place + 1) ns)) c.args.budget.now.left c.go_on.new.budget.left)
+          (sym more)
           (closure_more f ns found c.closure.place n at.0 at.1 c.args.budget.now.left c.closure.budget.left c.go_on.new.budget.left
           c.closure.invariant.2 c.in_ok-go_on.ensures.takes),
       c.in_ok-go_on.ensures.last,
@@ -62,7 +62,7 @@ returns-in_err-go_on-clause-refused c =
     let at = got c.closure.closure c.closure.place c.in-Some.name.now c.in-Some.ensures in
     let fewer = λ (h : c.in_err-go_on.field-0.0 ≡ TooManyTokens).
     closure_refused c.args.font.now (asked c.args.names.now) c.closure.closure c.closure.place c.closure.invariant.0 c.in-Some.name.now
-    at.0 at.1 _ c.args.budget.now.left c.closure.budget.left c.closure.invariant.2 (c.in_err-go_on.ensures.refused h) in
+    at.0 at.1 c.args.budget.now.left c.closure.budget.left c.closure.invariant.2 (c.in_err-go_on.ensures.refused h) in
     search rules
 
 pub returns-clause-takes : goal.returns-clause-takes

@@ -80,6 +80,7 @@ returns-in_err-components-clause-refused c =
     let f = c.args.font.now in
     let rest = rest_more lent_name _ _ _ _ c.in-Some.is c.next.ensures.steps in
     let all = subst (AllByRecursion (λ e. maps.get f.glyphs e.0 ≡ Some e.1)) rest c.glyphs.invariant.3 in
+    let other = ap (same_charstring (option_map (λ s. s.now) c.glyphs.last)) all.0 ∙ (sym c.is_again.ensures ∙ c.if-is_again.false) in
     let fewer = λ (h : c.in_err-components.field-0.0 ≡ TooManyTokens).
-    spent_refused f _ _ _ _ _ _ (ap (map (λ e. e.0)) rest) c.glyphs.invariant.2 (c.in_err-components.ensures.refused h c.in-Some.name.now all.0) in
+    spent_refused f _ _ _ _ _ _ (ap (map (λ e. e.0)) rest) c.glyphs.invariant.2 other (c.in_err-components.ensures.refused h c.in-Some.name.now all.0) in
     search rules
