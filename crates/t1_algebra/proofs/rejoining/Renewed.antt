@@ -1,5 +1,5 @@
 -- The kept texts of fonts that are normalized, and of what they come to.
-use Rattle.std.proofs.Common.{◌≡◌, ℕ, List, [], ◌∷◌, map, refl, subst}
+use Rattle.std.proofs.Common.{◌≡◌, ℕ, List, [], ◌∷◌, map, inl, refl, subst}
 use Rattle.t1_join.{specs.Groupings.{one, from_left}, proofs.OrderLemmas.{all_leaves, leaves_from_left}}
 use Rattle.t1_font.specs.{FontValue.{FontValue, Shell}, NormalTexts.{normal_texts}, Normalizing.{normal, filled, largest_count, indices_of_all, each_normal, normalized_shells}}
 use Rattle.t1_font.specs.{FontBoxes.{Box, joined_box, font_with, clear_of, side_in}, Renewing.{Renewed, BoxRenews}}
