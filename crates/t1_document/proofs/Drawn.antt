@@ -1,5 +1,5 @@
 -- What stays where fonts are normalized, get a name and rejoin.
-use Rattle.std.proofs.Common.{◌≡◌, ℕ, ◌≤◌, arith, Bool, true, false, cond, refl, sym, ◌∙◌, ap, subst, List, [], ◌∷◌, ◌++◌, ◌-◌, length, take, drop, map, Option, Some, None, Ok}
+use Rattle.std.proofs.Common.{◌≡◌, ℕ, ◌≤◌, arith, Bool, true, false, cond, inl, refl, sym, ◌∙◌, ap, subst, List, [], ◌∷◌, ◌++◌, ◌-◌, length, take, drop, map, Option, Some, None, Ok}
 use Rattle.std.proofs.{lemmas.Bool.{and_parts}, lemmas.Option.{none-some, same_Some}, lemmas.List.{take-append-drop}}
 use Rattle.std.specs.{Prelude.{is_some, nat_le}, List.{AllByRecursion}, Option.{option_map}}
 use Rattle.t1_grammar.specs.Grammar.{first}

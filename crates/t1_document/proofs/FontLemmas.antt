@@ -3,7 +3,7 @@ use Rattle.std.proofs.Common.{◌≡◌, ℕ, ◌-◌, ◌≤◌, false, List, [
 use Rattle.std.proofs.{lemmas.List.{length-append, take-append-drop, take_at, drop_at}, lemmas.Option.{none-some, same_Some, option_and_then_some}, lemmas.Slice.Eq.{bytes_eq-Decides}}
 use Rattle.std.specs.{Prelude.{codes}, Option.{option_and_then, option_map}}
 use Rattle.t1_grammar.specs.Grammar.{fixed}
-use Rattle.t1_bytes.specs.FlatText.{starts_segment}
+use Rattle.t1_bytes.{specs.FlatText.{starts_segment}, proofs.FlatTexts.{said_flat}}
 use Rattle.t1_font.specs.{declared.fault.ReadFault.{ReadFault}, declared.fault.ReadFault.TheVariants.{Memory}, Answers.{Refused}, FontValue.{FontValue}, ReadFont.{read_font_widely}, Tags.{name_in}}
 use Rattle.t1_font.specs.Spelling.{SpellsWidely}
 use Rattle.t1_document.specs.Fonts.{font_shape, parted_at, if_any, name_read, spelled_name, is_memory, name_within, if_font, font_in, FontText}
@@ -66,7 +66,7 @@ pub head_first : (text : List ℕ) (font : FontValue) → starts_segment text �
 head_first text font plain s =
     let texts = s.pieces.texts in
     let marker = s.pieces.clear_is.marker in
-    let flat : text ≡ texts.flat = subst (λ b. (files.flat_when b text).Spells texts.flat) plain texts.flat_is in
+    let flat : text ≡ texts.flat = subst (λ b. (files.flat_when b text).Spells texts.flat) plain (said_flat text texts.flat texts.flat_is) in
     let head = s.outside.head in
     let clear : s.pieces.clear ≡ head ++ (marker.2.0 ++ s.pieces.clear_is.after) =
     marker.1 ∙ (ap (λ (u : List ℕ). u ++ s.pieces.clear_is.after) marker.2.1 ∙ append_assoc head marker.2.0 s.pieces.clear_is.after) in
