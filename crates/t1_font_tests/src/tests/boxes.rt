@@ -77,9 +77,9 @@ const ROWS: &[Row] = &[
     ),
     (
         &[
-            (b"%!\n/FontBBox{0 0 0 0}def\n", b""),
-            (b"%!\n/FontBBox{0 0 0 0}def\n", b""),
-            (b"%!\n/FontBBox{0 0 0 0}def\n", b""),
+            (b"%!\n/FontBBox{0 0.0 0 -0}def\n", b""),
+            (b"%!\n/FontBBox{0.0 0 0 0}def\n", b""),
+            (b"%!\n/FontBBox{0 0 -0 0}def\n", b""),
         ],
         b"%!\n/FontBBox{0 0 0 0}def\n|\ncurrentfile eexec|%!\n/FontBBox{0 0 0 0}def\n|\ncurrentfile eexec|\
           %!\n/FontBBox{0 0 0 0}def\n|\ncurrentfile eexec|",
