@@ -1,38 +1,73 @@
 -- Answers within budgets, and those without.
 use Rattle.std.proofs.Common.{◌≡◌, ℕ, refl, sym, subst, ◌∙◌, List, [], ◌∷◌, ◌⊎◌, inl, inr, ⊎_elim, Option, None, Some, Result, Ok, Err, IfSome, IfOk, IfErr}
-use Rattle.std.specs.Io.KnownBytes.{Appends}
+use Rattle.std.specs.{Io.KnownBytes.{Appends}, Global.{Vec}}
 use Rattle.t1_bytes.specs.declared.form.Form.{Form}
 use Rattle.t1_font.specs.{FontValue.{FontValue}, Normalizing.{normalized_shells}}
 use Rattle.t1_subset.specs.{declared.budgets.BudgetFault.{BudgetFault}, declared.fault.RejoinFault.{RejoinFault}, Rejoins.{NotRejoined}}
 use Rattle.t1_subset.specs.declared.budgets.BudgetFault.TheVariants as budget
-use Rattle.t1_run.specs.Budgets.{HasFewer}
-use Rattle.t1_subset.specs.Budgets.{kept_longer, kept_tokens, fonts_least, fonts_tokens, OnPlain}
-use Rattle.std.specs.FinSet as sets
+use Rattle.t1_subset.specs.{declared.conflict.Conflict.{Conflict}, Budgets.{subset_tokens, fonts_tokens, merge_tokens, rejoin_tokens, IsEnough, RefusedWithin, OnPlain}}
+use Rattle.t1_subset.specs.declared.conflict.Conflict.TheVariants as conflict
+use Rattle.t1_subset.specs.declared.fault.RejoinFault.TheVariants as fault
+use Rattle.t1_subset.specs.declared.fault.SubsetFault.{SubsetFault}
+use Rattle.t1_subset.specs.declared.fault.SubsetFault.TheVariants as subset
 use Rattle.t1_cmd.specs.{declared.counting.Counted.{Counted}, declared.faults.Reason.{Reason}}
 use Rattle.t1_cmd.specs.{declared.faults.Reason.TheVariants.{TooLong, Memory, List as ListReason, Join as JoinReason, Font, NoGlyph, NoCode, NoFont, TooManyTokens, Lacks, Merge}}
 use Rattle.t1_cmd.specs.{declared.faults.RunFault.{RunFault}}
 use Rattle.t1_cmd.specs.{declared.faults.RunFault.TheVariants.{Refused, Read, Write}, declared.faults.FilesRefusal.{FilesRefusal}, Count.{inner_of}, Inputs.{Input, IsRefused, FirstWith, values_of}}
 use Rattle.t1_cmd.specs.{Answers.{MayRefuse, Prints, if_there, OfOne, OfThere}, Runs.{AppendsPrefix, RefusedTogether, Stops, RunEnds}, Files.{OfFiles, RefusedAt, RefusesFiles}}
-use Rattle.t1_cmd.specs.{Mergers.{MergesToFile}, Rejoins.{RejoinsTo}, Diffs.{DiffersBy}, Subsets.{names_with, subset_answer, subset_with_codes}}
+use Rattle.t1_cmd.specs.{Mergers.{IsTold, MergesToFile}, Rejoins.{RejoinsTo}, Diffs.{DiffersBy}, Subsets.{names_with, subset_answer, subset_with_codes}}
 use Rattle.t1_cmd.specs.{Budgets.{Within, MergesWithin, RejoinsWithin, NotRejoinedWithin, DiffersWithin, CutsWithin, SubsetsWithin}}
 use Rattle.t1_cmd.proofs.{Refusals.{refuses, by_answer}, CodeLemmas.{without_codes}}
 
 -- ---- answers
 
 -- where tokens aren't counted, the answer is that without a budget
-pub without : (least most : ℕ) (P : Result (List ℕ) Reason → Type 0) (a : Result (List ℕ) Reason) → Within None least most P a → P a
-without least most P (Ok text) h = h.0
-without least most P (Err TooLong) h = h
-without least most P (Err Memory) h = h
-without least most P (Err (ListReason f)) h = h
-without least most P (Err (JoinReason f)) h = h
-without least most P (Err (Font f)) h = h
-without least most P (Err (NoGlyph n)) h = h
-without least most P (Err (NoCode code)) h = h
-without least most P (Err (NoFont n)) h = h
-without least most P (Err TooManyTokens) h = absurd h
-without least most P (Err (Lacks g k)) h = h
-without least most P (Err (Merge e)) h = h
+pub without : (tokens : ℕ) (P : Result (List ℕ) Reason → Type 0) (a : Result (List ℕ) Reason) → Within None tokens P a → P a
+without tokens P (Ok text) h = h.0
+without tokens P (Err TooLong) h = h.0
+without tokens P (Err Memory) h = h.0
+without tokens P (Err (ListReason f)) h = h.0
+without tokens P (Err (JoinReason f)) h = h.0
+without tokens P (Err (Font f)) h = h.0
+without tokens P (Err (NoGlyph n)) h = h.0
+without tokens P (Err (NoCode code)) h = h.0
+without tokens P (Err (NoFont n)) h = h.0
+without tokens P (Err TooManyTokens) h = absurd h
+without tokens P (Err (Lacks g k)) h = h.0
+without tokens P (Err (Merge e)) h = h.0
+
+-- what is told of fonts that don't merge is told where the tokens are left
+pub told_enough : (left : Option ℕ) (tokens : ℕ) (e : Conflict) → IsTold e → (e ≡ conflict.Memory) ⊎ IsEnough left tokens → IsEnough left tokens
+told_enough left tokens e told (inl h) = absurd (subst IsTold h told)
+told_enough left tokens e told (inr h) = h
+
+IsToldOrLack : RejoinFault → Type 0
+IsToldOrLack (fault.Lacks glyph index) = Unit {0}
+IsToldOrLack (fault.Merge e) = IsTold e
+
+-- the same of fonts that don't rejoin
+pub told_rejoined : (left : Option ℕ) (tokens : ℕ) (e : Conflict) → IsTold e → (fault.Merge e ≡ fault.Merge conflict.Memory) ⊎ IsEnough left tokens →
+    IsEnough left tokens
+unfolding IsToldOrLack
+told_rejoined left tokens e told (inl h) = absurd (subst IsToldOrLack h told)
+told_rejoined left tokens e told (inr h) = h
+
+-- a lack is told where they are left
+pub lack_enough : (left : Option ℕ) (tokens : ℕ) (glyph : Vec ℕ) (index : ℕ) → (fault.Lacks glyph index ≡ fault.Merge conflict.Memory) ⊎ IsEnough left tokens →
+    IsEnough left tokens
+unfolding IsToldOrLack
+lack_enough left tokens glyph index (inl h) = absurd (subst IsToldOrLack h tt)
+lack_enough left tokens glyph index (inr h) = h
+
+IsNamed : SubsetFault → Type 0
+IsNamed (subset.NoSuchGlyph name) = Unit {0}
+IsNamed subset.Memory = ⊥
+
+-- a name that is absent is told where they are left
+pub name_enough : (left : Option ℕ) (tokens : ℕ) (name : Vec ℕ) → (subset.NoSuchGlyph name ≡ subset.Memory) ⊎ IsEnough left tokens → IsEnough left tokens
+unfolding IsNamed
+name_enough left tokens name (inl h) = absurd (subst IsNamed h tt)
+name_enough left tokens name (inr h) = h
 
 -- a right refusal for one answer is one for another that follows from it
 pub refuses_too : {A : Type 0} (P Q : Result A Reason → Type 0) → ((a : Result A Reason) → P a → Q a) → (r : Reason) → MayRefuse P r → MayRefuse Q r
@@ -57,16 +92,16 @@ module _ {V : Type 0} (view : V → List ℕ) (P : Result (List ℕ) Reason → 
 
 -- why fonts don't rejoin, by what the call says that rejoins them
 pub not_rejoined : (A : Type 0) (left : Option ℕ) (fs : List FontValue) (x : BudgetFault RejoinFault) →
-    OnPlain {A = A} (Err x) (λ r. IfErr r (λ e. NotRejoined fs e)) → (x ≡ budget.TooManyTokens → HasFewer left (fonts_tokens fs)) →
+    OnPlain {A = A} (Err x) (λ r. IfErr r (λ e. NotRejoined fs e)) → RefusedWithin (fault.Merge conflict.Memory) left (rejoin_tokens fs) x →
     NotRejoinedWithin left fs x
-not_rejoined A left fs budget.TooManyTokens h k = k refl
-not_rejoined A left fs (budget.Plain e) h k = h
+not_rejoined A left fs budget.TooManyTokens h k = k
+not_rejoined A left fs (budget.Plain e) h k = (h, k)
 
 -- the subset of names
 pub cuts_without : (form : Form) (names : List (List ℕ)) (f : FontValue) (a : Result (List ℕ) Reason) → CutsWithin None form names f a →
     a ≡ subset_answer form names f
 cuts_without form names f a h =
-    without (kept_longer f (sets.from_list names)) (kept_tokens f (sets.from_list names)) (λ a. a ≡ subset_answer form names f) a h
+    without (subset_tokens f names) (λ a. a ≡ subset_answer form names f) a h
 
 -- the subset of names and of the names of codes
 pub subsets_without : (form : Form) (names : List (List ℕ)) (numbers : List ℕ) (f : FontValue) (a : Result (List ℕ) Reason) →
@@ -104,14 +139,14 @@ names_of_one form names (f ∷ g ∷ fs) a h = h
 
 -- what fonts merge to, and what they rejoin to
 pub merges_without : (form : Form) (fs : List FontValue) (a : Result (List ℕ) Reason) → MergesWithin None form fs a → MergesToFile form fs a
-merges_without form fs a h = without (fonts_least fs) (fonts_tokens fs) (MergesToFile form fs) a h
+merges_without form fs a h = without (merge_tokens fs) (MergesToFile form fs) a h
 
 pub rejoins_without : (form : Form) (fs : List FontValue) (a : Result (List ℕ) Reason) → RejoinsWithin None form fs a → RejoinsTo form fs a
-rejoins_without form fs a h = without (fonts_least (normalized_shells fs)) (fonts_tokens (normalized_shells fs)) (RejoinsTo form fs) a h
+rejoins_without form fs a h = without (rejoin_tokens (normalized_shells fs)) (RejoinsTo form fs) a h
 
 -- the conflicts of fonts
 pub differs_without : (fs : List FontValue) (a : Result (List ℕ) Reason) → DiffersWithin None fs a → DiffersBy fs a
-differs_without fs a h = without (fonts_least fs) (fonts_tokens fs) (DiffersBy fs) a h
+differs_without fs a h = without (fonts_tokens fs) (DiffersBy fs) a h
 
 -- ---- files and inputs
 

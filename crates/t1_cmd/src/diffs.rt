@@ -1,6 +1,6 @@
 //! The engine that tells all conflicts of two fonts.
 ghost use Rattle.std.specs.{Prelude.{◌≡◌, ◌↔◌, ◌+◌, ◌≤◌, ◌++◌, ◌∷◌, [], Ok, OnOk, IfOk, IfErr, IfSome, IsTrue}, List.{flat_map}};
-ghost use Rattle.t1_subset.specs.Budgets.{fonts_least, IsEnough};
+ghost use Rattle.t1_subset.specs.Budgets.{fonts_tokens, IsEnough};
 ghost use Rattle.t1_bytes.specs.Limits.{file_limit};
 ghost use Rattle.t1_algebra.specs.{Profile.{profile}, States.{Join}};
 ghost use Rattle.t1_cmd.specs.{Count.{calls_counted}, Inputs.{input_of, values_of}, Answers.{MayRefuse}, Files.{IsRefusalAt, OfFiles, RefusesFiles}};
@@ -47,7 +47,7 @@ fn diff_text(
 ) -> Result<Vec<u8>, Reason>
     ensures text { IfOk result (λ text. ListsConflicts left.now right.now text.items) }
     ensures joins { IfOk result (λ text. (text.items ≡ []) ↔ Join profile left.now right.now) }
-    ensures enough { OnOk result (IsEnough budget.left (fonts_least (left.now ∷ right.now ∷ []))) }
+    ensures enough { OnOk result (IsEnough budget.left (fonts_tokens (left.now ∷ right.now ∷ []))) }
     ensures refused { IfErr result (MayRefuse (DiffersWithin budget.left (left.now ∷ right.now ∷ []))) }
 {
     let own = left.font(alloc)?;
@@ -105,8 +105,8 @@ pub fn diff_files(alloc: Global, first: &[u8], second: &[u8]) -> Result<Vec<u8>,
 ///
 /// # Errors
 ///
-/// As [`diff_files`]; but behind what the files are refused for comes [`Reason::TooManyTokens`], only if the runs of all glyphs of
-/// both fonts execute more tokens than the budget has.
+/// As [`diff_files`]; but behind what the files are refused for comes [`Reason::TooManyTokens`], if the runs of the glyphs of both
+/// fonts execute more tokens than the budget has.
 pub fn diff_files_within(
     alloc: Global,
     first: &[u8],
@@ -162,8 +162,8 @@ pub fn run_diff<R: Read, S: Read, W: Write>(
 
 /// Writes and answers what [`run_diff`] does, within a budget, out of which the runs of glyphs take their tokens.
 ///
-/// Behind what an input is refused for it is refused with [`Reason::TooManyTokens`], only if the runs of all glyphs of both fonts
-/// execute more tokens than the budget has.
+/// Behind what an input is refused for it is refused with [`Reason::TooManyTokens`], if the runs of the glyphs of both fonts execute
+/// more tokens than the budget has.
 pub fn run_diff_within<R: Read, S: Read, W: Write>(
     alloc: Global,
     first: &mut Counted<R>,

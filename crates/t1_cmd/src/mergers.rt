@@ -1,6 +1,6 @@
 //! The engine that merges fonts.
 ghost use Rattle.std.specs.Prelude.{◌≡◌, None, Ok, OnOk, IfOk, IfErr, MatchResult};
-ghost use Rattle.t1_subset.specs.{Budgets.{fonts_least, IsEnough}, NameSets.{lent}};
+ghost use Rattle.t1_subset.specs.{Budgets.{merge_tokens, IsEnough}, NameSets.{lent}};
 ghost use Rattle.t1_algebra.specs.Merges.{ComesTo};
 ghost use Rattle.t1_cmd.specs.{Fonts.{font_input}, Answers.{MayRefuse}, Files.{OfFiles, RefusesFiles}, Runs.{RunEnds, Succeeds}};
 ghost use Rattle.t1_cmd.specs.{Mergers.{inputs_of, InTurns, MergesToFile}, Budgets.{MergesWithin}, WrittenSubsets.{OfUnion, WritesUnion}};
@@ -16,9 +16,10 @@ use t1_font::{Font, Form, Source};
 use t1_subset::{Budget, BudgetFault, Conflict, fonts_of, merge_all_within};
 
 // The font that fonts come to, merged from left to right, within a budget.
+#[tactic(auto, using(crate::proofs::Budgets::told_enough))]
 fn merge_fonts<'a>(alloc: Global, fonts: &[Font<'a>], budget: Budget) -> Result<Font<'a>, Reason>
     ensures comes { IfOk result (λ j. ComesTo fonts.now j) }
-    ensures enough { OnOk result (IsEnough budget.left (fonts_least fonts.now)) }
+    ensures enough { OnOk result (IsEnough budget.left (merge_tokens fonts.now)) }
     ensures refused { IfErr result
         (λ e. (form : Form) → MayRefuse (MergesWithin budget.left form fonts.now) e) }
 {
@@ -87,8 +88,8 @@ pub fn merge_files(alloc: Global, files: &[&[u8]], form: Form) -> Result<Vec<u8>
 ///
 /// # Errors
 ///
-/// As [`merge_files`]; but behind what the files are refused for comes [`Reason::TooManyTokens`], only if the runs of all glyphs of
-/// all fonts execute more tokens than the budget has.
+/// As [`merge_files`]; but behind what the files are refused for, and behind a conflict of the shells of the first two fonts, comes
+/// [`Reason::TooManyTokens`], if the runs of the glyphs of all fonts execute more tokens than the budget has.
 pub fn merge_files_within(
     alloc: Global,
     files: &[&[u8]],
@@ -126,8 +127,8 @@ pub fn run_merge<R: Read, W: Write>(
 
 /// Writes what [`run_merge`] writes, within a budget, out of which the runs of glyphs take their tokens.
 ///
-/// Behind what an input is refused for, and before most conflicts, it is refused with [`Reason::TooManyTokens`], only if the runs of
-/// all glyphs of all fonts execute more tokens than the budget has.
+/// Behind what an input is refused for, and behind a conflict of the shells of the first two fonts, it is refused with
+/// [`Reason::TooManyTokens`], if the runs of the glyphs of all fonts execute more tokens than the budget has.
 pub fn run_merge_within<R: Read, W: Write>(
     alloc: Global,
     readers: &mut [Counted<R>],

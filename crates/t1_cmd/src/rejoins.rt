@@ -17,6 +17,7 @@ use t1_font::{Form, Source, normalize_shells};
 use t1_subset::{Budget, BudgetFault, Conflict, RejoinFault, rejoin_within};
 
 // Why fonts don't rejoin within a budget, as a reason.
+#[tactic(auto, using(crate::proofs::Budgets::told_rejoined, crate::proofs::Budgets::lack_enough))]
 fn reason_of(alloc: Global, fault: BudgetFault<RejoinFault>) -> Reason
     ensures { (left : Option ℕ) (form : Form) (whole : List FontValue)
         → NotRejoinedWithin left (normalized_shells whole) fault
@@ -112,8 +113,8 @@ pub fn rejoin_files(alloc: Global, files: &[&[u8]], form: Form) -> Result<Vec<u8
 ///
 /// # Errors
 ///
-/// As [`rejoin_files`]; but behind what the files are refused for comes [`Reason::TooManyTokens`], only if the runs of all glyphs of
-/// all fonts execute more tokens than the budget has.
+/// As [`rejoin_files`]; but behind what the files are refused for comes [`Reason::TooManyTokens`], if the runs of the glyphs of the
+/// fonts, up to and with the first font that lacks a Subr, execute more tokens than the budget has.
 pub fn rejoin_files_within(
     alloc: Global,
     files: &[&[u8]],
@@ -154,8 +155,8 @@ pub fn run_rejoin<R: Read, W: Write>(
 
 /// Writes what [`run_rejoin`] writes, within a budget, out of which the runs of glyphs take their tokens.
 ///
-/// Behind what an input is refused for, and before most conflicts, it is refused with [`Reason::TooManyTokens`], only if the runs of
-/// all glyphs of all fonts execute more tokens than the budget has.
+/// Behind what an input is refused for it is refused with [`Reason::TooManyTokens`], if the runs of the glyphs of the fonts, up to and
+/// with the first font that lacks a Subr, execute more tokens than the budget has.
 pub fn run_rejoin_within<R: Read, W: Write>(
     alloc: Global,
     readers: &mut [Counted<R>],

@@ -1,6 +1,6 @@
 //! The engine that subsets a font.
 ghost use Rattle.std.specs.{Prelude.{◌≡◌, ◌+◌, ◌≤◌, ◌∷◌, [], List, ℕ, None, Ok, OnOk, IfOk, IfErr}, Option.{option_map}, Str.{bytes_eq}};
-ghost use Rattle.t1_subset.specs.{Budgets.{kept_longer, kept_tokens, IsEnough}, NameSets.{lent, asked}};
+ghost use Rattle.t1_subset.specs.{Budgets.{subset_tokens, IsEnough}, NameSets.{lent, asked}};
 ghost use Rattle.t1_algebra.specs.{Profile.{profile}, Keep.{subset}};
 ghost use Rattle.t1_cmd.specs.{Count.{calls_counted}, Inputs.{input_of}, Runs.{RunEnds, Succeeds}, Answers.{Prints, OfOne, OfThere, MayRefuse}};
 ghost use Rattle.t1_cmd.specs.{Budgets.{Within, CutsWithin, SubsetsWithin}, Fonts.{font_input, of_file}};
@@ -20,6 +20,7 @@ use t1_run::standard_name;
 use t1_subset::{Budget, BudgetFault, SubsetFault, subset_within};
 
 // The subset of a font, within a budget.
+#[tactic(auto, using(crate::proofs::Budgets::name_enough))]
 fn cut<'a>(
     alloc: Global,
     font: &Font<'a>,
@@ -28,9 +29,9 @@ fn cut<'a>(
 ) -> Result<Font<'a>, Reason>
     ensures cut { IfOk result (λ s. s ≡ subset profile font.now (asked names.now)) }
     ensures present { OnOk result (first_absent font.now (lent names.now) ≡ None) }
-    ensures enough { OnOk result (IsEnough budget.left (kept_longer font.now (asked names.now))) }
+    ensures enough { OnOk result (IsEnough budget.left (subset_tokens font.now (lent names.now))) }
     ensures refused { IfErr result (λ e. (text : List ℕ)
-        → MayRefuse (Within budget.left (kept_longer font.now (asked names.now)) (kept_tokens font.now (asked names.now))
+        → MayRefuse (Within budget.left (subset_tokens font.now (lent names.now))
         (λ a. a ≡ unless_absent (first_absent font.now (lent names.now)) text)) e) }
 {
     match subset_within(alloc, font, names, budget) {
@@ -245,8 +246,8 @@ pub fn run_subset_with_codes<R: Read, W: Write>(
 ///
 /// # Errors
 ///
-/// As [`subset_file_with_codes`]; but behind all else comes [`Reason::TooManyTokens`], only if the runs of the glyphs that are kept
-/// execute more tokens than the budget has.
+/// As [`subset_file_with_codes`]; but behind all else comes [`Reason::TooManyTokens`], if the runs of the glyphs that are kept execute
+/// more tokens than the budget has.
 pub fn subset_file_within(
     alloc: Global,
     file: &[u8],
@@ -269,8 +270,8 @@ pub fn subset_file_within(
 
 /// Writes what [`run_subset_with_codes`] writes, within a budget, out of which the runs of glyphs take their tokens.
 ///
-/// Behind all else it is refused with [`Reason::TooManyTokens`], only if the runs of the glyphs that are kept execute more tokens
-/// than the budget has.
+/// Behind all else it is refused with [`Reason::TooManyTokens`], if the runs of the glyphs that are kept execute more tokens than the
+/// budget has.
 pub fn run_subset_within<R: Read, W: Write>(
     alloc: Global,
     reader: &mut Counted<R>,

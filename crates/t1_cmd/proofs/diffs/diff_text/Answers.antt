@@ -1,7 +1,7 @@
 use Rattle.std.{proofs.Common.{◌≡◌, ◌↔◌, ◌∙◌, ap, subst, []}, specs.List.{flat_map}}
 use Rattle.t1_font.specs.FontValue.{FontValue}
 use Rattle.t1_algebra.specs.{Profile.{profile}, States.{Join}, Conflicts.{conflicts}}
-use Rattle.t1_subset.specs.{Refusals.{TellEach}, Budgets.{fonts_least, IsEnough}}
+use Rattle.t1_subset.specs.{Refusals.{TellEach}}
 use Rattle.t1_cmd.{specs.Diffs.{conflict_line}, proofs.DiffLemmas.{no_text}}
 use Rattle.t1_cmd.proofs.diffs.diff_text.Goals as goal
 

@@ -1,7 +1,7 @@
 use Rattle.std.proofs.Common.{List, subst}
 use Rattle.t1_font.specs.{FontValue.{FontValue}, Canon.{canon}}
 use Rattle.t1_algebra.specs.Merges.{ComesTo}
-use Rattle.t1_subset.specs.Budgets.{fonts_least, IsEnough}
+use Rattle.t1_subset.specs.Budgets.{merge_tokens, IsEnough}
 use Rattle.t1_cmd.{specs.{Answers.{MayRefuse}, Budgets.{MergesWithin}}, proofs.{MergeLemmas.{same_text}}}
 use Rattle.t1_cmd.proofs.mergers.merged_file.Goals as goal
 
@@ -17,5 +17,5 @@ returns-clause-text c = (
     subst (λ (fs : List FontValue). ComesTo fs c.in-Ok.font) c.as_slice.ensures.value c.in-Ok.ensures.comes,
     same_text (canon c.in-Ok.font c.args.form) c.in_ok-text.text.items c.in_ok-text.ensures,
   ),
-  subst (λ (fs : List FontValue). IsEnough c.args.budget.left (fonts_least fs)) c.as_slice.ensures.value c.in-Ok.ensures.enough,
+  subst (λ (fs : List FontValue). IsEnough c.args.budget.left (merge_tokens fs)) c.as_slice.ensures.value c.in-Ok.ensures.enough,
 )

@@ -1,5 +1,4 @@
-use Rattle.std.proofs.Common.{rules, ◌≡◌, subst}
-use Rattle.t1_run.specs.declared.budget.Stop.TheVariants.{TooManyTokens}
+use Rattle.std.proofs.Common.{rules, subst}
 use Rattle.t1_algebra.specs.{Profile.{profile}, Conflicts.{conflicts}}
 use Rattle.t1_subset.{specs.Refusals.{TellEach}, proofs.{Tokens.{two_enough, first_refused, second_refused}, Within.{stops_within}, state_tables.Sides.{none_or_join}}}
 use Rattle.t1_subset.proofs.differences.conflicts_within.Goals as goal
@@ -24,19 +23,4 @@ pub returns-in_err-other-clause-within : goal.returns-in_err-other-clause-within
 returns-in_err-other-clause-within c =
     let stops = stops_within _ _ c.in_err-other.field-0.0
     (λ h. second_refused c.args.left.now c.args.right.now _ _ c.in_ok-own.ensures.takes (c.in_err-other.ensures.refused h)) in
-    search rules
-
-pub returns-in-Ok-clause-enough : goal.returns-in-Ok-clause-enough
-returns-in-Ok-clause-enough c =
-    two_enough c.args.left.now c.args.right.now _ _ _ c.in_ok-own.ensures.takes c.in_ok-other.ensures.takes
-
-pub returns-in_err-own-clause-refused : goal.returns-in_err-own-clause-refused
-returns-in_err-own-clause-refused c =
-    let fewer = λ (h : c.in_err-own.field-0.0 ≡ TooManyTokens). first_refused c.args.left.now c.args.right.now _ (c.in_err-own.ensures.refused h) in
-    search rules
-
-pub returns-in_err-other-clause-refused : goal.returns-in_err-other-clause-refused
-returns-in_err-other-clause-refused c =
-    let fewer = λ (h : c.in_err-other.field-0.0 ≡ TooManyTokens). second_refused c.args.left.now c.args.right.now _ _ c.in_ok-own.ensures.takes
-    (c.in_err-other.ensures.refused h) in
     search rules
