@@ -174,8 +174,8 @@ uint32_t t1subset_merge(const t1subset_bytes *fonts, size_t count, uint32_t form
  * Subrs declares as many). */
 uint32_t t1subset_rejoin(const t1subset_bytes *fonts, size_t count, uint32_t form, t1subset_answer *answer);
 
-/* t1subset_subset_codes within limits: what it answers, or T1SUBSET_TOO_MANY_TOKENS. This comes only if the runs of all glyphs that
- * are kept execute more tokens in all, those where hints are replaced and those where they are kept. */
+/* t1subset_subset_codes within limits: what it answers, or T1SUBSET_TOO_MANY_TOKENS. This comes if the runs of all glyphs that are
+ * kept execute more tokens in all: one of each, and of a glyph that asks for other hints two, where they are replaced and kept. */
 uint32_t t1subset_subset_within(const uint8_t *font, size_t size, const t1subset_bytes *names, size_t count,
                                 const uint8_t *codes, size_t codes_size, uint32_t form, const t1subset_limits *limits,
                                 t1subset_answer *answer);
@@ -185,7 +185,7 @@ uint32_t t1subset_subset_within(const uint8_t *font, size_t size, const t1subset
 uint32_t t1subset_merge_within(const t1subset_bytes *fonts, size_t count, uint32_t form, const t1subset_limits *limits,
                                t1subset_answer *answer);
 
-/* t1subset_rejoin within limits, likewise of all glyphs of all fonts. */
+/* t1subset_rejoin within limits, likewise of all glyphs of all fonts, up to and with the first font that lacks a Subr. */
 uint32_t t1subset_rejoin_within(const t1subset_bytes *fonts, size_t count, uint32_t form, const t1subset_limits *limits,
                                 t1subset_answer *answer);
 
