@@ -1,7 +1,8 @@
 #!/usr/bin/env python3
 """Makes the tables of docs/SPEED.md that say what the gate takes, of what the gate printed, and which functions are dear to prove.
 
-usage: tools/make_speed.py LOG              the parts of the gate, of the lines `gate: PART: ..` of a file
+usage: tools/make_speed.py LOG...           the parts of the gate, of the lines `gate: PART: ..` of these files: of each part the run
+                                            that took most, since another may have found it proved
        tools/make_speed.py --functions [CRATE...]    proves these crates once more, by one copy of the compiler each, and lists of each
                                             the thirty functions that take most; over what is built below them
        tools/make_speed.py --check          whether the first table has each crate and each script of the gate, and nothing else
@@ -47,13 +48,25 @@ def wanted():
     return ["texts", *(f"{name}, {kind}" for name in crates() for kind in kinds_of(name)), "rt ci, the rest of it", *scripts(), "all"]
 
 
-def table_of(log):
+def taken(logs):
+    """Of each part what the run of it took that took most; all of them together, where there is more than one run."""
+    took = {}
+    for name, used, clock in (found for log in logs for found in LINE.findall(log)):
+        if float(used) >= float(took.get(name, ("0",))[0]):
+            took[name] = (used, clock)
+    if len(logs) > 1:
+        took["all"] = (sum(float(used) for name, (used, _) in took.items() if name != "all"), None)
+    return took
+
+
+def table_of(logs):
     """The lines of the table of the parts."""
-    took = {name: (used, clock) for name, used, clock in LINE.findall(log)}
+    took = taken(logs)
     lacking = [name for name in wanted() if name not in took]
     if lacking:
         sys.exit(f"the gate printed nothing of {', '.join(lacking)}: it has to be run whole, with nothing kept")
-    rows = [f"| {name} | {float(took[name][0]):.1f} | {float(took[name][1]):.1f} |" for name in wanted()]
+    clock = lambda name: "-" if took[name][1] is None else f"{float(took[name][1]):.1f}"
+    rows = [f"| {name} | {float(took[name][0]):.1f} | {clock(name)} |" for name in wanted()]
     return ["| Part of the gate | minutes of processors | minutes by the clock |", "|---|---|---|", *rows]
 
 
@@ -63,7 +76,7 @@ def put_part(name, lines):
 
 def check():
     """Whether the table has the parts that the gate has."""
-    named = re.findall(r"^\| (.*) \| [\d.]+ \| [\d.]+ \|$", text_of(PAGE), re.M)
+    named = re.findall(r"^\| (.*) \| [\d.]+ \| (?:[\d.]+|-) \|$", text_of(PAGE), re.M)
     wrong = [f"docs/SPEED.md has no row of {name}" for name in wanted() if name not in named]
     wrong += [f"docs/SPEED.md has a row of {name}, which is no part of the gate" for name in named if name not in wanted()]
     for line in wrong:
@@ -112,7 +125,7 @@ def main():
         with concurrent.futures.ThreadPoolExecutor(lanes()) as pool:
             put_part("list of the dearest functions", list(pool.map(listed, sys.argv[2:] or crates())))
         return 0
-    put_part("table of the gate", table_of(text_of(sys.argv[1])))
+    put_part("table of the gate", table_of(list(map(text_of, sys.argv[1:]))))
     return 0
 
 

@@ -424,10 +424,14 @@ def build(folder):
 def gate_table():
     """tools/make_speed.py makes a row of each part of the gate, and none of a log that lacks one."""
     lines = [f"gate: {name}: 1.25 minutes of processors, 0.50 by the clock\n" for name in make_speed.wanted()]
-    rows = make_speed.table_of("".join(lines))
+    rows = make_speed.table_of(["".join(lines)])
     check(len(rows) == len(lines) + 2 and rows[2] == "| texts | 1.2 | 0.5 |", f"tools/make_speed.py: {rows}")
+    kept = [f"gate: {name}: 0.25 minutes of processors, 0.10 by the clock\n" for name in make_speed.wanted()[1:]]
+    rows = make_speed.table_of(["".join(lines), "".join(kept)])
+    together = f"| all | {1.25 * (len(lines) - 1):.1f} | - |"
+    check(rows[2] == "| texts | 1.2 | 0.5 |" and rows[-1] == together, f"tools/make_speed.py, of two runs: {rows}")
     try:
-        make_speed.table_of("".join(lines[1:]))
+        make_speed.table_of(["".join(lines[1:])])
         check(False, "tools/make_speed.py makes a table without a part")
     except SystemExit as end:
         check("printed nothing of texts" in str(end), f"tools/make_speed.py: {end}")
