@@ -211,7 +211,7 @@ fn near_the_limit(alloc: Global, made: &Made) -> Result<Vec<u8>, AllocError> {
 /// Whether so many tokens are enough for fonts that are refused, and one fewer is not.
 fn is_refused_from(alloc: Global, files: &[&[u8]], tokens: u64) -> Result<bool, AllocError> {
     let enough = rejoined_within(alloc, files, Some(tokens))?;
-    let fewer = rejoined_within(alloc, files, Some(tokens - 1))?;
+    let fewer = rejoined_within(alloc, files, Some(tokens.saturating_sub(1)))?;
     Ok(enough == Answer::Refused && fewer == Answer::TooMany)
 }
 
