@@ -33,7 +33,9 @@ fn file_without_5(alloc: Global) -> Result<Vec<u8>, AllocError> {
     let Ok(sealed) = seal(alloc, less.as_slice(), EEXEC_KEY, EEXEC_LEAD) else {
         return Err(AllocError);
     };
-    joined(alloc, &[&PFA[..CLEAR], sealed.as_slice()])
+    let mut file = Vec::from_slice(alloc, &PFA[..CLEAR])?;
+    file.extend_from_slice(sealed.as_slice())?;
+    Ok(file)
 }
 
 /// The font text of that font.
