@@ -134,7 +134,7 @@ uint32_t t1subset_check(const uint8_t *font, size_t size, t1subset_answer *answe
 uint32_t t1subset_list(const uint8_t *font, size_t size, t1subset_answer *answer);
 
 /* The same lines, and behind them what the font's dictionary says, as it is spelled there: "name NAME" (FontName),
- * "matrix NUMBERS" (FontMatrix), "box NUMBERS" (FontBBox) and "unique NUMBER" (UniqueID), none of a key that isn't there;
+ * "matrix NUMBERS" (FontMatrix), "box NUMBERS" (FontBBox) and "unique NUMBER" (UniqueID), none of a key that has no value;
  * and last "width NAME X Y" for each glyph, in font units, or "width NAME fault FAULT" if it can't be drawn. */
 uint32_t t1subset_list_full(const uint8_t *font, size_t size, t1subset_answer *answer);
 

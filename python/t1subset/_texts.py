@@ -81,7 +81,7 @@ class Undrawn:
 
 @dataclass(frozen=True)
 class ListedInFull(Listed):
-    """What a font lists in full: beside that of `Listed` what its dictionary says, None of a key that isn't there.
+    """What a font lists in full: beside that of `Listed` what its dictionary says, None of a key that has no value.
 
     name: the FontName, as names stand in `Listed`.
     matrix, bbox: the FontMatrix and the FontBBox, as the font spells them within their brackets: numbers, mostly.

@@ -64,7 +64,7 @@ class Texts(unittest.TestCase):
             (matrix, b"/FontMatrix{ 1e-3 0\n0 .001\x800 0}", "matrix", r" 1e-3 0 0 .001\x800 0"),
             (b"/FontBBox {0 0 500 700}", b"/FontBBox", "bbox", "def"),
             (b"/FontName /Tiny", b"/FontName/T\xe9\\y", "name", "T\udce9\\y"),
-            (b"/FontName /Tiny", b"/FontName /", "name", ""),
+            (b"/FontName /Tiny", b"/FontName /", "name", None),
             (b"/FontName /Tiny", b"/FontNames /Tiny", "name", None),
             (b"/FontName /Tiny", b"/UniqueID 5000793 def\n/FontName /Tiny", "unique_id", "5000793"),
         ]

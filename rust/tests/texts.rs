@@ -70,7 +70,7 @@ fn values_as_they_are_spelled() {
     assert_eq!(full.matrix.as_deref(), Some(r" 1e-3 0 0 .001\x800 0"));
     assert_eq!(spelled(b"/FontBBox {0 0 500 700}", b"/FontBBox").bbox.as_deref(), Some("def"));
     assert_eq!(spelled(b"/FontName /Tiny", b"/FontName/T\xe9\\y").name, Some(b"T\xe9\\y"[..].into()));
-    assert_eq!(spelled(b"/FontName /Tiny", b"/FontName /").name, Some("".into()));
+    assert_eq!(spelled(b"/FontName /Tiny", b"/FontName /").name, None);
     assert_eq!(spelled(b"/FontName /Tiny", b"/FontNames /Tiny").name, None);
     let full = spelled(b"/FontName /Tiny", b"/UniqueID 5000793 def\n/FontName /Tiny");
     assert_eq!(full.unique_id.as_deref(), Some("5000793"));
