@@ -167,7 +167,7 @@ def main():
     left = len(builds.crates) - len(builds.done)
     if left:
         say(f"Proving and building {', '.join(wanted)}: {left} of {len(builds.crates)} crates, by {builds.lanes} checks side by side on {processors()} processors.")
-        say("From nothing the program took 36 minutes on four processors that had other work.")
+        say("From nothing the program took 16 minutes on four processors.")
     if not builds.run():
         return 1
     if left:
