@@ -28,7 +28,7 @@ STEPS = [
     ("the files", "read_all", "t1_cmd"), ("bytes in memory", "flatten_vec", "t1_bytes"), ("flat text", "find_cipher", "t1_bytes"),
     ("clear text, cipher", "open_private", "t1_font"), ("clear text, private text", "source_parts", "t1_font"),
     ("a Source, which owns them", "font", "t1_font"), ("Fonts, lent by Sources", "merge_all", "t1_subset"),
-    ("states of names, codes, Subrs", "join_first", "t1_join"), ("the joined states", "of_parts", "t1_font"), ("the joined Font", "write", "t1_font"),
+    ("states of names, codes, Subrs", "join_first", "t1_join"), ("the joined states", "into_font", "t1_subset"), ("the joined Font", "write", "t1_font"),
     ("the canonical file", "write_text", "t1_cmd"), ("OUT", None, None),
 ]
 

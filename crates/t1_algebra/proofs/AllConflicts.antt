@@ -1,15 +1,15 @@
 -- All conflicts of two fonts: there are none exactly if the fonts join, the first is the lowest, and they are the same in both orders.
-use Rattle.std.proofs.Common.{◌≡◌, ◌↔◌, ◌&&◌, ◌||◌, ℕ, Bool, true, false, cond, not, List, [], ◌∷◌, ◌++◌, map, filter, refl, sym, ◌∙◌, ap, true≢false, Option, Some, None, is_some, unwrap_or, nat_le}
+use Rattle.std.proofs.Common.{◌≡◌, ◌↔◌, ◌&&◌, ℕ, Bool, true, false, cond, not, List, [], ◌∷◌, ◌++◌, map, filter, refl, sym, ◌∙◌, ap, true≢false, Some, None, is_some, unwrap_or, nat_le}
 use Rattle.std.proofs.Math.Bool.{or_comm}
 use Rattle.std.specs.List.{find}
 use Rattle.t1_font.specs.FontValue.{FontValue, weight, weight_limit, count_limit}
 use Rattle.t1_algebra.specs.Conflicts.{Conflict, ShellDiffers, CodeDiffers, GlyphDiffers, LacksComponent, SubrDiffers, OverLimit, codes_of_both, wants, is_within, code_clashes, glyph_clashes}
-use Rattle.t1_algebra.specs.Conflicts.{glyphs_of_both, wanted_by, component_clashes, subr_clashes, lacks_component, subr_differs, keys_of_both, shell_conflict, code_conflict, glyph_conflict}
-use Rattle.t1_algebra.specs.{Conflicts.{component_conflict, subr_conflict, states_conflict, conflict, states_conflicts, conflicts}, Searches.{members, smallest, passing, first_of, or_else, found}}
-use Rattle.t1_algebra.specs.{Shared.{Shared, ShellPart, shared_of, same_part, all_parts, differing_parts}, Keep.{has}, States.{code_state, subr_state, joined_font, executes, Join}}
+use Rattle.t1_algebra.specs.Conflicts.{glyphs_of_both, component_clashes, subr_clashes, lacks_component, subr_differs, keys_of_both, shell_conflict, code_conflict, glyph_conflict}
+use Rattle.t1_algebra.specs.{Conflicts.{component_conflict, states_conflict, conflict, states_conflicts, conflicts}, Searches.{members, smallest, passing, first_of, or_else, found}}
+use Rattle.t1_algebra.specs.{Shared.{shared_of, same_part, all_parts}, Keep.{has}, States.{code_state, subr_state, executes, Join}}
 use Rattle.t1_algebra.specs.Laws.{ConflictsAreAll}
 use Rattle.t1_algebra.proofs.{Words.{list_any, nat_cmp_total, nat_list_cmp_total, nat_cmp-IsAntisymmetric, Interpreter}, Sets.{name_same, cases}, Maps.{both_back}, Shares.{part_back}}
-use Rattle.t1_algebra.proofs.{JoinedStates.{font_back}, Conflicts.{agrees_swap, compatible, no_conflict, conflict_back}}
+use Rattle.t1_algebra.proofs.{JoinedStates.{font_back}, Conflicts.{agrees_swap, compatible, no_conflict}}
 use Rattle.std.specs.FinMap as maps
 
 -- ---- the first of all

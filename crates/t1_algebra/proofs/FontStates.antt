@@ -5,9 +5,10 @@ use Rattle.t1_join.specs.{Meaning.{of_number}, Join.{State}, StateLaws.{same_mea
 use Rattle.t1_font.specs.{FontModel.{word_of, encoding_by, font_by}, Maps.{map_values}}
 use Rattle.t1_font.specs.FontValue.{FontValue, SparseArray, CharStrings, total, subr_weight, weight, weight_limit, count_limit, names_in}
 use Rattle.t1_font.proofs.{CutEntries.{entries-retain}, MapLemmas.{entries_all, get-retain, get-map_values}}
+use Rattle.t1_font.specs.MadeTables.{numbered, entry_or_stub}
 use Rattle.t1_algebra.specs.States.{named_at, code_state, KeepsLimits, is_sought, subr_state, name_state, Compatible, Join, joined_font}
-use Rattle.t1_algebra.specs.StateTables.{StatesValue, numbered, name_meaning, behind_mark, AreSought, used_subrs, all_components, name_states, states_of, subr_adds, name_adds, code_states}
-use Rattle.t1_algebra.specs.StateTables.{state_or_stub, states_weight, states_glyphs, StatesFit, name_part, subr_part, code_part, joined_states, PartsJoin, FontStatesAgree, FontStatesJoin}
+use Rattle.t1_algebra.specs.StateTables.{StatesValue, name_meaning, behind_mark, AreSought, used_subrs, all_components, name_states, states_of, subr_adds, name_adds, code_states}
+use Rattle.t1_algebra.specs.StateTables.{states_weight, states_glyphs, StatesFit, name_part, subr_part, code_part, joined_states, PartsJoin, FontStatesAgree, FontStatesJoin}
 use Rattle.t1_algebra.specs.StateLaws.{PartsAgree, parts_laws}
 use Rattle.t1_algebra.proofs.{Words.{nat_cmp_total, nat_list_cmp_total, nat_cmp-IsAntisymmetric, eq_by_cmp, list_any, Interpreter, same_bytes}, Shares.{same_indices, sharing}, Maps.{get-valued}}
 use Rattle.t1_algebra.proofs.{Sets.{any_flat_map, name_same, cases}, JoinedStates.{subr_joined, name_joined, present_joined}, Subsets.{stub_is, same_font, same_encoding, code_joined}}
@@ -178,7 +179,7 @@ module _ {O : Type 0} (m : Interpreter O) (f g : FontValue) (e : states_of m f �
 
 module _ {O : Type 0} (m : Interpreter O) (f : FontValue) where
   -- a font has the state of each of its Subrs, or a stub where it is the bottom
-  subr_again : (i : ℕ) → option_map (λ c. state_or_stub (numbered (used_subrs m f)) i) (maps.get f.subrs i) ≡ maps.get f.subrs i
+  subr_again : (i : ℕ) → option_map (λ c. entry_or_stub (numbered (used_subrs m f)) i) (maps.get f.subrs i) ≡ maps.get f.subrs i
   subr_again i = grind (cases, subrs_shown m f (of_number i), stub_is)
 
   -- the Encoding is the word that the font shares, or else the table of the names of its codes
@@ -191,20 +192,20 @@ module _ {O : Type 0} (m : Interpreter O) (f : FontValue) where
   -- the font of its states, with stubs for the Subrs that have none, is the font
   pub font_again : (codes present : SparseArray) (glyphs : CharStrings) → numbered codes ≡ code_states f.encoding → maps.keys present ≡ maps.keys f.subrs →
       ((n : List ℕ) → maps.get glyphs n ≡ behind_mark (maps.get (name_states m f) n)) →
-      font_by f.shell (word_of f.encoding) codes (map_values (λ i c. state_or_stub (numbered (used_subrs m f)) i) present) glyphs ≡ f
+      font_by f.shell (word_of f.encoding) codes (map_values (λ i c. entry_or_stub (numbered (used_subrs m f)) i) present) glyphs ≡ f
   font_again codes present glyphs same keys are = same_font _ f refl (encoding_again codes same)
       (λ i.
       let there = maps.contains_key-keys present i ∙ ap (list_any (eq_by_cmp nat_cmp i)) keys ∙ sym (maps.contains_key-keys f.subrs i) in
-      let values = get-map_values nat_cmp_total nat_cmp-IsAntisymmetric (λ i c. state_or_stub (numbered (used_subrs m f)) i) present i in
+      let values = get-map_values nat_cmp_total nat_cmp-IsAntisymmetric (λ i c. entry_or_stub (numbered (used_subrs m f)) i) present i in
       grind (cases, there, values, subr_again i))
       (λ n. ap (λ (g : CharStrings). maps.get g n) (glyphs_among m f glyphs are))
 
   -- so is a font that is made of its states
   pub font_made : (s : StatesValue) → s ≡ states_of m f → (codes present subrs : SparseArray) (glyphs : CharStrings) →
-      numbered codes ≡ code_part s → maps.keys present ≡ s.0.1.1 → subrs ≡ map_values (λ i c. state_or_stub (subr_part s) i) present →
+      numbered codes ≡ code_part s → maps.keys present ≡ s.0.1.1 → subrs ≡ map_values (λ i c. entry_or_stub (subr_part s) i) present →
       ((n : List ℕ) → maps.get glyphs n ≡ behind_mark (maps.get (name_part s) n)) → font_by s.0.0 s.0.1.0 codes subrs glyphs ≡ f
   font_made s e codes present subrs glyphs same keys stubbed are =
-      let filled = stubbed ∙ ap (λ (s : StatesValue). map_values (λ i c. state_or_stub (subr_part s) i) present) e in
+      let filled = stubbed ∙ ap (λ (s : StatesValue). map_values (λ i c. entry_or_stub (subr_part s) i) present) e in
       (λ i. font_by (e i).0.0 (e i).0.1.0 codes (filled i) glyphs)
       ∙ font_again codes present glyphs (same ∙ ap code_part e) (keys ∙ ap (λ (s : StatesValue). s.0.1.1) e)
       (λ n. are n ∙ ap (λ (s : StatesValue). behind_mark (maps.get (name_part s) n)) e)

@@ -1,12 +1,13 @@
 -- Tables of codes, of Subrs and of names: what stands at each key, and how they join.
 use Rattle.std.proofs.Common.{◌≡◌, ℕ, Bor, option_map, Bool, true, false, not, cond, T, List, [], ◌∷◌, refl, sym, ◌∙◌, ap, arith, Option, Some, None, is_some, Less, Equal, Greater, ◌&&◌, map, subst}
-use Rattle.std.proofs.{Common.{true≢false, nat_cmp, is_lt, ◌↔◌, inl, inr, ◌⊎◌}, lemmas.Bool.{cases_Bool}, lemmas.Option.{MatchOption-at_none, MatchOption-at_some}, lemmas.Map.Text.{is_eq-slice_cmp}}
-use Rattle.std.specs.{Ordering.{is_eq, ordering_then}, FinMap.{find, is_sorted}, FinMap.Entries.{below_all}, Option.{option_copied}, Prelude.{MatchOption}, Str.{bytes_eq}}
-use Rattle.t1_join.proofs.{Conflicts.{Says, both_agree, says_first}, Sorted.{map_of}}
-use Rattle.t1_join.specs.{TableMeaning.{TableMeaning, Rises, entry_meanings, joined_table, TablesAgree}, Meaning.{Meaning, meaning_cmp, of_number, by_number_law, same_meaning}}
+use Rattle.std.proofs.{Common.{true≢false, nat_cmp, ◌↔◌, inl, inr, ◌⊎◌}, lemmas.Bool.{cases_Bool}, lemmas.Option.{MatchOption-at_none, MatchOption-at_some}, lemmas.Map.Text.{is_eq-slice_cmp}}
+use Rattle.std.specs.{Ordering.{is_eq, ordering_then}, FinMap.{find}, Option.{option_copied}, Prelude.{MatchOption}, Str.{bytes_eq}}
+use Rattle.t1_join.proofs.{Conflicts.{Says, both_agree, says_first}}
+use Rattle.t1_join.specs.{TableMeaning.{TableMeaning, joined_table, TablesAgree}, Meaning.{Meaning, meaning_cmp, of_number, by_number_law, same_meaning}}
 use Rattle.t1_join.specs.{Join.{joined_state, State, states_agree, StatesAgree}, TableLaws.{get_joined, same_table}, StateLaws.{same_meaning-true, same_meaning-self}}
-use Rattle.t1_font.{specs.{Maps.{merged}, Joins.{differing_name}, Lent.{lent_number}, FontValue.{SparseArray, CharStrings, name_cmp, Encoding, Word, Codes}}, proofs.MapLemmas.{get-map_values}}
-use Rattle.t1_algebra.specs.{Conflicts.{agrees}, StateTables.{numbered, name_meaning, AreNameStates, behind_mark, glyph_table, names_table, AreSought, code_states}, Searches.{IsLowest}}
+use Rattle.t1_font.specs.{Maps.{merged}, Joins.{differing_name}, MadeTables.{numbered}, FontValue.{SparseArray, CharStrings, name_cmp, Encoding, Word, Codes}}
+use Rattle.t1_font.proofs.{MapLemmas.{get-map_values}, MadeTables.{keyed, sorted_keyed}}
+use Rattle.t1_algebra.specs.{Conflicts.{agrees}, StateTables.{name_meaning, AreNameStates, behind_mark, glyph_table, names_table, AreSought, code_states}, Searches.{IsLowest}}
 use Rattle.t1_algebra.specs.{NameStates.{is_sought_in, charstrings_differ, one_lacks}, States.{Agree, code_state, joined_option}}
 use Rattle.t1_algebra.proofs.{Words.{list_any, eq_by_cmp, nat_cmp_total, nat_list_cmp_total, same_bytes}, Maps.{get-merged}, Sets.{cases_Option, name_same, cases}, Shares.{bytes_decide}}
 use Rattle.std.specs.FinMap as maps
@@ -18,10 +19,6 @@ some_copied f r = grind cases
 -- states that agree in tables agree
 pub to_agree : (x y : State) → StatesAgree x y → Agree x y
 to_agree x y h = grind (cases, same_meaning-true)
-
--- entries with their numbers as keys of a table
-abbrev pub keyed : List (ℕ × List ℕ) → List (Meaning × Meaning)
-keyed es = map (λ e. (of_number e.0, e.1)) es
 
 -- the value at a key that stands for a number, and nothing at any other key
 abbrev pub at_number : (ℕ → Option (List ℕ)) → Meaning → Option Meaning
@@ -44,27 +41,6 @@ by_number i n = ap is_eq (sym (by_number_law i n))
 find_keyed : (es : List (ℕ × List ℕ)) (q : Meaning) → find meaning_cmp q (keyed es) ≡ at_number (λ n. find nat_cmp n es) q
 find_keyed [] q = grind (arith, cases_key q)
 find_keyed (e ∷ es) q = grind (cases, cases_key q, by_number, find_keyed es q)
-
-below_keyed : (k : ℕ) (es : List (ℕ × List ℕ)) → below_all meaning_cmp (of_number k) (keyed es) ≡ below_all nat_cmp k es
-below_keyed k [] = refl
-below_keyed k (e ∷ es) = λ i. is_lt (sym (by_number_law k e.0) i) && below_keyed k es i
-
-sorted_keyed : (es : List (ℕ × List ℕ)) → is_sorted meaning_cmp (keyed es) ≡ is_sorted nat_cmp es
-sorted_keyed [] = refl
-sorted_keyed (e ∷ es) = λ i. below_keyed e.0 es i && sorted_keyed es i
-
--- what entries mean that are lent, by number
-pub keyed_lent : (es : List (ℕ × Bor (List ℕ))) → keyed (map lent_number es) ≡ entry_meanings of_number (λ s. s.now) es
-keyed_lent [] = refl
-keyed_lent (e ∷ es) = λ i. (of_number e.0, e.1.now) ∷ keyed_lent es i
-
--- entries by number that are a table's stand upwards by number
-pub numbers_rise : (es : List (ℕ × List ℕ)) (t : TableMeaning) → keyed es ≡ maps.entries t → Rises nat_cmp es
-numbers_rise es t is = subst T (sorted_keyed es) (subst (λ (es : List (Meaning × Meaning)). T (is_sorted meaning_cmp es)) (sym is) (maps.entries_sorted t))
-
--- and the map of them is that table
-pub numbers_again : (es : List (ℕ × List ℕ)) (t : TableMeaning) → keyed es ≡ maps.entries t → numbered (maps.from_sorted {R = nat_cmp} es) ≡ t
-numbers_again es t is = map_of _ t (ap keyed (maps.entries-from_sorted nat_cmp es (numbers_rise es t is)) ∙ is)
 
 module _ (m : SparseArray) where
   -- the entries of a table by number are those of its map

@@ -1,7 +1,7 @@
 -- The states of a font as tables, and what they weigh.
-use Rattle.std.specs.{Prelude.{◌≡◌, ◌≤◌, ℕ, ◌+◌, ◌*◌, ◌-◌, List, [], ◌∷◌, map, flat_map, length, Option, Some, None, is_some, unwrap_or}, Coded.{Coded, coded×}, Option.{option_map}}
-use Rattle.t1_join.specs.{Meaning.{Meaning, of_number}, Products.{SameJoin, BothJoin, FittingAgree, FittingJoin}, TableMeaning.{TableMeaning, TablesJoin, table_code, joined_table}}
-use Rattle.t1_font.specs.{FontValue.{FontValue, Encoding, Word, Codes, SparseArray, CharStrings, total, texts_weight, weight_limit, count_limit, names_in}, Maps.{map_values}, Cut.{stub}}
+use Rattle.std.specs.{Prelude.{◌≡◌, ◌≤◌, ℕ, ◌+◌, ◌*◌, ◌-◌, List, [], ◌∷◌, map, flat_map, length, Option, Some, None, is_some}, Coded.{Coded, coded×}, Option.{option_map}}
+use Rattle.t1_join.specs.{Meaning.{Meaning}, Products.{SameJoin, BothJoin, FittingAgree, FittingJoin}, TableMeaning.{TableMeaning, TablesJoin, table_code, joined_table}}
+use Rattle.t1_font.specs.{FontValue.{FontValue, Encoding, Word, Codes, SparseArray, CharStrings, total, texts_weight, weight_limit, count_limit, names_in}, Maps.{map_values}, MadeTables.{numbered}}
 use Rattle.t1_algebra.specs.{Interpreter.{Interpreter}, States.{named_at, subr_state}, Shared.{Shared, shared_code, shared_of}}
 use Rattle.std.specs.FinMap as maps
 
@@ -26,10 +26,6 @@ abbrev pub states_code : Coded StatesValue
 states_code = coded× shared_code (coded× table_code (coded× table_code table_code))
 
 -- ---- the states of a font
-
--- a map by number, as a table
-abbrev pub numbered : SparseArray → TableMeaning
-numbered m = maps.from_sorted (map (λ e. (of_number e.0, e.1)) (maps.entries m))
 
 -- the meaning of a name's state: nothing if the name is sought, else a mark and the charstring
 abbrev pub name_meaning : Option (List ℕ) → Meaning
@@ -79,10 +75,6 @@ module _ {O : Type 0} (m : Interpreter O) (f : FontValue) where
   -- the states of a font
   abbrev pub states_of : StatesValue
   states_of = (shared_of f, (code_states f.encoding, (name_states, numbered used_subrs)))
-
--- the state of a Subr, or a stub where it is the bottom
-abbrev pub state_or_stub : TableMeaning → ℕ → List ℕ
-state_or_stub t i = unwrap_or (maps.get t (of_number i)) stub
 
 -- ---- weights
 

@@ -1,27 +1,9 @@
 -- What the entries of an Encoding put, copies among them.
-use Rattle.std.proofs.{Common.{◌≡◌, ℕ, zero, suc, ◌+◌, ◌-◌, ◌<◌, List, [], ◌∷◌, ◌++◌, length, refl, sym, ap, ◌∙◌, append_assoc, arith}, lemmas.List.{append-nil}}
+use Rattle.std.proofs.{Common.{◌≡◌, ℕ, zero, suc, List, [], ◌∷◌, ◌++◌, refl, sym, ap, ◌∙◌, append_assoc}, lemmas.List.{append-nil}}
 use Rattle.std.specs.{Prelude.{map, unwrap_or}, Ordering.{nat_cmp}, Cmp.{nat_cmp_total}, FinSet.{nat_cmp-IsAntisymmetric}, FinMap.{insert}}
 use Rattle.t1_font.specs.{FontValue.{SparseArray, notdef}, Encoding.{CodeEntry, Put, Copy, name_after, copied, put_by, puts_after, puts_of}, Entries.{map_of}}
 use Rattle.t1_font.specs.Gathering.{gathered_name, copied_names, named_from, kept_by}
 use Rattle.t1_font.proofs.{MapLaws.{get-map_of}, HeldLemmas.{one_code_more}}
-
--- ---- names in turn
-
--- one more name of so many
-pub names_turn : (codes : SparseArray) (from n i : ℕ) (done : List (List ℕ)) (name : List ℕ) (all : List (List ℕ)) → i < n →
-    name ≡ gathered_name codes (from + i) →
-    done ++ copied_names codes (from + i) (n - i) ≡ all → (done ++ name ∷ []) ++ copied_names codes (from + (i + 1)) (n - (i + 1)) ≡ all
-names_turn codes from n i done name all below is so_far =
-    let more : n - i ≡ suc (n - (i + 1)) = omega (arith, below) in
-    let next : from + (i + 1) ≡ suc (from + i) = omega arith in
-    append_assoc done (name ∷ []) (copied_names codes (from + (i + 1)) (n - (i + 1)))
-    ∙ (ap (λ (ns : List (List ℕ)). done ++ ns)
-    ((λ j. is j ∷ copied_names codes (next j) (n - (i + 1))) ∙ ap (copied_names codes (from + i)) (sym more)) ∙ so_far)
-
--- there are so many
-pub names_count : (codes : SparseArray) (from n : ℕ) → length (copied_names codes from n) ≡ n
-names_count codes from zero = refl
-names_count codes from (suc n) = ap suc (names_count codes (suc from) n)
 
 -- ---- entries in turn
 

@@ -2,7 +2,7 @@
 use Rattle.std.proofs.Common.{◌≡◌, ℕ, zero, suc, ◌+◌, ◌-◌, ◌<◌, ◌≤◌, arith, List, [], ◌∷◌, ◌++◌, take, map, length, drop, get_or, Option, Some, None, Bor, inl, inr, refl, sym, ap, ◌∙◌, append_assoc}
 use Rattle.std.proofs.{Common.{subst, true, false}, lemmas.List.{drop_more, drop_all, drop_at, drop-drop, length-take-le, length-drop, length-append}, lemmas.Bool.{cases_Bool, cases_lt}}
 use Rattle.std.proofs.lemmas.Option.{none-some, same_Some}
-use Rattle.std.specs.{Prelude.{not}, Option.{option_and_then, option_map}}
+use Rattle.std.specs.{Option.{option_and_then, option_map}}
 use Rattle.t1_grammar.specs.{Grammar.{Grammar, NoneIn, first, count, unread}, Places.{NoneBelow, first_found, first_nowhere, one_more, unread_lacks}}
 use Rattle.t1_font.{specs.{FontTest.{token, test_tokens, font_test, precedes_test, apart_test, found_test, place_and_around}}, proofs.Untested.{begins_test}}
 

@@ -6,10 +6,13 @@ pub mod PartsOfOne
 pub mod MapLaws
 pub mod Buffers
 pub mod Drains
-pub mod Sourced
 pub mod TableLoops
 pub mod HeldLemmas
 pub mod Copies
+pub mod CodeTables
+pub mod EachEntry
+pub mod MadeTables
+pub mod FontShells
 pub mod Arrays
 pub mod FontReaders
 pub mod Weights

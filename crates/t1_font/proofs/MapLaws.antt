@@ -6,19 +6,19 @@ use Rattle.t1_grammar.specs.Grammar.{choice}
 use Rattle.t1_font.specs.Entries.{put_all, last_entries, map_of, has_name, last_names, names_of, last_value, unless_notdef}
 use Rattle.std.specs.FinMap as maps
 
-and_T : (a b : Bool) → T a → T b → T (a && b)
+pub and_T : (a b : Bool) → T a → T b → T (a && b)
 and_T true b p q = q
 and_T false b p q = p
 
-left_T : (a b : Bool) → T (a && b) → T a
+pub left_T : (a b : Bool) → T (a && b) → T a
 left_T true b h = tt
 left_T false b h = h
 
-right_T : (a b : Bool) → T (a && b) → T b
+pub right_T : (a b : Bool) → T (a && b) → T b
 right_T true b h = h
 right_T false b h = absurd h
 
-less_apart : (o : Ordering) → T (is_lt o) → is_eq o ≡ false
+pub less_apart : (o : Ordering) → T (is_lt o) → is_eq o ≡ false
 less_apart Less h = refl
 less_apart Equal h = absurd h
 less_apart Greater h = refl

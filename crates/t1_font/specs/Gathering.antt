@@ -1,5 +1,5 @@
 -- What is gathered of a font while it is read.
-use Rattle.std.specs.{Prelude.{◌≡◌, ℕ, zero, suc, ◌≤◌, List, [], ◌∷◌, length, filter, map, drop, unwrap_or}, Borrow.{Bor}, Coded.{Coded, code_by, coded×}, FinMap.{from_sorted, entries, get, insert}}
+use Rattle.std.specs.{Prelude.{◌≡◌, ℕ, zero, suc, ◌≤◌, List, [], ◌∷◌, length, filter, map, drop, unwrap_or}, Coded.{Coded, code_by, coded×}, FinMap.{from_sorted, entries, get, insert}}
 use Rattle.std.proofs.Common.{refl}
 use Rattle.t1_bytes.specs.Limits.{file_limit}
 use Rattle.t1_join.specs.Entries.{entries_by}
@@ -18,10 +18,6 @@ abbrev pub entries_code : Coded Entries
 entries_code = code_by (List ℕ × (SparseArray × (SparseArray × CharStrings))) (coded× bytes_code (coded× numbered_code (coded× numbered_code named_code)))
     (λ g. (g.rest, (g.codes, (g.subrs, g.glyphs)))) (λ p. record { rest = p.0; codes = p.1.0; subrs = p.1.1.0; glyphs = p.1.1.1 }) (λ g. refl)
 
--- the names of codes, which stand elsewhere
-abbrev pub gathered_codes : List (ℕ × Bor (List ℕ)) → SparseArray
-gathered_codes es = map_of (entries_by (λ k. k) (λ n. n.now) es)
-
 -- the charstrings of a buffer, by index and by name
 abbrev pub gathered_subrs : List ℕ → List (ℕ × Range) → SparseArray
 gathered_subrs buffer es = map_of (entries_by (λ k. k) (bytes_at buffer) es)
@@ -32,7 +28,7 @@ gathered_glyphs buffer es = map_of (map (named_at buffer) es)
 abbrev pub gathered_value : Inside → Entries
 gathered_value g = record {
   rest = drop g.at g.buffer.items;
-  codes = gathered_codes g.codes.items;
+  codes = g.codes;
   subrs = gathered_subrs g.buffer.items g.subrs.items;
   glyphs = gathered_glyphs g.buffer.items g.glyphs.items;
 }

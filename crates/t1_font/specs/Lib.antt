@@ -14,13 +14,16 @@ pub mod Pieces
 pub mod FontValue
 pub mod Entries
 pub mod Lent
+pub mod MadeTables
 pub mod Ranges
 pub mod Places
+pub mod CodeNames
 pub mod Gathering
 pub mod Sealing
 pub mod Sources
 pub mod FontModel
 pub mod IsFont
+pub mod FontShells
 pub mod Encodings
 pub mod Joins
 pub mod ReadFont

@@ -1,14 +1,13 @@
 //! The entries of an Encoding's table.
 
-ghost use Rattle.std.specs.{Prelude.{◌≡◌, ◌+◌, ◌≤◌, true, map, OnOk, IfOk, IfSome, Some, None, length, if◌then◌else◌}, Option.{option_map}};
+ghost use Rattle.std.specs.{Prelude.{◌≡◌, true, IfSome, Some, None, if◌then◌else◌}, Option.{option_map}};
 ghost use Rattle.t1_font.specs.Encoding.{is_octal, octal_after, octal, decimal_or_octal, code, put_entry, copy_start, one_copy, copied_range, copy_of_range, are_codes};
-ghost use Rattle.t1_font.specs.{Encoding.{range_copy, code_entry, within_codes, Copy}, Gathering.{CodesAlone, copied_names, named_from, kept_by}};
+ghost use Rattle.t1_font.specs.{Encoding.{range_copy, code_entry, within_codes}, Gathering.{CodesAlone, kept_by}};
 ghost use Rattle.t1_font.specs.Views.{code_entry_view};
 
 use crate::dialect::{Dialect, Spacing};
 use crate::gathered::Gathered;
 use crate::words::{decimal_at, keyword_at, name_at, regular_at};
-use std::alloc::{AllocError, Global};
 use t1_bytes::texts::fixed_at;
 
 /// The number that 1 to 9 octal digits spell.
@@ -178,66 +177,14 @@ pub(crate) fn code_entry_at(bytes: &[u8], dialect: Dialect) -> Option<(CodeEntry
     }
 }
 
-/// The names of so many codes from one on.
-fn copied_names<'a>(
-    alloc: Global,
-    from: u16,
-    count: u16,
-    gathered: &Gathered<'a>,
-) -> Result<Vec<&'a [u8]>, AllocError>
-    ensures { IfOk result (λ v. map (λ n. n.now) v.items ≡ copied_names gathered.now.codes from count) }
-{
-    let mut names = Vec::new(alloc);
-    'names: for i in 0..count {
-        names.push(gathered.name_at(from as u32 + i as u32))?;
-    }
-    Ok(names)
-}
-
-/// Puts names at the codes from one on.
-fn put_names<'a>(to: u16, names: &[&'a [u8]], gathered: &mut Gathered<'a>) -> Result<(), AllocError>
-    requires { to + length names.now ≤ 256 }
-    ensures kept { OnOk result (gathered.new.codes
-        ≡ named_from gathered.old.codes to (map (λ n. n.now) names.now)) }
-    ensures others { OnOk result (CodesAlone gathered.old gathered.new) }
-{
-    'names: for i in 0..names.len() {
-        gathered.keep_code((to + i as u16) as u8, names[i])?;
-    }
-    Ok(())
-}
-
-/// Puts the names of so many codes from one on at the codes from another one on.
-fn copy_codes(
-    alloc: Global,
-    from: u16,
-    count: u16,
-    to: u16,
-    gathered: &mut Gathered<'_>,
-) -> Result<(), AllocError>
-    requires { to + count ≤ 256 }
-    ensures kept { OnOk result (gathered.new.codes
-        ≡ kept_by gathered.old.codes (Copy from count to)) }
-    ensures others { OnOk result (CodesAlone gathered.old gathered.new) }
-{
-    gathered.settle_codes()?;
-    let names = copied_names(alloc, from, count, gathered)?;
-    put_names(to, names.as_slice(), gathered)
-}
-
 /// Keeps what an entry of the table puts.
-pub(crate) fn keep_entry<'a>(
-    alloc: Global,
-    entry: CodeEntry<'a>,
-    gathered: &mut Gathered<'a>,
-) -> Result<(), AllocError>
+pub(crate) fn keep_entry<'a>(entry: CodeEntry<'a>, gathered: &mut Gathered<'a>)
     requires { within_codes (code_entry_view entry) ≡ true }
-    ensures kept { OnOk result (gathered.new.codes
-        ≡ kept_by gathered.old.codes (code_entry_view entry.entry)) }
-    ensures others { OnOk result (CodesAlone gathered.old gathered.new) }
+    ensures kept { gathered.new.codes ≡ kept_by gathered.old.codes (code_entry_view entry.entry) }
+    ensures others { CodesAlone gathered.old gathered.new }
 {
     match entry {
         CodeEntry::Put(code, name) => gathered.keep_code(code, name),
-        CodeEntry::Copy(from, count, to) => copy_codes(alloc, from, count, to, gathered),
+        CodeEntry::Copy(from, count, to) => gathered.copy_codes(from, count, to),
     }
 }

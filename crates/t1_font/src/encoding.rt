@@ -11,16 +11,13 @@ ghost use Rattle.t1_font.specs.Answers.{Shown, encoding_view, ShowsClear};
 ghost use Rattle.std.specs.FinMap as fin;
 
 use crate::code_entry::{code_entry_at, keep_entry};
+use crate::code_names::CODES;
 use crate::dialect::{Dialect, Spacing};
 use crate::fault::{ReadFault, TableError};
 use crate::gathered::Gathered;
 use crate::markers::{EncodingMarker, first};
 use crate::words::{keyword_at, name_at, word_at};
-use std::alloc::Global;
 use t1_bytes::texts::fixed_at;
-
-/// How many codes there are.
-const CODES: u16 = 256;
 
 /// `readonly` and the white space after it, if they are there.
 fn after_readonly(bytes: &[u8], spacing: Spacing) -> &[u8]
@@ -188,7 +185,6 @@ fn encoding_start_at(bytes: &[u8], dialect: Dialect) -> Option<(Opening<'_>, &[u
 
 /// The entries of the table, kept, and what stands after their close.
 fn puts_at<'a>(
-    alloc: Global,
     bytes: &'a [u8],
     dialect: Dialect,
     gathered: &mut Gathered<'a>,
@@ -207,7 +203,7 @@ fn puts_at<'a>(
             let (_, left) = dialect.encoding.white_at(rest);
             return Err(TableError::Left(left.len()));
         };
-        keep_entry(alloc, entry, gathered)?;
+        keep_entry(entry, gathered);
         rest = after;
     }
 }
@@ -232,7 +228,7 @@ fn names_at<'a>(
             let (_, left) = spacing.white_at(rest);
             return Err(TableError::Left(left.len()));
         };
-        gathered.keep_code(code as u8, name)?;
+        gathered.keep_code(code as u8, name);
         rest = after;
     }
     let Some(after) = array_end_at(rest, spacing) else {
@@ -272,7 +268,6 @@ fn bad_encoding(clear: &[u8], error: TableError) -> ReadFault
 /// The names of the table's codes, in the last part of the clear text.
 #[tactic(auto, unfolding(crate::specs::Pieces::encoding_from))]
 fn table_from<'a>(
-    alloc: Global,
     clear: &[u8],
     rest: &'a [u8],
     dialect: Dialect,
@@ -283,7 +278,7 @@ fn table_from<'a>(
         × (x.1.now ≡ e.1)) result (encoding_from dialect clear.now OpensPuts rest.now).read }
     ensures others { OnOk result (CodesAlone gathered.old gathered.new) }
 {
-    match puts_at(alloc, rest, dialect, gathered) {
+    match puts_at(rest, dialect, gathered) {
         Ok(after) => Ok((EncodingParts::Puts, after)),
         Err(error) => Err(bad_encoding(clear, error)),
     }
@@ -311,7 +306,6 @@ fn array_from<'a>(
 /// The Encoding, from its word or from the first of its puts or names on.
 #[tactic(auto, unfolding(crate::specs::Pieces::encoding_from))]
 fn encoding_from<'a>(
-    alloc: Global,
     clear: &[u8],
     opening: Opening<'a>,
     rest: &'a [u8],
@@ -326,7 +320,7 @@ fn encoding_from<'a>(
 {
     match opening {
         Opening::Word(word) => Ok((EncodingParts::OneWord(word), rest)),
-        Opening::Puts => table_from(alloc, clear, rest, dialect, gathered),
+        Opening::Puts => table_from(clear, rest, dialect, gathered),
         Opening::Names => array_from(clear, rest, dialect, gathered),
     }
 }
@@ -334,7 +328,6 @@ fn encoding_from<'a>(
 /// The head, the Encoding, and the rest of a clear text.
 #[tactic(auto, unfolding(crate::specs::Pieces::clear_pieces))]
 pub(crate) fn clear_parts<'a>(
-    alloc: Global,
     clear: &'a [u8],
     dialect: Dialect,
     gathered: &mut Gathered<'a>,
@@ -350,7 +343,7 @@ pub(crate) fn clear_parts<'a>(
     let Some((opening, rest)) = encoding_start_at(after, dialect) else {
         return Err(ReadFault::BadEncoding { at: head.len() });
     };
-    let (encoding, clear_tail) = encoding_from(alloc, clear, opening, rest, dialect, gathered)?;
+    let (encoding, clear_tail) = encoding_from(clear, opening, rest, dialect, gathered)?;
     Ok(ClearParts {
         head,
         encoding,

@@ -3,11 +3,12 @@
 ghost use Rattle.std.specs.{Prelude.{◌≡◌, ◌≤◌, ◌+◌, length, take, drop, true, IfOk, MatchResult}, Ordering.{nat_cmp}};
 ghost use Rattle.t1_bytes.specs.{Cipher.{decrypted}, Split.{cipher_in, last_bytes}, Limits.{file_limit}, Laws.{AreBytes}};
 ghost use Rattle.t1_join.specs.TableMeaning.{Rises};
-ghost use Rattle.t1_font.specs.{FontValue.{count_limit}, Gathering.{gathered_codes}, Pieces.{ClearPieces, PrivatePieces, flat_pieces}};
+ghost use Rattle.t1_font.specs.{FontValue.{count_limit}, Pieces.{ClearPieces, PrivatePieces, flat_pieces}};
 ghost use Rattle.t1_font.specs.ReadFont.{font_of, flat_reading, file_pieces, font_from, font_texts, font_file, read_font, read_font_widely};
 ghost use Rattle.t1_font.specs.{Answers.{Answers, Shown, ShowsClear, ShowsPrivate, encoding_view, declared_in}, Sources.{kept_encoding, codes_of}};
 ghost use Rattle.t1_font.specs.{Spelling.{SpellsIn, Spells, SpellsWidely}, Reasons.{RefusesIn, Refuses, RefusesWidely}};
 
+use crate::code_names::CodeNames;
 use crate::dialect::Dialect;
 use crate::encoding::{ClearParts, EncodingParts, clear_parts};
 use crate::fault::ReadFault;
@@ -16,7 +17,7 @@ use crate::limits::{COUNT_LIMIT, WEIGHT_LIMIT};
 use crate::private::{PrivateParts, private_parts};
 use crate::read_shell::kept_shell;
 use crate::repeats::{ByName, ByNumber, last_entries};
-use crate::source::{KeptEncoding, Source, SourceParts, keep_codes};
+use crate::source::{KeptEncoding, Source, SourceParts};
 use crate::subrs::SubrsParts;
 use std::alloc::{AllocError, Global};
 use t1_bytes::{Cipher, EEXEC_KEY, EEXEC_LEAD, FILE_LIMIT, decrypt, find_cipher, flatten_vec};
@@ -98,15 +99,14 @@ fn cut_file(alloc: Global, file: Vec<u8>) -> Result<CutFile, ReadFault>
 fn kept_encoding(
     alloc: Global,
     parts: EncodingParts<'_>,
-    codes: Vec<(u16, &[u8])>,
+    codes: &CodeNames<'_>,
 ) -> Result<KeptEncoding, AllocError>
-    ensures value { IfOk result (λ e. kept_encoding e
-        ≡ encoding_view parts.entry (gathered_codes codes.entry.items)) }
+    ensures value { IfOk result (λ e. kept_encoding e ≡ encoding_view parts.entry codes.now) }
     ensures rise { IfOk result (λ e. Rises nat_cmp (codes_of e)) }
 {
     match parts {
         EncodingParts::OneWord(word) => Ok(KeptEncoding::Word(Vec::from_slice(alloc, word)?)),
-        EncodingParts::Puts => Ok(KeptEncoding::Codes(keep_codes(alloc, codes)?)),
+        EncodingParts::Puts => Ok(KeptEncoding::Codes(codes.kept(alloc)?)),
     }
 }
 
@@ -125,7 +125,7 @@ fn source_parts(
 {
     let shell = kept_shell(alloc, outside, inside)?;
     let buffer = gathered.buffer;
-    let encoding = kept_encoding(alloc, outside.encoding, gathered.codes)?;
+    let encoding = kept_encoding(alloc, outside.encoding, &gathered.codes)?;
     let names = ByName {
         buffer: buffer.as_slice(),
     };
@@ -220,7 +220,7 @@ fn text_parts(
     ensures { Answers (λ f. f) result (font_texts dialect clear.now (drop at buffer.items)).read }
 {
     let mut gathered = Gathered::new(alloc, buffer, at);
-    let outside = clear_parts(alloc, clear, dialect, &mut gathered)?;
+    let outside = clear_parts(clear, dialect, &mut gathered)?;
     let inside = private_parts(alloc, dialect.subrs, &mut gathered)?;
     font_from(alloc, &outside, inside, gathered)
 }

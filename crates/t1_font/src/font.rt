@@ -1,10 +1,11 @@
 //! The font value.
 
 ghost use Rattle.std.specs.{Prelude.{◌≡◌, ◌≤◌, true, false, is_some}, Option.{option_map}};
-ghost use Rattle.t1_font.specs.{FontValue.{weight, count_limit, weight_limit, names_in}, FontModel.{clamp, part_of, word_of, font_by, name_at, subr_at}};
+ghost use Rattle.t1_font.specs.{FontValue.{weight, count_limit, weight_limit, names_in}, FontModel.{clamp, part_of, word_of, name_at, subr_at}};
 ghost use Rattle.t1_font.specs.{IsFont.{IsFont}, Joins.{IsOverLimits}};
 ghost use Rattle.std.specs.FinMap as fin;
 
+use crate::font_shell::FontShell;
 use crate::lent::{CharStrings, CharStringsEntries, SparseArray, SparseArrayEntries};
 use crate::limits::{COUNT_LIMIT, WEIGHT_LIMIT};
 use crate::shell::{Part, Shell};
@@ -69,32 +70,6 @@ impl<'a> Font<'a> {
         let _parts = &self.parts;
     }
 
-    /// The font of these parts: its shell, its Encoding, which is a word or else the names of codes, its Subrs and its glyphs.
-    pub fn of_parts(
-        shell: &'a Shell,
-        word: Option<&'a [u8]>,
-        codes: SparseArray<'a>,
-        subrs: SparseArray<'a>,
-        glyphs: CharStrings<'a>,
-    ) -> Self
-        requires { IsFont (font_by shell.now (option_map (λ w. w.now) word) codes subrs glyphs) }
-        ensures { result
-            ≡ font_by shell.now (option_map (λ w. w.now) word.entry) codes.entry subrs.entry glyphs.entry }
-    {
-        let encoding = match word {
-            Some(word) => LentEncoding::Word(word),
-            None => LentEncoding::Codes(codes),
-        };
-        Font {
-            parts: FontParts {
-                shell,
-                encoding,
-                subrs,
-                glyphs,
-            },
-        }
-    }
-
     /// The names of the glyphs, upwards by their bytes.
     pub fn names(&self) -> Names<'_, 'a>
         ensures { result ≡ names_in self.now.glyphs }
@@ -147,32 +122,39 @@ impl<'a> Font<'a> {
         }
     }
 
-    /// The shell, which fonts of one source share. It lives as long as the source.
-    pub fn shell(&self) -> &'a Shell
+    /// The kept texts and words, which fonts of one source share. They live as long as the source.
+    pub(crate) fn texts(&self) -> &'a Shell
         ensures { result.now ≡ self.now.shell }
     {
         self.parts.shell
+    }
+
+    /// The shell, to which other tables may be put ([`FontShell::font`]).
+    pub fn shell(&self) -> FontShell<'a>
+        ensures { result ≡ (self.now.shell, word_of self.now.encoding) }
+    {
+        FontShell::of(self)
     }
 
     /// A kept text, or kept words; a word that isn't kept is empty.
     pub fn text(&self, part: Part) -> &'a [u8]
         ensures { result.now ≡ part_of part self.now.shell }
     {
-        self.shell().text(part)
+        self.texts().text(part)
     }
 
     /// Whether the font has a table of Subrs.
     pub fn has_subrs(&self) -> bool
         ensures { result ≡ is_some self.now.shell.subrs }
     {
-        self.shell().has_subrs()
+        self.texts().has_subrs()
     }
 
     /// How many lead bytes a charstring has in a file.
     pub fn len_iv(&self) -> u8
         ensures { result ≡ self.now.shell.len_iv }
     {
-        self.shell().len_iv()
+        self.texts().len_iv()
     }
 
     /// The weight by which a font is limited: the bytes of the five kept texts, and for each charstring its bytes, its
@@ -309,7 +291,7 @@ impl<'a> Subroutines for Font<'a> {
     ghost below = { subrs_below };
 
     fn count(&self) -> u16 {
-        self.shell().declared_count()
+        self.texts().declared_count()
     }
 
     fn get(&self, i: u16) -> Option<&[u8]> {

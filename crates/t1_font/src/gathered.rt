@@ -1,12 +1,12 @@
 //! What is gathered of a font while it is read.
 
-ghost use Rattle.std.specs.{Prelude.{◌≡◌, ◌≤◌, ◌+◌, ◌-◌, ◌++◌, length, take, drop, unwrap_or, OnOk}, Ordering.{nat_cmp}};
+ghost use Rattle.std.specs.Prelude.{◌≡◌, ◌≤◌, ◌+◌, ◌-◌, ◌++◌, length, take, drop, OnOk};
 ghost use Rattle.t1_bytes.specs.{Cipher.{decrypted, plain_of}, Limits.{file_limit}};
-ghost use Rattle.t1_font.specs.{Entries.{last_value}, FontValue.{notdef}, Gathering.{gathered_name}, Places.{ending, bytes_at_place}};
+ghost use Rattle.t1_font.specs.{Encoding.{Copy}, Gathering.{kept_by}, Places.{ending, bytes_at_place}};
 ghost use Rattle.t1_font.specs.Ranges.{bytes_at, IsInside};
-ghost use Rattle.t1_join.specs.Entries.{entries_by};
 ghost use Rattle.std.specs.FinMap as fin;
 
+use crate::code_names::CodeNames;
 use crate::places::Place;
 use crate::ranges::Range;
 use crate::repeats::{ByName, ByNumber, ROOM, settle};
@@ -21,14 +21,13 @@ use t1_bytes::{CHARSTRING_KEY, decrypt};
 /// and charstrings stay in place there, and each charstring is decrypted when its entry was read.
 #[derive(Drop)]
 pub(crate) struct Gathered<'a> {
-    pub(crate) codes: Vec<(u16, &'a [u8])>,
+    pub(crate) codes: CodeNames<'a>,
     pub(crate) buffer: Vec<u8>,
     /// The offset up to which the buffer was read.
     pub(crate) at: usize,
     pub(crate) subrs: Vec<(u16, Range)>,
     pub(crate) glyphs: Vec<(Range, Range)>,
     /// How many entries of each kind there may be until the next look for repeated keys.
-    pub(crate) code_room: usize,
     pub(crate) subr_room: usize,
     pub(crate) glyph_room: usize,
 }
@@ -81,20 +80,6 @@ fn decrypt_in(buffer: &mut Vec<u8>, part: Range)
     decrypt(body, CHARSTRING_KEY);
 }
 
-/// The last name of a code: `.notdef` where it has none.
-fn last_name<'a>(codes: &[(u16, &'a [u8])], code: u32) -> &'a [u8]
-    ensures { result.now ≡ unwrap_or (last_value nat_cmp code
-        (entries_by (λ k. k) (λ n. n.now) codes.now)) notdef }
-{
-    let mut name = b".notdef".as_slice();
-    'codes: for entry in codes {
-        if entry.0 as u32 == code {
-            name = entry.1;
-        }
-    }
-    name
-}
-
 impl<'a> Gathered<'a> {
     /// No entries, before the private text, which stands in a buffer from `at` on.
     pub(crate) fn new(alloc: Global, buffer: Vec<u8>, at: usize) -> Self
@@ -109,12 +94,11 @@ impl<'a> Gathered<'a> {
             } }
     {
         Gathered {
-            codes: Vec::new(alloc),
+            codes: CodeNames::none(),
             buffer,
             at,
             subrs: Vec::new(alloc),
             glyphs: Vec::new(alloc),
-            code_room: ROOM,
             subr_room: ROOM,
             glyph_room: ROOM,
         }
@@ -142,33 +126,31 @@ impl<'a> Gathered<'a> {
     }
 
     /// Puts a name at a code.
-    pub(crate) fn keep_code(&mut self, code: u8, name: &'a [u8]) -> Result<(), AllocError>
-        ensures { OnOk result (self.new
+    pub(crate) fn keep_code(&mut self, code: u8, name: &'a [u8])
+        ensures { self.new
             ≡ record {
               rest = self.old.rest;
               codes = fin.insert self.old.codes code name.now;
               subrs = self.old.subrs;
               glyphs = self.old.glyphs;
-            }) }
+            } }
     {
-        self.code_room = settle(&mut self.codes, ByNumber, self.code_room)?;
-        self.codes.push((code as u16, name))?;
-        Ok(())
+        self.codes.put(code, name);
     }
 
-    /// The name of a code: `.notdef` where it has none.
-    pub(crate) fn name_at(&self, code: u32) -> &'a [u8]
-        ensures { result.now ≡ gathered_name self.now.codes code }
+    /// Puts the names of so many codes from one on at the codes from another one on.
+    pub(crate) fn copy_codes(&mut self, from: u16, count: u16, to: u16)
+        requires from { from + count ≤ 256 }
+        requires to { to + count ≤ 256 }
+        ensures { self.new
+            ≡ record {
+              rest = self.old.rest;
+              codes = kept_by self.old.codes (Copy from count to);
+              subrs = self.old.subrs;
+              glyphs = self.old.glyphs;
+            } }
     {
-        last_name(self.codes.as_slice(), code)
-    }
-
-    /// Keeps of each code the last name alone.
-    pub(crate) fn settle_codes(&mut self) -> Result<(), AllocError>
-        ensures { OnOk result (self.new ≡ self.old) }
-    {
-        self.code_room = settle(&mut self.codes, ByNumber, 0)?;
-        Ok(())
+        self.codes.copy(from, count, to);
     }
 
     /// Decrypts a Subr's charstring, puts it at its index, and passes to the last `left` bytes.

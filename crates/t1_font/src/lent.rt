@@ -122,7 +122,7 @@ impl<'a> SparseArray<'a> {
     }
 
     /// The table of these entries, which stand upwards by number.
-    pub fn made(entries: Vec<(u16, &'a [u8])>) -> Self
+    pub(crate) fn made(entries: Vec<(u16, &'a [u8])>) -> Self
         requires { Rises nat_cmp (map lent_number entries.items) }
         ensures { result ≡ fin.from_sorted (map lent_number entries.entry.items) }
     {

@@ -18,6 +18,7 @@
 #![tactic(auto)]
 
 mod code_entry;
+mod code_names;
 mod cut;
 mod dialect;
 mod encoding;
@@ -28,6 +29,7 @@ mod filling;
 mod font;
 mod font_boxes;
 mod font_names;
+mod font_shell;
 mod font_test;
 mod gathered;
 mod glyphs;
@@ -35,6 +37,7 @@ mod joined_boxes;
 pub mod laws;
 mod lent;
 mod limits;
+mod made_tables;
 mod markers;
 mod mend;
 mod normal_texts;
@@ -66,6 +69,7 @@ pub use filling::fill_all;
 pub use font::{Font, Indices, Names};
 pub use font_boxes::normalize_boxes;
 pub use font_names::normalize_named;
+pub use font_shell::FontShell;
 pub use lent::{CharStrings, CharStringsEntries, Glyph, SparseArray, SparseArrayEntries};
 pub use limits::{COUNT_LIMIT, WEIGHT_LIMIT};
 pub use mend::{Mend, mends};

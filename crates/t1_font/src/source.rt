@@ -1,15 +1,13 @@
 //! A font that owns its bytes.
 
-ghost use Rattle.std.specs.{Prelude.{◌≡◌, ◌+◌, map, filter, IfOk}, Ordering.{nat_cmp}, FinMap.{from_sorted, entries, len}};
+ghost use Rattle.std.specs.{Prelude.{◌≡◌, ◌+◌, map, IfOk}, Ordering.{nat_cmp}, FinMap.{from_sorted, len}};
 ghost use Rattle.t1_join.specs.TableMeaning.{Rises};
-ghost use Rattle.t1_font.specs.{Entries.{has_name}, FontModel.{clamp, encoding_of}, FontValue.{total, weight}, Gathering.{gathered_codes}};
+ghost use Rattle.t1_font.specs.{FontModel.{clamp, encoding_of}, FontValue.{total, weight}};
 ghost use Rattle.t1_font.specs.{Ranges.{subr_at_weight, glyph_at_weight}, Sources.{kept_name}};
 
 use crate::font::{Font, FontParts, LentEncoding};
-use crate::glyphs::is_notdef;
 use crate::lent::{CharStrings, SparseArray, glyph_weight, subr_weight};
 use crate::ranges::Range;
-use crate::repeats::{ByNumber, last_entries};
 use crate::shell::Shell;
 use crate::stored::StoredSubrs;
 use std::alloc::{AllocError, Global};
@@ -154,22 +152,4 @@ impl SourceParts {
             glyphs: CharStrings::stored(&self.buffer, &self.glyphs),
         })
     }
-}
-
-/// The last name of each code, in a vector of its own; `.notdef` counts as no name.
-pub(crate) fn keep_codes(
-    alloc: Global,
-    codes: Vec<(u16, &[u8])>,
-) -> Result<Vec<(u16, Vec<u8>)>, AllocError>
-    ensures { IfOk result (λ v. map kept_name v.items
-        ≡ filter has_name (entries (gathered_codes codes.entry.items))) }
-{
-    let last = last_entries(codes, ByNumber)?;
-    let mut kept = Vec::with_capacity(alloc, last.len())?;
-    'codes: for (code, name) in last {
-        if !is_notdef(name) {
-            kept.push((code, Vec::from_slice(alloc, name)?))?;
-        }
-    }
-    Ok(kept)
 }

@@ -30,7 +30,7 @@ pub fn is_regular(byte: u8) -> bool
 }
 
 /// How many regular bytes come first.
-fn regular_len(bytes: &[u8]) -> usize
+pub(crate) fn regular_len(bytes: &[u8]) -> usize
     ensures { result ≡ length (take_while is_regular bytes.now) }
 {
     bytes.iter().take_while(|b| is_regular(**b)).count()

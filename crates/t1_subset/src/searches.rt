@@ -2,7 +2,8 @@
 
 ghost use Rattle.std.specs.{Prelude.{◌≡◌, ◌<◌, IfOk, IfErr, Some, None, SomeIff, []}, Option.{option_map, unwrap_or}};
 ghost use Rattle.t1_font.specs.{FontValue.{FontValue}, IsFont.{IsFont}};
-ghost use Rattle.t1_algebra.specs.{Profile.{profile}, StateTables.{numbered, code_states, used_subrs}};
+ghost use Rattle.t1_font.specs.MadeTables.{numbered};
+ghost use Rattle.t1_algebra.specs.{Profile.{profile}, StateTables.{code_states, used_subrs}};
 ghost use Rattle.t1_algebra.specs.Conflicts.{ShellDiffers, GlyphDiffers, LacksComponent, SubrDiffers, shell_conflict, code_conflict, subr_conflict};
 ghost use Rattle.t1_algebra.specs.{Conflicts.{states_conflict}, Shared.{differing_part}};
 ghost use Rattle.t1_subset.specs.{Clashes.{AreStatesOf, AreReferences}, Refusals.{Tells}};

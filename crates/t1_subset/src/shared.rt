@@ -9,26 +9,26 @@ ghost use Rattle.t1_subset.specs.Differences.{shell_part};
 use crate::conflict::ShellPart;
 use std::alloc::{AllocError, Global};
 use std::marker::Model;
-use t1_font::{Font, Part, Shell, SparseArray};
+use t1_font::{Font, FontShell, Part, Shell, SparseArray};
 
 /// What fonts have to share to join: the shell, the Encoding if it is a word, and which Subrs are present.
 #[derive(Drop)]
 pub(crate) struct Shared<'a> {
-    pub(crate) shell: &'a Shell,
-    pub(crate) word: Option<&'a [u8]>,
+    /// The shell, and the word of the Encoding.
+    pub(crate) shell: FontShell<'a>,
     /// The Subrs. Only their indices count here, and a table of a source is lent.
     pub(crate) subrs: SparseArray<'a>,
 }
 
 impl<'a> Model for Shared<'a> {
-    ghost use Rattle.std.specs.{Option.{option_map}, FinMap.{keys}};
+    ghost use Rattle.std.specs.FinMap.{keys};
     ghost use Rattle.t1_algebra.specs.Shared.{Shared as SharedValue, shared_code};
 
     ghost Value = { SharedValue };
 
     ghost coded = { shared_code };
 
-    ghost view = { λ s. (s.shell.now, (option_map (λ w. w.now) s.word, keys s.subrs)) };
+    ghost view = { λ s. (s.shell.0, (s.shell.1, keys s.subrs)) };
 }
 
 /// The parts of a shell, in the order in which they are compared.
@@ -75,11 +75,11 @@ fn same_text(left: &Shell, right: &Shell, part: Part) -> bool
 pub(crate) fn same_part(left: &Shared<'_>, right: &Shared<'_>, part: ShellPart) -> bool
     ensures { result ≡ same_part left.now right.now (shell_part part) }
 {
-    let own = left.shell;
-    let other = right.shell;
+    let own = left.shell.texts();
+    let other = right.shell.texts();
     match part {
         ShellPart::Head => same_text(own, other, Part::Head),
-        ShellPart::Encoding => same_word(left.word, right.word),
+        ShellPart::Encoding => same_word(left.shell.word(), right.shell.word()),
         ShellPart::ClearTail => same_text(own, other, Part::ClearTail),
         ShellPart::Private => {
             same_text(own, other, Part::Private) && own.len_iv() == other.len_iv()
@@ -123,7 +123,6 @@ impl<'a> Shared<'a> {
     {
         Ok(Shared {
             shell: font.shell(),
-            word: font.encoding_word(),
             subrs: font.subrs().copy(alloc)?,
         })
     }
@@ -134,8 +133,7 @@ impl<'a> Shared<'a> {
     {
         Shared {
             shell: font.shell(),
-            word: font.encoding_word(),
-            subrs: SparseArray::made(Vec::new(alloc)),
+            subrs: SparseArray::none(alloc),
         }
     }
 
@@ -144,8 +142,7 @@ impl<'a> Shared<'a> {
         ensures { IfOk result (λ s. s ≡ self.now) }
     {
         Ok(Shared {
-            shell: self.shell,
-            word: self.word,
+            shell: self.shell.again(),
             subrs: self.subrs.copy(alloc)?,
         })
     }
@@ -154,7 +151,7 @@ impl<'a> Shared<'a> {
     pub(crate) fn len_iv(&self) -> u8
         ensures { result ≡ self.now.0.len_iv }
     {
-        self.shell.len_iv()
+        self.shell.texts().len_iv()
     }
 
     /// What a font weighs that shares this, has no glyph and has no Subr but stubs, as far as 64 bits hold it.
@@ -163,7 +160,7 @@ impl<'a> Shared<'a> {
     {
         let each = 129 + self.len_iv() as u64;
         let stubs = (self.subrs.len() as u64).saturating_mul(each);
-        self.shell.texts_weight().saturating_add(stubs)
+        self.shell.texts().texts_weight().saturating_add(stubs)
     }
 
     /// The first part that differs.

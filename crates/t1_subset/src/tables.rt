@@ -3,7 +3,8 @@
 ghost use Rattle.std.specs.{Prelude.{◌≡◌, ◌<◌, ℕ, true, IfOk, OnOk}, Option.{option_map}};
 ghost use Rattle.t1_join.specs.Meaning.{of_number};
 ghost use Rattle.t1_font.specs.FontValue.{declared_count};
-ghost use Rattle.t1_algebra.specs.{Profile.{profile}, StateTables.{numbered, code_states, used_subrs}, Lacks.{user_of}};
+ghost use Rattle.t1_font.specs.MadeTables.{numbered};
+ghost use Rattle.t1_algebra.specs.{Profile.{profile}, StateTables.{code_states, used_subrs}, Lacks.{user_of}};
 ghost use Rattle.t1_subset.specs.{Differences.{with_state, entry_state}, Users.{user_at}};
 ghost use Rattle.std.specs.FinMap as maps;
 

@@ -3,8 +3,9 @@ use Rattle.std.proofs.Common.{◌≡◌, ◌<◌, ℕ, zero, suc, nat_lt, arith,
 use Rattle.std.proofs.{Common.{is_some, option_map, nat_cmp}, lemmas.Bool.{ltb-true, ltb-false}, lemmas.List.Folds.{list_any-append}}
 use Rattle.std.specs.{Str.{bytes_eq}, List.{find}}
 use Rattle.t1_font.specs.{FontValue.{FontValue, declared_count, names_in}, Cut.{stub}, Normalizing.{stubs_at, below_count, with_stubs, filled, indices_of_all}}
+use Rattle.t1_font.specs.MadeTables.{numbered}
 use Rattle.t1_algebra.specs.{Keep.{has}, Profile.{profile}, Shared.{shared_of}, Conflicts.{wants}, States.{executed_at, executes, named_at, is_called, subr_state, state_of_entry, joined_option}}
-use Rattle.t1_algebra.specs.{StateTables.{numbered, code_states, used_subrs, names_table, name_meaning, states_of}, Lacks.{Lack, user_of, first_below, is_had, lack_at, lack_in}}
+use Rattle.t1_algebra.specs.{StateTables.{code_states, used_subrs, names_table, name_meaning, states_of}, Lacks.{Lack, user_of, first_below, is_had, lack_at, lack_in}}
 use Rattle.t1_algebra.proofs.{Words.{list_any, same_bytes, eq_by_cmp, nat_cmp_total, nat_list_cmp_total, nat_cmp-IsAntisymmetric}, Maps.{get-merged, get-valued}}
 use Rattle.t1_algebra.proofs.{Sets.{clash, any_filter, name_same, cases}, Searching.{none_at_all, found_none}, FontStates.{get-used}}
 use Rattle.std.specs.FinSet as sets

@@ -5,7 +5,7 @@ use Rattle.std.proofs.{lemmas.Option.{none-some}, lemmas.Bool.{eqb-true}, lemmas
 use Rattle.std.specs.{Prelude.{max, ◌-◌, not, ◌&&◌, ◌==◌, ◌||◌}, List.{AllByRecursion, list_any, flat_map}, Str.{bytes_eq}, Option.{option_map}}
 use Rattle.t1_bytes.specs.Eexec.{is_blank}
 use Rattle.t1_grammar.specs.Grammar.{first, Stops}
-use Rattle.t1_font.specs.{Words.{is_regular}, Rewriting.{Piece, pieces, rewritten, parted}, Squeezing.{ends_line, one_space, is_solid, squeezed_piece, squeezed}}
+use Rattle.t1_font.specs.{Words.{is_regular}, Rewriting.{Piece, pieces, parted}, Squeezing.{ends_line, one_space, is_solid, squeezed_piece, squeezed}}
 use Rattle.t1_font.specs.{Identity.{identity_line, is_in_line, with_end, without_line, unnumbered_piece, unnumbered}, Tags.{renamed, untagged_piece, text_untagged}}
 use Rattle.t1_font.specs.Renewing.{some_word, words_behind, words, untagged_words, Renews, none, stays, goes, TextRenews, SameButNumbers, SameButName, Renewed, SqueezedWords, TextsRenewed}
 use Rattle.t1_font.specs.{declared.normal_texts.KeptText.{KeptText}, declared.normal_texts.KeptText.TheVariants.{Head, ClearTail, Private, Middle, Tail}}

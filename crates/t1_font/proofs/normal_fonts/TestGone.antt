@@ -1,8 +1,8 @@
 -- A head without its test is what stands around the test.
-use Rattle.std.proofs.Common.{◌≡◌, ◌⊎◌, ℕ, suc, Bool, true, false, cond, List, [], ◌∷◌, ◌++◌, length, drop, Option, Some, None, inl, inr, refl, sym, ap, subst, ◌∙◌, append_assoc, arith}
+use Rattle.std.proofs.Common.{◌≡◌, ◌⊎◌, ℕ, Bool, true, false, cond, List, [], ◌∷◌, ◌++◌, length, drop, Option, Some, None, inl, inr, refl, sym, ap, subst, ◌∙◌, append_assoc, arith}
 use Rattle.std.proofs.lemmas.List.{append-nil}
 use Rattle.t1_grammar.specs.Grammar.{first}
-use Rattle.t1_font.specs.{FontTest.{font_test, apart_test, found_test, around, is_untested, tested_head, untested}, Renewing.{TestGoes}}
+use Rattle.t1_font.specs.{FontTest.{font_test, apart_test, found_test, around, is_untested, tested_head}, Renewing.{TestGoes}}
 
 -- a test stands in a head, and without it the head is this
 abbrev Without : List ℕ → List ℕ → Type 0

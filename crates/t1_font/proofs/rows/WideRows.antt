@@ -1,5 +1,5 @@
 -- Comments, `readonly` and the rules of wide spelling, computed on the definitions.
-use Rattle.std.{proofs.Common.{◌≡◌, ℕ, List, [], ◌∷◌, ◌++◌, Some, None, Ok, Err, Result, refl}, specs.Prelude.{codes}}
+use Rattle.std.{proofs.Common.{◌≡◌, ℕ, List, [], ◌∷◌, ◌++◌, Some, None, Ok, Err, refl}, specs.Prelude.{codes}}
 use Rattle.t1_bytes.specs.White.{gap}
 use Rattle.t1_font.specs.{declared.dialect.Spacing.TheVariants.{White, Comments}, declared.dialect.Dialect.{Dialect}, declared.dialect.Rule.{Rule}}
 use Rattle.t1_font.specs.{declared.fault.ReadFault.{ReadFault}, declared.fault.ReadFault.TheVariants.{BadSubrs}, Dialect.{white_and_comments, white_in, without}}

@@ -6,9 +6,10 @@ use std::alloc::{AllocError, Global};
 use std::ops::Range;
 use std::test::Fail;
 use t1_font::{
-    CharStrings, Font, Form, PartsFault, ReadFault, Source, join_glyphs, join_same_glyphs, mends,
-    read, read_vec, read_wide, read_wide_vec,
+    CharStrings, Font, Form, PartsFault, ReadFault, Source, SparseArray, join_glyphs,
+    join_same_glyphs, mends, read, read_vec, read_wide, read_wide_vec,
 };
+use t1_join::Table;
 
 /// A font with so many Subrs of one byte, and with `.notdef` and glyphs of these numbers as names, each of one byte; then
 /// come so many of these lines.
@@ -213,11 +214,18 @@ fn glyphs_copied(
     Ok((glyphs.len(), both.len(), length(same)))
 }
 
-/// How many Subrs a font's copied table has, and the copied table of the font cut to `.notdef`.
-fn subrs_copied(alloc: Global, font: &Font<'_>) -> Result<(usize, usize), AllocError> {
+/// How many Subrs a font's copied table has, the copied table of the font cut to `.notdef`, and the font that its shell makes of
+/// stubs at its numbers.
+fn subrs_copied(alloc: Global, font: &Font<'_>) -> Result<(usize, usize, usize), AllocError> {
     let subrs = font.subrs().copy(alloc)?;
     let cut = cut_font(alloc, font, &[], &[])?.subrs().copy(alloc)?;
-    Ok((subrs.len(), cut.len()))
+    let stubs = SparseArray::with_stubs(alloc, font.subrs(), &Table::new(alloc))?;
+    let glyphs = font.glyphs().copy(alloc)?;
+    let made = match font.shell().font(SparseArray::none(alloc), stubs, glyphs) {
+        Some(made) => made.subrs().len(),
+        None => usize::MAX,
+    };
+    Ok((subrs.len(), cut.len(), made))
 }
 
 /// Whether the tables of a source's font are copied as ones of these counts.
@@ -226,7 +234,7 @@ fn are_copied(alloc: Global, source: &Source, want: Counts) -> Result<bool, Allo
     let (glyphs, subrs, _) = want;
     Ok(
         glyphs_copied(alloc, &font)? == (glyphs, glyphs, Some(glyphs))
-            && subrs_copied(alloc, &font)? == (subrs, subrs),
+            && subrs_copied(alloc, &font)? == (subrs, subrs, subrs),
     )
 }
 
@@ -256,6 +264,8 @@ fn is_cut_to_itself(alloc: Global, subrs: u16, glyphs: u32) -> Result<bool, Allo
 // meets restrict Ok at 0, 4097, 65535 subrs
 // meets CharStrings::copy Ok at 1, 2, 4097, 65535 glyphs
 // meets SparseArray::copy Ok at 0, 4097, 65535 subrs
+// meets SparseArray::with_stubs Ok at 0, 4097, 65535 subrs
+// meets SparseArray::none Ok at 0, 4097, 65535 subrs
 // meets join_glyphs Ok at 1, 2, 4097, 65535 glyphs
 // meets join_same_glyphs Some at 1, 2, 4097, 65535 glyphs
 // meets write Ok at 1, 2, 4097, 65535 glyphs

@@ -4,7 +4,8 @@ use super::cuts::{Cut, X, Y, large, lent_cut_font};
 use super::file;
 use std::alloc::{AllocError, Global};
 use std::test::Fail;
-use t1_font::{CharStrings, Font, Source, join_glyphs, join_same_glyphs, read};
+use t1_font::{CharStrings, Font, STUB, Source, SparseArray, join_glyphs, join_same_glyphs, read};
+use t1_join::Table;
 use t1_tiny::PFA;
 
 /// The names of a table, each with a blank.
@@ -123,6 +124,29 @@ fn made_joins(
     joins_with(alloc, &first, source, second, want)
 }
 
+/// Whether the shell of a font makes it a font again with the Subrs of a table at its numbers, and none without Subrs.
+pub fn made_by_shell(
+    alloc: Global,
+    font: &Font<'_>,
+    table: &Table<u16, &[u8]>,
+) -> Result<bool, AllocError> {
+    let subrs = SparseArray::with_stubs(alloc, font.subrs(), table)?;
+    let right = subrs.same_numbers(font.subrs()) && subrs.get(1) == Some(STUB);
+    let whole = font.shell().font(SparseArray::none(alloc), subrs, font.glyphs().copy(alloc)?);
+    let empty = SparseArray::none(alloc);
+    let less = font.shell().font(SparseArray::none(alloc), empty, font.glyphs().copy(alloc)?);
+    Ok(right && whole.is_some() && less.is_none())
+}
+
+/// The same of a source, with a table of one Subr.
+fn made_of_table(alloc: Global, source: &Source) -> Result<bool, AllocError> {
+    let font = source.font(alloc)?;
+    let mut table = Table::new(alloc);
+    table.insert(0, b"\x0b\x0b".as_slice())?;
+    let one = SparseArray::with_stubs(alloc, font.subrs(), &table)?;
+    Ok(one.get(0) == Some(b"\x0b\x0b".as_slice()) && made_by_shell(alloc, &font, &table)?)
+}
+
 /// Whether all tables that are copied and joined have their names.
 fn are_right(alloc: Global, source: &Source) -> Result<bool, AllocError> {
     Ok(
@@ -130,7 +154,8 @@ fn are_right(alloc: Global, source: &Source) -> Result<bool, AllocError> {
             && made_copies(alloc, source)?
             && made_joins(alloc, source, X, Y, b".notdef X Y ")?
             && made_joins(alloc, source, Y, X, b".notdef X Y ")?
-            && lent_joins(alloc, source, X, ALL_NAMES)?,
+            && lent_joins(alloc, source, X, ALL_NAMES)?
+            && made_of_table(alloc, source)?,
     )
 }
 

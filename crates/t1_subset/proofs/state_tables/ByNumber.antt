@@ -4,8 +4,9 @@ use Rattle.std.proofs.Common.{◌≡◌, ℕ, ◌<◌, ◌≤◌, ◌+◌, Bool,
 use Rattle.std.proofs.lemmas.Bool.{ltb-true, ltb-false}
 use Rattle.std.specs.{FinMap.Entries.{below_all}, Cmp.{nat_cmp_total}, FinSet.{nat_cmp-IsAntisymmetric}}
 use Rattle.t1_font.{proofs.MapLemmas.{T_true, find_first, Some_None}, specs.FontValue.{FontValue, Encoding, Word, Codes, SparseArray}}
+use Rattle.t1_font.specs.MadeTables.{numbered}
 use Rattle.t1_algebra.proofs.{Words.{list_any, eq_by_cmp, first_so, second_so}, Searching.{below_later}, Sets.{cases}, Tables.{get-numbered, numbered-empty, numbered-insert}}
-use Rattle.t1_algebra.specs.{Profile.{profile}, States.{code_state, is_called, state_of_entry}, StateTables.{numbered, code_states}}
+use Rattle.t1_algebra.specs.{Profile.{profile}, States.{code_state, is_called, state_of_entry}, StateTables.{code_states}}
 use Rattle.t1_join.specs.{Meaning.{of_number}, TableMeaning.{TableMeaning}}
 use Rattle.t1_subset.specs.Differences.{with_state, entry_state}
 use Rattle.std.specs.FinMap as maps

@@ -4,10 +4,11 @@ use Rattle.std.proofs.{Common.{option_map, Ordering}, lemmas.Bool.{false_from_ne
 use Rattle.std.specs.{Cmp.{IsTotalOrder, nat_cmp_total, first_so}, FinSet.{IsAntisymmetric, nat_cmp-IsAntisymmetric}, List.{list_any}, Cmp.Lexicographic.{nat_list_cmp_total}}
 use Rattle.t1_join.specs.{TableMeaning.{TableMeaning, TablesAgree, IsFirstConflict}, Meaning.{Meaning, of_number, by_number_law}, Join.{states_agree, joined_state}, TableLaws.{same_table}}
 use Rattle.t1_font.specs.{FontValue.{FontValue, Encoding, Word, Codes, name_cmp}, FontModel.{name_at}, IsFont.{IsFont, IsEncoding}}
+use Rattle.t1_font.specs.MadeTables.{numbered}
 use Rattle.t1_algebra.specs.Conflicts.{agrees, clashes_at, codes_of_both, subr_clashes, ShellDiffers, CodeDiffers, GlyphDiffers, LacksComponent, SubrDiffers, keys_of_both, shell_conflict}
 use Rattle.t1_algebra.specs.Conflicts.{code_conflict, glyph_conflict, component_conflict, subr_conflict, wanted_by, used_by, glyphs_of_both, code_clashes, glyph_clashes, component_clashes, Conflict}
 use Rattle.t1_algebra.specs.{Conflicts.{OverLimit, states_conflict, conflict, is_within}, States.{code_state, subr_state}, Interpreter.{Interpreter}, Keep.{has}, Profile.{profile}}
-use Rattle.t1_algebra.specs.StateTables.{StatesValue, name_part, code_states, name_states, used_subrs, numbered, states_of, behind_mark, names_table, name_meaning}
+use Rattle.t1_algebra.specs.StateTables.{StatesValue, name_part, code_states, name_states, used_subrs, states_of, behind_mark, names_table, name_meaning}
 use Rattle.t1_algebra.specs.{Shared.{Shared, shared_of, differing_part, ShellPart}, Searches.{found, smallest, members, IsLowest}, NameStates.{is_sought_in, charstrings_differ, one_lacks}}
 use Rattle.t1_algebra.proofs.{Maps.{in_both}, Searching.{first_passes}, Sets.{name_same, cases, cases_Option}, Tables.{Shows, codes_shown, meanings_as_bytes, get-name}}
 use Rattle.t1_algebra.proofs.FontStates.{get-names, subrs_shown}

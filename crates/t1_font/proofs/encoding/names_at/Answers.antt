@@ -10,7 +10,7 @@ names-init c = (record { names = []; count = refl; held = c.requires ∙ none_nu
 pub names-preserved : goal.names-preserved
 names-preserved c =
     let old = c.names.invariant.1 in
-    let kept = c.in_ok-keep_code.ensures in (
+    let kept = c.keep_code.ensures in (
       name_more c.args.spacing c.args.bytes.now c.names.rest.now _ c.names.code c.names.invariant.0
           (c.in-Some.name.now, c.in-Some.after.now) _ (omega arith) (sym c.in-Some.ensures) (ap (λ (g : Entries). g.codes) kept),
       (ap (λ (g : Entries). g.rest) kept ∙ old.0, ap (λ (g : Entries). g.subrs) kept ∙ old.1, ap (λ (g : Entries). g.glyphs) kept ∙ old.2),

@@ -1,6 +1,6 @@
 use Rattle.std.{proofs.{Common.{ℕ, List, ◌≡◌, ◌∙◌, ◌≤◌, ap, arith, sym, subst, ◌+◌, ◌-◌, length, drop, map}, lemmas.Cmp.{nat_list_cmp_total}}, specs.Cmp.Lexicographic.{on_texts}}
 use Rattle.t1_bytes.specs.Cipher.{plain_of}
-use Rattle.t1_font.specs.{declared.ranges.Range.{Range}, Entries.{map_of, AreSettled}, FontValue.{name_cmp}, Gathering.{Entries, gathered_codes, gathered_glyphs}}
+use Rattle.t1_font.specs.{declared.ranges.Range.{Range}, Entries.{map_of, AreSettled}, FontValue.{name_cmp}, Gathering.{Entries, gathered_glyphs}}
 use Rattle.t1_font.specs.{Places.{ending, bytes_at_place}, Ranges.{bytes_at, by_name, named_at, IsInside, AllInside, NamesInside}}
 use Rattle.t1_font.proofs.Buffers.{Decrypted, CharStrings, pushed, with_one, names_with_one, all_longer, names_wider, entries_stay}
 use Rattle.t1_font.proofs.Buffers.{names_stay, rest_stays, plain_at, plain_inside, name_at, name_inside}
@@ -87,7 +87,7 @@ returns c =
     (settled_so c))) in
     (λ i. record {
       rest = (ap (λ n. drop (n - c.args.left) now) (now_long c) ∙ rest_stays _ _ _ _ _ _ _ _ d) i;
-      codes = gathered_codes c.self.inside.codes.items;
+      codes = c.self.inside.codes;
       subrs = map_of (entries_stay _ _ _ _ _ _ _ _ d (λ k. k) c.self.inside.subrs.items c.self.invariant.subrs i);
       glyphs = together i;
     })

@@ -1,6 +1,6 @@
 use Rattle.std.{proofs.{Common.{◌≡◌, ◌∙◌, ◌≤◌, ap, arith, sym, subst, ◌+◌, ◌-◌, length, drop, map}, lemmas.Cmp.{nat_cmp_total}}, specs.{FinSet.{nat_cmp-IsAntisymmetric}, Ordering.{nat_cmp}}}
 use Rattle.t1_bytes.specs.Cipher.{plain_of}
-use Rattle.t1_font.specs.{Entries.{map_of}, Gathering.{Entries, gathered_codes}, Places.{ending, bytes_at_place}, Ranges.{bytes_at, numbered_at, IsInside, AllInside}}
+use Rattle.t1_font.specs.{Entries.{map_of}, Gathering.{Entries}, Places.{ending, bytes_at_place}, Ranges.{bytes_at, numbered_at, IsInside, AllInside}}
 use Rattle.t1_font.proofs.Buffers.{Decrypted, pushed, with_one, all_longer, names_wider, entries_stay, names_stay, rest_stays, plain_at, plain_inside, goes_on, same_length}
 use Rattle.t1_font.proofs.Lasts.{settled_map, settled_all}
 use Rattle.std.specs.FinMap as fin
@@ -59,7 +59,7 @@ returns c =
     ∙ ap (λ m. fin.insert m c.args.index (plain_of c.args.len_iv (bytes_at_place (drop c.self.inside.at was) c.args.body))) settled) in
     (λ i. record {
       rest = (ap (λ n. drop (n - c.args.left) now) (now_long c) ∙ rest_stays _ _ _ _ _ _ _ _ d) i;
-      codes = gathered_codes c.self.inside.codes.items;
+      codes = c.self.inside.codes;
       subrs = together i;
       glyphs = map_of (names_stay _ _ _ _ _ _ _ _ d c.self.inside.glyphs.items c.self.invariant.names c.self.invariant.glyphs i);
     })

@@ -1,5 +1,6 @@
 use Rattle.std.proofs.Common.{drop, sym, ◌∙◌}
-use Rattle.t1_font.{specs.Gathering.{gathered_codes, gathered_subrs, gathered_glyphs}, proofs.HeldLemmas.{none_numbered, none_named}}
+use Rattle.t1_font.{specs.Gathering.{gathered_subrs, gathered_glyphs}, proofs.HeldLemmas.{none_numbered, none_named}}
+use Rattle.std.specs.FinMap as fin
 use Rattle.t1_font.proofs.gathered.Gathered.new.Goals as goal
 
 pub returns : goal.returns
@@ -7,8 +8,8 @@ returns c =
     let buffer = c.args.buffer.items in
     (λ i. record {
       rest = drop c.args.at buffer;
-      codes = gathered_codes (c.new.ensures.items i);
-      subrs = gathered_subrs buffer (c.new-2.ensures.items i);
-      glyphs = gathered_glyphs buffer (c.new-3.ensures.items i);
+      codes = c.none.ensures i;
+      subrs = gathered_subrs buffer (c.new.ensures.items i);
+      glyphs = gathered_glyphs buffer (c.new-2.ensures.items i);
     })
-    ∙ (λ i. record { rest = drop c.args.at buffer; codes = sym none_numbered i; subrs = sym none_numbered i; glyphs = sym none_named i })
+    ∙ (λ i. record { rest = drop c.args.at buffer; codes = fin.empty; subrs = sym none_numbered i; glyphs = sym none_named i })
