@@ -4,9 +4,9 @@ use Rattle.std.proofs.{lemmas.Bool.{cases_Bool, eqb-true, and_parts, true≢fals
 use Rattle.std.specs.{Prelude.{◌==◌, ◌&&◌, ◌||◌, not, codes, is_some}, List.{AllByRecursion, list_any, prefix_len}, Option.{option_map}}
 use Rattle.t1_grammar.specs.Grammar.{first}
 use Rattle.t1_font.specs.{Words.{is_regular, all_regular}, Rewriting.{parted}, Tags.{name_marker, name_in}}
-use Rattle.t1_document.specs.{declared.marks.Mark.{Mark}, Lines.{line_closes, lf_comes, is_line_end, into_first, lines_of}, Marks.{mark_of}, Documents.{Place, document_of}, Laws.{SpellsPlace}}
+use Rattle.t1_document.specs.{declared.marks.Mark.{Mark}, Lines.{line_closes, lf_comes, is_line_end, into_first, lines_of, breaks}, Marks.{mark_of}, Documents.{Place, document_of}, Laws.{SpellsPlace}}
 use Rattle.t1_document.specs.Families.{alias_line}
-use Rattle.t1_document.proofs.{Breaks.{mark_starts}, Retold.{IsLine, slash_or_percent}, Spelled.{places_spell}}
+use Rattle.t1_document.proofs.{Breaks.{breaks-behind, mark_starts}, Retold.{IsLine, slash_or_percent}, Spelled.{places_spell}}
 
 -- ---- names
 
@@ -120,8 +120,7 @@ alias_is_line name leader h k =
     record {
       inner = inner;
       starts = refl;
-      front = front;
-      ends = ends;
+      ends = ap (λ (t : List ℕ). breaks t (37 ∷ [])) ends ∙ breaks-behind front 10 [] (37 ∷ []);
       unmarked = ap (λ (ls : List (List ℕ)). list_any (λ line. is_some (mark_of line)) ls) one
           ∙ ap (λ (m : Option _). is_some m || false) (slash_no_mark inner);
     }

@@ -1,5 +1,6 @@
 mod Rows
 mod FamilyRows
+mod PoolingRows
 pub mod LineLemmas
 pub mod StretchLemmas
 pub mod FrontLoop
@@ -34,3 +35,6 @@ pub mod SettledNames
 pub mod LeftPlaces
 pub mod LeftPooled
 pub mod AliasedAgain
+pub mod OwnStarts
+pub mod PoolLoops
+pub mod PooledDocuments

@@ -1,5 +1,5 @@
 -- The fonts of a name come to one text, or to none.
-use Rattle.std.proofs.{Common.{◌≡◌, ℕ, arith, Bool, true, false, refl, sym, ◌∙◌, ap, List, [], ◌∷◌, map, inl, inr, Option, Some, None, Result, Ok, Err}, lemmas.Bool.{true≢false}}
+use Rattle.std.proofs.{Common.{◌≡◌, ℕ, Bool, true, false, refl, sym, ◌∙◌, ap, List, [], ◌∷◌, map, inl, inr, Option, Some, None, Result, Ok, Err}, lemmas.Bool.{true≢false}}
 use Rattle.std.proofs.lemmas.Option.{none-some}
 use Rattle.std.specs.{List.{list_all}, Option.{option_and_then}, Str.{bytes_eq}}
 use Rattle.t1_join.specs.Groupings.{one, from_left}

@@ -1,12 +1,12 @@
 -- A document whose places become something else, by its stretches.
 use Rattle.std.proofs.Common.{◌≡◌, ℕ, Bool, true, false, cond, List, [], ◌∷◌, ◌++◌, Option, Some, None, refl, sym, ap, subst, ◌∙◌, ◌⊎◌, inl, inr, append_assoc, arith}
-use Rattle.std.proofs.{lemmas.Bool.{and_parts, false≢true}, lemmas.Slice.Eq.{bytes_eq-Decides}}
-use Rattle.std.specs.{Prelude.{◌==◌, ◌&&◌, ◌||◌, not}, Str.{bytes_eq}, Option.{option_map}}
-use Rattle.t1_document.specs.{declared.marks.Open.{Open}, declared.marks.Mark.{Mark}, Lines.{no_bytes, breaks}, Marks.{has_mark}, Stretches.{Stretch, stretches_bytes, IsStretch, AreStretches}}
+use Rattle.std.proofs.{lemmas.Bool.{and_parts, eqb-true, false≢true}, lemmas.Slice.Eq.{bytes_eq-Decides}}
+use Rattle.std.specs.{Prelude.{◌==◌, ◌&&◌, not}, Str.{bytes_eq}, Option.{option_map}}
+use Rattle.t1_document.specs.{declared.marks.Open.{Open}, declared.marks.Mark.{Mark}, Lines.{breaks}, Marks.{has_mark}, Stretches.{Stretch, stretches_bytes, IsStretch, AreStretches}}
 use Rattle.t1_document.specs.{Fonts.{FontText, font_in}, Documents.{Place, Document, open_behind, encloses, next_mark, place_with, place_at, behind_bytes, prepended, at_stretch, document_from}}
-use Rattle.t1_document.specs.Rewriting.{is_font, can_stand, Fate, Stays, Becomes, Gives, at_fate}
+use Rattle.t1_document.specs.Rewriting.{is_font, can_stand, can_give, Fate, Stays, Becomes, Gives, at_fate}
 use Rattle.t1_document.proofs.{StretchLemmas.{none_in_nothing}, FontLemmas.{Stands, font_stands, no_font}, DocumentSteps.{prepended-prepended}, PlaceLemmas.{is_place}}
-use Rattle.t1_document.proofs.Breaks.{SameStart, breaks-same, breaks-slash, breaks-behind, same-append, ends_again, mark_starts}
+use Rattle.t1_document.proofs.Breaks.{SameStart, breaks-same, breaks-slash, same-append, ends_again, mark_starts}
 
 -- ---- a text that can stand
 
@@ -41,13 +41,20 @@ stands_font text p h =
 
 -- ---- what becomes of places
 
--- a line in place of a font text: it begins with `/` and ends with LF, and it is no mark
+-- bytes in place of a font text and its rest: they begin with `/`, a line ends behind them, and they have no mark
 pub record IsLine (bytes : List ℕ) : Type 0 where
   pub inner : List ℕ
   pub starts : bytes ≡ 47 ∷ inner
-  pub front : List ℕ
-  pub ends : bytes ≡ front ++ 10 ∷ []
+  pub ends : breaks bytes (37 ∷ []) ≡ true
   pub unmarked : has_mark bytes ≡ false
+
+-- bytes that can stand there are such
+pub given_line : (bytes : List ℕ) → can_give bytes ≡ true → IsLine bytes
+given_line [] h = absurd cc
+given_line (b ∷ bs) h =
+    let most = and_parts (b == 47 && breaks (b ∷ bs) (37 ∷ [])) (not (has_mark (b ∷ bs))) h in
+    let both = and_parts (b == 47) (breaks (b ∷ bs) (37 ∷ [])) most.0 in
+    record { inner = bs; starts = ap (λ (c : ℕ). c ∷ bs) (eqb-true b 47 both.0); ends = both.1; unmarked = not_true (has_mark (b ∷ bs)) most.1 }
 
 -- what a place becomes fits there
 abbrev pub Fits : Fate → Place → Type 0
@@ -276,14 +283,16 @@ given_ends x own bytes behind (b ∷ bs) inner e h (inl none) k =
 given_ends x own bytes behind (b ∷ bs) inner e h (inr line) k =
     ap (λ (t : List ℕ). breaks x (t ++ b ∷ bs)) line.starts ∙ (sym (breaks-slash x (own ++ behind) (line.inner ++ b ∷ bs)) ∙ k)
 
--- a line ends behind it
-given_closed : (bytes other : List ℕ) → (bytes ≡ []) ⊎ IsLine bytes → breaks bytes other ≡ true
-given_closed bytes other (inl none) = ap (λ (t : List ℕ). breaks t other) none
-given_closed bytes other (inr line) = ap (λ (t : List ℕ). breaks t other) line.ends ∙ (breaks-behind line.front 10 [] other ∙ either (no_bytes other))
+-- a line ends behind it, before bytes that begin as others do which begin with `%`
+given_closed : (bytes behind other inner : List ℕ) → behind ≡ 37 ∷ inner → SameStart behind other → (bytes ≡ []) ⊎ IsLine bytes →
+    breaks bytes other ≡ true
+given_closed bytes behind other inner e same (inl none) = ap (λ (t : List ℕ). breaks t other) none
+given_closed bytes behind other inner e same (inr line) =
+    sym (breaks-same bytes (37 ∷ []) other (starts other (subst (λ (t : List ℕ). SameStart t other) e same))) ∙ line.ends
   where
-    either : (b : Bool) → (b || true) ≡ true
-    either true = refl
-    either false = refl
+    starts : (t : List ℕ) → SameStart (37 ∷ inner) t → SameStart (37 ∷ []) t
+    starts [] k = k
+    starts (c ∷ cs) k = k
 
 given_unmarked : (bytes : List ℕ) → (bytes ≡ []) ⊎ IsLine bytes → has_mark bytes ≡ false
 given_unmarked bytes (inl none) = ap has_mark none ∙ none_in_nothing
@@ -318,7 +327,7 @@ is_told s p f behind other inner i stands rest starts same (Gives bytes) h =
       unmarked = given_unmarked bytes h;
       line_ends = given_ends s.line (stands.inner ++ f.rest) bytes behind other inner starts same h
           (ap (λ (t : List ℕ). breaks s.line (t ++ behind)) (sym old) ∙ i.line_ends);
-      text_ends = given_closed bytes other h;
+      text_ends = given_closed bytes behind other inner starts same h;
     }
 
 -- one stretch that may be a place

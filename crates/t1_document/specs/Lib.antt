@@ -12,3 +12,4 @@ pub mod Groups
 pub mod JoinLaws
 pub mod Families
 pub mod FamilyLaws
+pub mod Pooling

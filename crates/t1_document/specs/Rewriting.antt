@@ -1,6 +1,6 @@
 -- A document whose fonts get new texts: each place of a font keeps one, or one place keeps it for all that follow.
-use Rattle.std.specs.{Prelude.{◌≡◌, ℕ, ◌==◌, ◌&&◌, not, Bool, true, false, List, [], ◌∷◌, ◌++◌, Option, Some, None, if◌then◌else◌}, List.{list_any}, Str.{bytes_eq}}
-use Rattle.t1_document.specs.{declared.rewriting.Way.{Way}, declared.rewriting.Way.TheVariants.{Level, Pool}, Marks.{has_mark}, Fonts.{FontText, font_in}}
+use Rattle.std.specs.{Prelude.{◌≡◌, ℕ, ◌==◌, ◌&&◌, not, Bool, true, false, List, [], ◌∷◌, ◌++◌, codes, Option, Some, None, if◌then◌else◌}, List.{list_any}, Str.{bytes_eq}}
+use Rattle.t1_document.specs.{declared.rewriting.Way.{Way}, declared.rewriting.Way.TheVariants.{Level, Pool}, Lines.{breaks}, Marks.{has_mark}, Fonts.{FontText, font_in}}
 use Rattle.t1_document.specs.Documents.{Place, Document, document_bytes, prepended, document_of}
 
 -- a new text for some names
@@ -31,6 +31,15 @@ is_refused new ps name = list_any (λ p. bytes_eq name p.name && is_barred (new 
 -- the new texts of the names that are not refused
 abbrev pub standing : NewTexts → List Place → NewTexts
 standing new ps name = if is_refused new ps name then None else new name
+
+-- a slash comes
+abbrev pub slash_comes : List ℕ → Bool
+slash_comes [] = false
+slash_comes (b ∷ bs) = b == 47
+
+-- Bytes can stand in place of a font text and its rest: they begin with a slash, a line ends behind them, and none of their lines is a mark.
+abbrev pub can_give : List ℕ → Bool
+can_give bytes = slash_comes bytes && breaks bytes (codes "%") && not (has_mark bytes)
 
 -- ---- what becomes of a place
 

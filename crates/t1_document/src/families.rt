@@ -22,7 +22,7 @@ pub(crate) struct Led<'a> {
 }
 
 /// A name without the tags that it begins with, or the name itself where nothing would be left.
-fn family(name: &[u8]) -> &[u8]
+pub(crate) fn family(name: &[u8]) -> &[u8]
     ensures { result.now ≡ family name.now }
 {
     let bare = untagged(name);

@@ -1,9 +1,10 @@
-//! The places of each name.
+//! The places of each name, or of each key.
 
 ghost use Rattle.std.specs.{Prelude.{◌≡◌, ◌++◌, ◌∷◌, [], ℕ, List, map, IfOk, OnOk, if◌then◌else◌}, Option.{option_map, unwrap_or}, Str.{bytes_eq}};
-ghost use Rattle.t1_document.specs.{Joins.{places_under}, Groups.{places_in}, Views.{place_view}};
+ghost use Rattle.t1_document.specs.{Joins.{places_under}, Groups.{places_in}, Pooling.{places_by}, Views.{place_view}};
 
 use crate::documents::Place;
+use crate::pooling::Key;
 use std::alloc::{AllocError, Global};
 use std::collections::BTreeMap;
 
@@ -30,18 +31,18 @@ impl<'a> Groups<'a> {
         Some(self.places.get(name)?.as_slice())
     }
 
-    /// Adds a place to those of its name. After an error some may be lost.
-    fn add(&mut self, alloc: Global, place: Place<'a>) -> Result<(), AllocError>
+    /// Adds a place to those of a name. After an error some may be lost.
+    fn add(&mut self, alloc: Global, key: &'a [u8], place: Place<'a>) -> Result<(), AllocError>
         ensures { OnOk result ((name : List ℕ) → places_in self.new name
-            ≡ (if bytes_eq place.entry.name.now name
+            ≡ (if bytes_eq key.now name
             then places_in self.old name ++ place_view place.entry ∷ [] else places_in self.old name)) }
     {
-        let mut places = match self.places.remove(place.name) {
+        let mut places = match self.places.remove(key) {
             Some(places) => places,
             None => Vec::new(alloc),
         };
         places.push(place)?;
-        match self.places.insert(place.name, places) {
+        match self.places.insert(key, places) {
             Ok(_) => Ok(()),
             Err(_) => Err(AllocError),
         }
@@ -54,7 +55,22 @@ pub(crate) fn groups_of<'a>(alloc: Global, places: &[Place<'a>]) -> Result<Group
 {
     let mut groups = Groups::new(alloc);
     'places: for place in places {
-        groups.add(alloc, *place)?;
+        groups.add(alloc, place.name, *place)?;
+    }
+    Ok(groups)
+}
+
+/// The places of each key among some.
+pub(crate) fn groups_by<'a>(
+    alloc: Global,
+    by: Key,
+    places: &[Place<'a>],
+) -> Result<Groups<'a>, AllocError>
+    ensures { IfOk result (λ g. (key : List ℕ) → places_in g key ≡ places_by by key (map place_view places.now)) }
+{
+    let mut groups = Groups::new(alloc);
+    'places: for place in places {
+        groups.add(alloc, by.of(place.name), *place)?;
     }
     Ok(groups)
 }

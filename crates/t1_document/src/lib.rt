@@ -17,6 +17,7 @@
 #![tactic(auto)]
 
 mod documents;
+mod entries;
 mod families;
 mod fonts;
 mod groups;
@@ -25,6 +26,8 @@ pub mod laws;
 mod lines;
 mod marks;
 mod names;
+mod own_names;
+mod pooling;
 mod rewriting;
 mod stretches;
 mod texts;

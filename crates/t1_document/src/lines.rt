@@ -57,7 +57,7 @@ fn closes(byte: u8, behind: &[u8]) -> bool
 }
 
 /// Whether a line ends between these two texts, or one of them is empty.
-fn breaks(text: &[u8], behind: &[u8]) -> bool
+pub(crate) fn breaks(text: &[u8], behind: &[u8]) -> bool
     ensures { result ≡ breaks text.now behind.now }
 {
     match text.split_last() {

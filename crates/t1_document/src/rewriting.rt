@@ -38,7 +38,7 @@ pub(crate) enum Fate<'n> {
 }
 
 /// Whether a line of a text is a mark.
-fn has_mark(text: &[u8]) -> bool
+pub(crate) fn has_mark(text: &[u8]) -> bool
     ensures { result ≡ has_mark text.now }
 {
     unmarked_len(text) < text.len()

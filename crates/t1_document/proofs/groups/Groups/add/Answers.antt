@@ -6,7 +6,7 @@ use Rattle.t1_document.proofs.groups.Groups.add.Goals as goal
 
 pub returns-in-Ok : goal.returns-in-Ok
 returns-in-Ok c =
-    let name = c.args.place.name.now in
+    let name = c.args.key.now in
     let before = λ (n : List ℕ). get_by (λ k. slice_cmp nat_cmp n k.now) c.args.self.now.places in
     let between = λ (n : List ℕ). get_by (λ k. slice_cmp nat_cmp n k.now) c.remove.new.self in
     let after = λ (n : List ℕ). get_by (λ k. slice_cmp nat_cmp n k.now) c.insert.new.self in

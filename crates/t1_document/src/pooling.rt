@@ -1,0 +1,198 @@
+//! Documents in which each font stands once, before the first of them, and is found under a name of the pool's own.
+
+ghost use Rattle.std.specs.{Prelude.{◌≡◌, ◌++◌, [], map, IfOk, OnOk, if◌then◌else◌}, List.{list_any}};
+ghost use Rattle.t1_document.specs.{Documents.{document_of}, Rewriting.{fate_bytes, fated_bytes}, Joins.{new_texts, names_from, AreOutcomes}};
+ghost use Rattle.t1_document.specs.{Groups.{outcome_in}, Texts.{text_in}, Views.{place_view, document_view}};
+ghost use Rattle.t1_document.specs.Pooling.{key_of, keyed, clashes, prolog, line_fate, line_fates, document_pooled, pooled_by};
+
+use crate::documents::{Document, Place, read_document};
+use crate::entries::parts_of;
+use crate::families::family;
+use crate::groups::groups_by;
+use crate::joins::{Joins, join_fonts};
+use crate::names::names_of;
+use crate::own_names::{clashes, free_start, push_line};
+use crate::texts::Texts;
+use std::alloc::{AllocError, Global};
+
+/// What the places of one font share.
+#[derive(Clone, Copy)]
+pub enum Key {
+    /// Their name.
+    Name,
+    /// Their name without the tags that it begins with, six capitals and `+`.
+    Family,
+}
+
+impl Key {
+    /// The key of a name.
+    pub(crate) fn of<'a>(self, name: &'a [u8]) -> &'a [u8]
+        ensures { result.now ≡ key_of self name.now }
+    {
+        match self {
+            Key::Name => name,
+            Key::Family => family(name),
+        }
+    }
+}
+
+/// Places under their keys.
+fn keyed<'a>(alloc: Global, by: Key, places: &[Place<'a>]) -> Result<Vec<Place<'a>>, AllocError>
+    ensures { IfOk result (λ v. map place_view v.items ≡ keyed by (map place_view places.now)) }
+{
+    let mut keyed = Vec::with_capacity(alloc, places.len())?;
+    'places: for place in places {
+        keyed.push(Place {
+            name: by.of(place.name),
+            ..*place
+        })?;
+    }
+    Ok(keyed)
+}
+
+/// Whether the name of some place does.
+fn any_clashes(start: &[u8], places: &[Place<'_>]) -> bool
+    ensures { result ≡ list_any (λ p. clashes start.now p.name) (map place_view places.now) }
+{
+    'places: for place in places {
+        if clashes(start, place.name) {
+            return true;
+        }
+    }
+    false
+}
+
+/// The keys of places, which stand under their keys, too.
+fn keys_of<'a>(
+    alloc: Global,
+    start: &[u8],
+    places: &[Place<'a>],
+    keyed: &[Place<'a>],
+) -> Result<Vec<&'a [u8]>, AllocError>
+    ensures { IfOk result (λ v. map (λ k. k.now) v.items ≡ (if list_any (λ p. clashes start.now p.name) (map place_view places.now)
+        then [] else names_from [] (map place_view keyed.now))) }
+{
+    if any_clashes(start, places) {
+        return Ok(Vec::new(alloc));
+    }
+    names_of(alloc, keyed)
+}
+
+/// What stands before the documents.
+fn prolog(alloc: Global, parts: &[u8]) -> Result<Vec<u8>, AllocError>
+    ensures { IfOk result (λ v. v.items ≡ prolog parts.now) }
+{
+    let mut out = Vec::new(alloc);
+    if !parts.is_empty() {
+        out.extend_from_slice(b"%!PS-Adobe-3.0\n")?;
+        out.extend_from_slice(parts)?;
+    }
+    Ok(out)
+}
+
+/// Adds what stands in place of the font text and the rest of a place.
+fn push_place(
+    out: &mut Vec<u8>,
+    start: &[u8],
+    by: Key,
+    ends: &Texts<'_>,
+    place: &Place<'_>,
+) -> Result<(), AllocError>
+    ensures { OnOk result (out.new.items
+        ≡ out.old.items ++ fate_bytes (line_fate start.now by (text_in ends.now) (place_view place.now)) (place_view place.now)) }
+{
+    let key = by.of(place.name);
+    match ends.get(key) {
+        Some(end) => push_line(out, start, end, place.name, key)?,
+        None => out.extend_from_slice(place.text)?,
+    }
+    out.extend_from_slice(place.rest)
+}
+
+/// Adds places, of which those of keys whose lines end so have lines, and the bytes behind them.
+fn push_lined(
+    out: &mut Vec<u8>,
+    start: &[u8],
+    by: Key,
+    ends: &Texts<'_>,
+    places: &[Place<'_>],
+    last: &[u8],
+) -> Result<(), AllocError>
+    ensures { OnOk result (out.new.items ≡ out.old.items
+        ++ fated_bytes (line_fates start.now by (text_in ends.now) (map place_view places.now)) last.now) }
+{
+    'places: for place in places {
+        out.extend_from_slice(place.before)?;
+        push_place(out, start, by, ends, place)?;
+    }
+    out.extend_from_slice(last)?;
+    Ok(())
+}
+
+impl<'a> Document<'a> {
+    /// The document with entries before it, where the pool's names have this start and fonts come to this.
+    fn pooled(
+        &self,
+        alloc: Global,
+        start: &[u8],
+        by: Key,
+        places: &[Place<'a>],
+        joins: &Joins<'_>,
+    ) -> Result<Vec<u8>, AllocError>
+        requires { map place_view places.now ≡ keyed by (document_view self.now).places }
+        ensures { IfOk result (λ v. v.items
+            ≡ document_pooled start.now by (new_texts (outcome_in joins.now)) (document_view self.now)) }
+    {
+        let own = self.places.as_slice();
+        let groups = groups_by(alloc, by, own)?;
+        let keys = keys_of(alloc, start, own, places)?;
+        let parts = parts_of(alloc, start, keys.as_slice(), joins, &groups)?;
+        let mut out = prolog(alloc, parts.bytes.as_slice())?;
+        push_lined(&mut out, start, by, &parts.ends, own, self.last)?;
+        Ok(out)
+    }
+}
+
+/// A text in which each font stands once, before all documents, and is found by a line at each of its places.
+#[derive(Drop)]
+pub struct Pooled<'a> {
+    /// The text.
+    pub text: Vec<u8>,
+    /// The places of fonts that it had, each under its key.
+    pub places: Vec<Place<'a>>,
+    /// What the fonts of each key come to.
+    pub joins: Joins<'a>,
+}
+
+/// A text with the fonts of each key once.
+///
+/// The places of the text's document ([`read_document`]) are taken under their keys, and the fonts of each key are joined
+/// ([`join_fonts`]). Where a key has a new text and several places, that text stands in a part `%%BeginResource: font` of its own
+/// before the document, behind a first line `%!PS-Adobe-3.0`. There the font gets the name `/pool:KEY`, with more colons if the text
+/// has such names already, and loses its own again. Each place of the key has the line `/NAME /pool:KEY findfont definefont pop` in
+/// place of its font text, so whatever the document has restored, re-encoded or taken away before, the name has the font there. Where
+/// a font text leaves the answer of its own test of `FontDirectory` on the operand stack, the line leaves `false` there. All other
+/// bytes stay.
+///
+/// A key keeps its font texts where it has one place, where a text asks for `FontDirectory` otherwise than by that test, and where the
+/// new text or the line of a place can't stand there.
+///
+/// # Errors
+///
+/// Only want of memory.
+pub fn pool_document(alloc: Global, by: Key, text: &[u8]) -> Result<Pooled<'_>, AllocError>
+    ensures joins { IfOk result (λ p. AreOutcomes (keyed by (document_of text.now).places) (outcome_in p.joins)) }
+    ensures places { IfOk result (λ p. map place_view p.places.items ≡ keyed by (document_of text.now).places) }
+    ensures text { IfOk result (λ p. p.text.items ≡ pooled_by by (new_texts (outcome_in p.joins)) text.now) }
+{
+    let document = read_document(alloc, text)?;
+    let places = keyed(alloc, by, document.places.as_slice())?;
+    let joins = join_fonts(alloc, places.as_slice())?;
+    let start = free_start(alloc, text)?;
+    let text = document.pooled(alloc, &start, by, places.as_slice(), &joins)?;
+    Ok(Pooled {
+        text,
+        places,
+        joins,
+    })
+}
