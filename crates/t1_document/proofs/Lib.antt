@@ -38,3 +38,4 @@ pub mod AliasedAgain
 pub mod OwnStarts
 pub mod PoolLoops
 pub mod PooledDocuments
+pub mod PlacesFind

@@ -6,7 +6,7 @@ use Rattle.bstr.specs.Find.{OccursAt, Nowhere}
 use Rattle.t1_grammar.specs.{Grammar.{fixed, unread}, Places.{occurs, occurs_has, absent_lacks}}
 use Rattle.t1_bytes.proofs.Places.{nowhere_at}
 use Rattle.t1_font.proofs.canonical.EntriesWritten.{fixed_read}
-use Rattle.t1_document.{specs.Pooling.{own_start, start_from, free_start}, proofs.FontLemmas.{fixed_is}}
+use Rattle.t1_document.{specs.{Pooling.{own_start, start_from, free_start}, PoolLaws.{StartIsFree}}, proofs.FontLemmas.{fixed_is}}
 
 -- ---- a word in a text
 
@@ -85,3 +85,24 @@ starts_last text start e (n, suc more, is, from, sum) =
 -- the next one is nearer to the length of the text
 pub starts_smaller : (text start : List ℕ) → occurs (fixed start) text ≡ true → length start ≤ length text
 starts_smaller text start e = stands_short start text e
+
+-- a word that is longer than a text stands nowhere in it
+too_long : (w text : List ℕ) → length text < length w → occurs (fixed w) text ≡ false
+too_long w text longer = elim (cases_Bool (occurs (fixed w) text)) [
+  | inl e ↦ absurd (omega (arith, stands_short w text e, longer))
+  | inr e ↦ e
+]
+
+free_from : (more n : ℕ) (text : List ℕ) → length text ≤ more + n → occurs (fixed (start_from more n text)) text ≡ false
+unfolding start_from
+free_from zero n text le = too_long (own_start n) text (omega (arith, le, own_length n))
+free_from (suc more) n text le = by_there (occurs (fixed (own_start n)) text) refl (free_from more (suc n) text (omega (arith, le)))
+  where
+    by_there : (b : Bool) → occurs (fixed (own_start n)) text ≡ b → occurs (fixed (start_from more (suc n) text)) text ≡ false →
+        occurs (fixed (cond b (start_from more (suc n) text) (own_start n))) text ≡ false
+    by_there true e later = later
+    by_there false e later = e
+
+-- the start that is found stands nowhere in the text
+pub start_is_free : StartIsFree
+start_is_free text = free_from (length text) 1 text (omega arith)

@@ -13,3 +13,4 @@ pub mod JoinLaws
 pub mod Families
 pub mod FamilyLaws
 pub mod Pooling
+pub mod PoolLaws

@@ -76,13 +76,7 @@ fn is_so(answers: bool, left: Option<bool>) -> bool
     ensures { result ≡ is_so answers left }
 {
     match left {
-        Some(left) => {
-            if answers {
-                left
-            } else {
-                !left
-            }
-        }
+        Some(left) => { if answers { left } else { !left } }
         None => false,
     }
 }

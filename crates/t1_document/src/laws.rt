@@ -5,6 +5,7 @@ ghost use Rattle.t1_document.specs.Laws.{LevelRenews, CanonStands, OwnTextsStand
 ghost use Rattle.t1_document.specs.JoinLaws.{NewTextsDraw, NewTextsStand, OneOutcome, OnePooled, OneLevelled, PooledAgain, LevelledAgain, LevelledTogether};
 ghost use Rattle.t1_document.specs.JoinLaws.{InAnyOrder};
 ghost use Rattle.t1_document.specs.FamilyLaws.{AliasedIsRead, AliasedMarksStay, AliasedOthersStay, AliasesDraw, OneAliased, OneByFamilies, FamiliesAgain};
+ghost use Rattle.t1_document.specs.PoolLaws.{StartIsFree, PlacesFind, PooledOthersStay, OnePooledByKeys};
 
 /// The stretches of a text, joined, are the text.
 pub fn stretches_of_text()
@@ -152,4 +153,26 @@ pub fn one_by_families()
 /// A text that was pooled by families is pooled so to itself.
 pub fn families_again()
     ensures { FamiliesAgain }
+{}
+
+/// What the names of a pool begin with stands nowhere in the text that is pooled.
+pub fn start_is_free()
+    ensures { StartIsFree }
+{}
+
+/// Where the entries of a pooled text are run, and then its places, the name of each place finds a font right behind it in which the
+/// place's own stays, whatever is run between that leaves the pool's names.
+pub fn places_find()
+    ensures { PlacesFind }
+{}
+
+/// The bytes of a pooled text are its entries and then, place by place, those before the place, its line or its font text, and its
+/// rest.
+pub fn pooled_others_stay()
+    ensures { PooledOthersStay }
+{}
+
+/// A text is pooled by keys to one text.
+pub fn one_pooled_by_keys()
+    ensures { OnePooledByKeys }
 {}

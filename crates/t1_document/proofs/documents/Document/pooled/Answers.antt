@@ -18,7 +18,7 @@ returns c =
     (c.in_ok-groups.ensures key ∙ ap (λ (ps : List CodePlace). places_by by key (map place_view ps)) c.as_slice-own.ensures.value))
     (c.in_ok-keys.ensures
     ∙ (ap (λ (ps : List CodePlace).
-           cond (list_any (λ p. clashes start p.name) (map place_view ps)) [] (names_from [] (map place_view c.args.places.now)))
+    cond (list_any (λ p. clashes start p.name) (map place_view ps)) [] (names_from [] (map place_view c.args.places.now)))
     c.as_slice-own.ensures.value
     ∙ ap (λ (ps : List Place). cond (list_any (λ p. clashes start p.name) d.places) [] (names_from [] ps)) c.requires))
     (c.in_ok-parts.ensures.bytes
@@ -30,5 +30,5 @@ returns c =
     (c.in_ok-out.ensures ∙ ap prolog c.as_slice-2.ensures.value)
     (c.in_ok-push_lined.ensures
     ∙ ap (λ (ps : List CodePlace).
-          c.in_ok-out.out.items ++ fated_bytes (line_fates start by (text_in c.in_ok-parts.parts.ends) (map place_view ps)) c.args.self.now.last.now)
+    c.in_ok-out.out.items ++ fated_bytes (line_fates start by (text_in c.in_ok-parts.parts.ends) (map place_view ps)) c.args.self.now.last.now)
     c.as_slice-own.ensures.value)
