@@ -1,6 +1,8 @@
 -- Words that stand in texts, and the loop that finds what the pool's names begin with.
-use Rattle.std.proofs.Common.{◌≡◌, ◌≤◌, ◌<◌, ◌+◌, min, ℕ, zero, suc, Bool, true, false, cond, List, [], ◌∷◌, ◌++◌, length, take, drop, replicate, Option, Some, None, is_some, refl, sym, ap, ◌∙◌, inl, inr, arith, append_assoc}
-use Rattle.std.proofs.{lemmas.Bool.{cases_Bool}, lemmas.Option.{none-some}, lemmas.List.{length-append, length-drop, length-take, length-replicate, get_or-take, get_or-drop, ext_get_or, take-append-drop, replicate_more}}
+use Rattle.std.proofs.Common.{◌≡◌, ◌≤◌, ◌<◌, ◌+◌, min, ℕ, zero, suc, Bool, true, false, cond, List, [], ◌∷◌, ◌++◌, length, take, drop, replicate, Option, Some, None}
+use Rattle.std.proofs.Common.{is_some, refl, sym, ap, ◌∙◌, inl, inr, arith, append_assoc}
+use Rattle.std.proofs.{lemmas.Bool.{cases_Bool}, lemmas.Option.{none-some}}
+use Rattle.std.proofs.lemmas.List.{length-append, length-drop, length-take, length-replicate, get_or-take, get_or-drop, ext_get_or, take-append-drop, replicate_more}
 use Rattle.std.specs.Prelude.{codes, IfSome, MatchOption}
 use Rattle.bstr.specs.Find.{OccursAt, Nowhere}
 use Rattle.t1_grammar.specs.{Grammar.{fixed, unread}, Places.{occurs, occurs_has, absent_lacks}}

@@ -41,13 +41,15 @@ name_clear start text rest n e = by_mark (has_mark (text ++ rest)) e
 entry_is : (start key text : List ℕ) (answers : Bool) (ps : List Place) (e : Entry) → entry_for start key text answers ps ≡ Some e → IsEntry start (Some text) e
 entry_is start key text answers ps e h = by_test (is_so answers (leaves text) && list_all (takes_line start key answers) ps) h
   where
-    by_name : (o : Option (List ℕ)) → entry_name start text (behind_text answers) ≡ o → option_map (entry_named text answers) o ≡ Some e → IsEntry start (Some text) e
+    by_name : (o : Option (List ℕ)) → entry_name start text (behind_text answers) ≡ o → option_map (entry_named text answers) o ≡ Some e →
+        IsEntry start (Some text) e
     by_name None n k = absurd (none-some e k)
     by_name (Some name) n k =
         let same : entry_named text answers name ≡ e = same_Some (entry_named text answers name) e k in
         subst (IsEntry start (Some text)) same (record { of_text = refl; clear = name_clear start text (behind_text answers) name n })
 
-    by_test : (b : Bool) → cond b (option_map (entry_named text answers) (entry_name start text (behind_text answers))) None ≡ Some e → IsEntry start (Some text) e
+    by_test : (b : Bool) → cond b (option_map (entry_named text answers) (entry_name start text (behind_text answers))) None ≡ Some e →
+        IsEntry start (Some text) e
     by_test true k = by_name (entry_name start text (behind_text answers)) refl k
     by_test false k = absurd (none-some e k)
 
@@ -95,7 +97,8 @@ module _ (own : List ℕ) (new : NewTexts) (entry : List ℕ → Option Entry)
     pub is_found : found (own_name start key) ≡ Some font
 
   -- it is where the pool's name finds what it found
-  pub has_kept : (key : List ℕ) (e : Entry) (before after : Found) → after (own_name start key) ≡ before (own_name start key) → Has key e before → Has key e after
+  pub has_kept : (key : List ℕ) (e : Entry) (before after : Found) → after (own_name start key) ≡ before (own_name start key) → Has key e before →
+      Has key e after
   has_kept key e before after k h = record { font = h.font; spelled = h.spelled; is_found = k ∙ h.is_found }
 
   -- where an entry is run
@@ -103,7 +106,8 @@ module _ (own : List ℕ) (new : NewTexts) (entry : List ℕ → Option Entry)
       Has k e before → Has k e after
   kept_one k e is key before after run h = by_entry (entry key) refl run
     where
-      by_name : (d : Entry) → entry key ≡ Some d → Enters start key d before after → (b : Bool) → bytes_eq (own_name start key) (own_name start k) ≡ b → Has k e after
+      by_name : (d : Entry) → entry key ≡ Some d → Enters start key d before after → (b : Bool) → bytes_eq (own_name start key) (own_name start k) ≡ b →
+          Has k e after
       by_name d t r true n =
           let same : own ++ key ≡ own ++ k = (bytes_eq-Decides (own_name start key) (own_name start k)).0 n in
           let entries : d ≡ e = same_Some d e (sym t ∙ (ap entry (append_cancel_left own key k same) ∙ is)) in

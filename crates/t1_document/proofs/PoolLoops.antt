@@ -62,7 +62,8 @@ module _ (start : List ℕ) (entry : List ℕ → Option Entry) (keys : List (Bo
       added None b end = refl
       added (Some e) b end = refl
 
-      with_own : (seen : Bool) (o p : Option Entry) → o ≡ p → cond (is_some o && true) (end_by o) (cond seen (end_by p) None) ≡ cond (seen || true) (end_by p) None
+      with_own : (seen : Bool) (o p : Option Entry) → o ≡ p →
+          cond (is_some o && true) (end_by o) (cond seen (end_by p) None) ≡ cond (seen || true) (end_by p) None
       with_own true None p e = refl
       with_own false None p e = ap end_by e
       with_own true (Some x) p e = ap end_by e

@@ -1,5 +1,5 @@
 -- Worked rows of pooling, computed.
-use Rattle.std.{proofs.Common.{◌≡◌, ℕ, true, false, List, [], ◌∷◌, Some, None, refl}, specs.{Prelude.{codes, if◌then◌else◌}, Str.{bytes_eq}}}
+use Rattle.std.{proofs.Common.{◌≡◌, ℕ, true, false, List, [], ◌∷◌, ◌++◌, Some, None, refl}, specs.{Prelude.{codes, if◌then◌else◌}, Str.{bytes_eq}}}
 use Rattle.t1_grammar.specs.Grammar.{first_at}
 use Rattle.t1_font.specs.Tags.{tag, behind_tags}
 use Rattle.t1_document.specs.{declared.marks.Kind.TheVariants.{Font}, declared.pooling.Key.TheVariants.{Family}, Documents.{Place}, Rewriting.{NewTexts, fated_bytes}}
@@ -56,7 +56,8 @@ line_of_a_family : place_line (codes "/pool:") (line_end true) (codes "ABCDEF+X"
 line_of_a_family = refl
 
 entry : entry_bytes (codes "/pool::") (codes "X") (record { name = codes "ABCDEF+X"; text = codes "%!.."; answers = true })
-    ≡ codes "%%BeginResource: font ABCDEF+X\n%!..{restore}if\n%%EndResource\n/pool::X /ABCDEF+X findfont definefont pop\nsystemdict/undefinefont known{/ABCDEF+X undefinefont}if\n"
+    ≡ codes "%%BeginResource: font ABCDEF+X\n%!..{restore}if\n%%EndResource\n/pool::X /ABCDEF+X findfont definefont pop\n"
+    ++ codes "systemdict/undefinefont known{/ABCDEF+X undefinefont}if\n"
 entry = refl
 
 -- ---- documents

@@ -87,8 +87,8 @@ abbrev pub PooledOthersStay : Type 0
 PooledOthersStay = (by : Key) (new : NewTexts) (text : List ℕ) → pooled_by by new text
     ≡ prolog (entries (free_start text) (entry_in (free_start text) by new (document_of text).places) (keys_of (free_start text) by (document_of text).places))
     ++ fated_bytes (line_fates (free_start text) by
-    (line_ends (entry_in (free_start text) by new (document_of text).places) (keys_of (free_start text) by (document_of text).places)) (document_of text).places)
-    (document_of text).last
+    (line_ends (entry_in (free_start text) by new (document_of text).places) (keys_of (free_start text) by (document_of text).places))
+    (document_of text).places) (document_of text).last
 
 -- the outcomes are those of the keys of a text, and the text pooled with them is this
 abbrev pub PooledByKeys : Key → List ℕ → List ℕ → Type 0

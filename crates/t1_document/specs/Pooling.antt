@@ -95,7 +95,8 @@ abbrev pub has_test : Result (List Mend) ReadFault → Bool
 has_test (Ok mends) = list_any is_test mends
 has_test (Err fault) = false
 
--- Whether a font text leaves an answer on the operand stack: that of its test whether its font was loaded before. Where a text asks in another way, it isn't known.
+-- Whether a font text leaves an answer on the operand stack: that of its test whether its font was loaded before. Where a text asks in another way, it
+-- isn't known.
 abbrev pub leaves : List ℕ → Option Bool
 leaves text = if asks text then (if has_test (mends_of text) then Some true else None) else Some false
 

@@ -1,8 +1,10 @@
 -- What code keeps, as values.
 use Rattle.std.specs.{Prelude.{[], map}, Option.{option_map}}
 use Rattle.t1_document.specs.{declared.stretches.Stretch.{Stretch as CodeStretch}, declared.fonts.FontText.{FontText as CodeFontText}, declared.documents.Place.{Place as CodePlace}}
-use Rattle.t1_document.specs.{declared.documents.Document.{Document as CodeDocument}, declared.families.Led.{Led as CodeLed}, declared.rewriting.Fate.{Fate as CodeFate}, declared.entries.Entry.{Entry as CodeEntry}}
-use Rattle.t1_document.specs.{declared.rewriting.Fate.TheVariants.{Stays, Becomes, Goes}, Stretches.{Stretch}, Fonts.{FontText}, Documents.{Place, Document}, Rewriting.{Fate}, Families.{Led}, Pooling.{Entry}}
+use Rattle.t1_document.specs.{declared.documents.Document.{Document as CodeDocument}, declared.families.Led.{Led as CodeLed}, declared.rewriting.Fate.{Fate as CodeFate}}
+use Rattle.t1_document.specs.declared.entries.Entry.{Entry as CodeEntry}
+use Rattle.t1_document.specs.{declared.rewriting.Fate.TheVariants.{Stays, Becomes, Goes}, Stretches.{Stretch}, Fonts.{FontText}, Documents.{Place, Document}, Rewriting.{Fate}}
+use Rattle.t1_document.specs.{Families.{Led}, Pooling.{Entry}}
 use Rattle.t1_document.specs.Rewriting as fates
 
 -- a stretch of borrowed bytes

@@ -38,4 +38,5 @@ pub use joins::{Joins, Kept, Outcome, join_fonts};
 pub use lines::push_document;
 pub use marks::{Kind, Mark, Side};
 pub use names::names_of;
+pub use pooling::{Key, PooledText, pool_document};
 pub use texts::Texts;

@@ -155,7 +155,7 @@ impl<'a> Document<'a> {
 
 /// A text in which each font stands once, before all documents, and is found by a line at each of its places.
 #[derive(Drop)]
-pub struct Pooled<'a> {
+pub struct PooledText<'a> {
     /// The text.
     pub text: Vec<u8>,
     /// The places of fonts that it had, each under its key.
@@ -180,7 +180,7 @@ pub struct Pooled<'a> {
 /// # Errors
 ///
 /// Only want of memory.
-pub fn pool_document(alloc: Global, by: Key, text: &[u8]) -> Result<Pooled<'_>, AllocError>
+pub fn pool_document(alloc: Global, by: Key, text: &[u8]) -> Result<PooledText<'_>, AllocError>
     ensures joins { IfOk result (λ p. AreOutcomes (keyed by (document_of text.now).places) (outcome_in p.joins)) }
     ensures places { IfOk result (λ p. map place_view p.places.items ≡ keyed by (document_of text.now).places) }
     ensures text { IfOk result (λ p. p.text.items ≡ pooled_by by (new_texts (outcome_in p.joins)) text.now) }
@@ -190,7 +190,7 @@ pub fn pool_document(alloc: Global, by: Key, text: &[u8]) -> Result<Pooled<'_>, 
     let joins = join_fonts(alloc, places.as_slice())?;
     let start = free_start(alloc, text)?;
     let text = document.pooled(alloc, &start, by, places.as_slice(), &joins)?;
-    Ok(Pooled {
+    Ok(PooledText {
         text,
         places,
         joins,

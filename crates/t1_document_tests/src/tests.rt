@@ -6,6 +6,7 @@ mod joins;
 mod kept;
 mod large;
 mod places;
+mod pooling;
 mod rewriting;
 
 use std::alloc::{AllocError, Global};
