@@ -3,7 +3,8 @@ use Rattle.std.proofs.Common.{◌≡◌, ℕ, zero, suc, ◌+◌, ◌-◌, ◌<�
 use Rattle.std.specs.{Borrow.{Bor}, Option.{option_map}, Prelude.{unwrap_or}, Ordering.{nat_cmp, is_lt, is_eq}, declared.cmp.Ordering.{Ordering}}
 use Rattle.std.specs.{Cmp.{nat_cmp_is, nat_cmp_total}, FinMap.Entries.{by_order, put, find, below_all, is_sorted}}
 use Rattle.std.specs.declared.cmp.Ordering.TheVariants.{Less, Equal, Greater}
-use Rattle.t1_font.{specs.{CodeNames.{codes_named}, FontValue.{SparseArray, notdef}, Gathering.{gathered_name, named_from, copied_names}}, proofs.MapLaws.{and_T, left_T, right_T, less_apart}}
+use Rattle.t1_font.specs.{CodeNames.{codes_named}, FontValue.{SparseArray, notdef}, Gathering.{gathered_name, named_from, copied_names}}
+use Rattle.t1_text.proofs.MapLaws.{and_T, left_T, right_T, less_apart}
 use Rattle.std.specs.FinMap as fin
 
 less_is : (o : Ordering) → T (is_lt o) → o ≡ Less

@@ -1,7 +1,8 @@
 //! The names of an Encoding's codes, while its table is read.
 
 ghost use Rattle.std.specs.{Prelude.{◌≡◌, ◌≤◌, ◌+◌, map, filter, IfOk}};
-ghost use Rattle.t1_font.specs.{Encoding.{Copy}, Entries.{has_name}, Gathering.{gathered_name, kept_by}, Sources.{kept_name}};
+ghost use Rattle.t1_font.specs.{Gathering.{gathered_name, kept_by}, Sources.{kept_name}};
+ghost use Rattle.t1_text.specs.{Encoding.{Copy}, Entries.{has_name}};
 ghost use Rattle.std.specs.FinMap as fin;
 
 use crate::glyphs::is_notdef;

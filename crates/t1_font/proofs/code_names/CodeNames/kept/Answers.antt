@@ -1,6 +1,8 @@
 use Rattle.std.proofs.{Common.{◌∙◌, ap, sym, arith, map, filter, ◌++◌, ◌≤◌, length}, lemmas.List.{append-nil, drop_all}}
 use Rattle.std.specs.Ordering.{nat_cmp}
-use Rattle.t1_font.{specs.{Sources.{kept_name}, Entries.{has_name}, CodeNames.{codes_named}}, proofs.CodeTables.{codes_rise}}
+use Rattle.t1_font.specs.{Sources.{kept_name}, CodeNames.{codes_named}}
+use Rattle.t1_font.proofs.CodeTables.{codes_rise}
+use Rattle.t1_text.specs.Entries.{has_name}
 use Rattle.std.specs.FinMap as fin
 use Rattle.t1_font.proofs.code_names.CodeNames.kept.Goals as goal
 

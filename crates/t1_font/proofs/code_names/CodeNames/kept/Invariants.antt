@@ -1,5 +1,6 @@
 use Rattle.std.proofs.Common.{◌≡◌, ◌++◌, map, filter, drop}
-use Rattle.t1_font.specs.{Sources.{kept_name}, Entries.{has_name}, CodeNames.{codes_named}}
+use Rattle.t1_font.specs.{Sources.{kept_name}, CodeNames.{codes_named}}
+use Rattle.t1_text.specs.Entries.{has_name}
 use Rattle.t1_font.proofs.code_names.CodeNames.kept.Given as goal
 
 abbrev pub invariant-codes : goal.invariant-codes
