@@ -34,3 +34,4 @@ pub mod FilledTables
 pub mod normal_fonts
 pub mod UntestedFonts
 mod Presorted
+mod NormalRows

@@ -1,6 +1,5 @@
 -- Rows that are computed on the definitions.
 pub mod TagRows
-pub mod NormalRows
 pub mod BoxRows
 pub mod NameRows
 pub mod WideRows
