@@ -1,10 +1,11 @@
 //! Fonts that other programs spell: what they are mended to, and that they rejoin with what is spelled as this program does.
-use super::changed::{tiny_encoded, with_all};
-use super::engines::{Engine, answer, answers};
-use super::lists::{List, listed};
 use std::alloc::{AllocError, Global};
 use std::test::Fail;
 use t1_cmd::{Counted, list_mends, run_mend};
+use t1_cmd_shared_tests::changed::{tiny_encoded, with_all};
+use t1_cmd_shared_tests::engines::{Engine, answer, answers};
+use t1_cmd_shared_tests::lists::{List, lists};
+use t1_cmd_shared_tests::texts::is;
 use t1_font::Form;
 use t1_tiny::{PFA, PFB};
 
@@ -46,35 +47,18 @@ fn is_mended(alloc: Global, file: &[u8]) -> bool {
         && answers(alloc, Engine::Mend(Form::Pfb), file, PFB)
 }
 
-/// What the engine tells of a file's mending.
-fn ran(alloc: Global, file: &[u8]) -> Result<Vec<u8>, AllocError> {
+/// Whether the engine and the call tell these lines of a file's mending.
+fn tells(alloc: Global, file: &[u8], want: &[u8]) -> bool {
     let mut out = Vec::new(alloc);
     let mut reader = Counted::new(file);
-    match run_mend(alloc, &mut reader, Form::Pfa, &mut Counted::new(&mut out)) {
-        Ok(lines) => Ok(lines),
-        Err(fault) => {
-            drop(fault);
-            Err(AllocError)
-        }
-    }
+    let ran = run_mend(alloc, &mut reader, Form::Pfa, &mut Counted::new(&mut out));
+    is(ran, want) && is(list_mends(alloc, file), want)
 }
 
-/// What the call tells of it.
-fn told(alloc: Global, file: &[u8]) -> Result<Vec<u8>, AllocError> {
-    match list_mends(alloc, file) {
-        Ok(lines) => Ok(lines),
-        Err(reason) => {
-            drop(reason);
-            Err(AllocError)
-        }
-    }
-}
-
-/// Whether both tell these lines.
-fn tells(alloc: Global, file: &[u8], want: &[u8]) -> Result<bool, AllocError> {
-    let ran = ran(alloc, file)?;
-    let told = told(alloc, file)?;
-    Ok(ran.as_slice() == want && told.as_slice() == want)
+/// Tiny with a comment in its Encoding, and the test.
+fn tested(alloc: Global) -> Result<Vec<u8>, AllocError> {
+    let commented = commented(alloc)?;
+    with_all(alloc, commented.as_slice(), BEGINS, TESTED)
 }
 
 #[test]
@@ -82,8 +66,8 @@ fn mending_is_told(rt: HostRuntime) -> Result<(), Fail> {
     const BOTH: &[u8] = b"comment in Encoding at 387\ntest of FontDirectory taken out at 0\n";
     let commented = commented(rt.alloc())?;
     let copied = copied(rt.alloc())?;
-    let tested = with_all(rt.alloc(), commented.as_slice(), BEGINS, TESTED)?;
-    let rows: [(&[u8], &[u8], &str); 5] = [
+    let tested = tested(rt.alloc())?;
+    let rows: &[(&[u8], &[u8], &str)] = &[
         (PFA, b"", "Tiny"),
         (PFB, b"", "the PFB"),
         (
@@ -94,9 +78,8 @@ fn mending_is_told(rt: HostRuntime) -> Result<(), Fail> {
         (copied.as_slice(), b"code copied at 209\n", "a copy"),
         (tested.as_slice(), BOTH, "a comment, and the test"),
     ];
-    for (file, want, what) in rows {
-        let right = tells(rt.alloc(), file, want)?;
-        assert!(rt; right, "{what}");
+    for &(file, want, what) in rows {
+        assert!(rt; tells(rt.alloc(), file, want), "{what}");
     }
     Ok(())
 }
@@ -105,10 +88,10 @@ fn mending_is_told(rt: HostRuntime) -> Result<(), Fail> {
 // like run_mend: mend_file, list_mends
 #[test]
 fn tiny_is_mended(rt: HostRuntime) -> Result<(), Fail> {
-    let files = [commented(rt.alloc())?, copied(rt.alloc())?];
-    for file in files.as_slice() {
-        assert!(rt; is_mended(rt.alloc(), file.as_slice()));
-    }
+    let commented = commented(rt.alloc())?;
+    let copied = copied(rt.alloc())?;
+    assert!(rt; is_mended(rt.alloc(), commented.as_slice()));
+    assert!(rt; is_mended(rt.alloc(), copied.as_slice()));
     assert!(rt; answers(rt.alloc(), Engine::Mend(Form::Pfa), PFB, PFA));
     assert!(rt; answers(rt.alloc(), Engine::Mend(Form::Pfb), PFA, PFB));
     Ok(())
@@ -118,9 +101,11 @@ fn tiny_is_mended(rt: HostRuntime) -> Result<(), Fail> {
 #[test]
 fn tests_are_taken_out(rt: HostRuntime) -> Result<(), Fail> {
     let tested = with_all(rt.alloc(), PFA, BEGINS, TESTED)?;
-    let kept = answer(rt.alloc(), Engine::Convert(Form::Pfa), tested.as_slice());
-    assert!(rt; kept.as_slice() == tested.as_slice(), "pfa leaves it");
     let file = tested.as_slice();
+    assert!(rt;
+        answers(rt.alloc(), Engine::Convert(Form::Pfa), file, file),
+        "pfa leaves it"
+    );
     assert!(rt;
         answers(rt.alloc(), Engine::Mend(Form::Pfa), file, PFA),
         "mend takes it out"
@@ -133,7 +118,6 @@ fn mended_fonts_rejoin(rt: HostRuntime) -> Result<(), Fail> {
     let tested = with_all(rt.alloc(), PFA, BEGINS, TESTED)?;
     let commented = commented(rt.alloc())?;
     let files = [tested.as_slice(), commented.as_slice(), PFB];
-    let list = listed(rt.alloc(), List::Rejoin(Form::Pfa), &files);
-    assert!(rt; list.as_slice() == PFA.as_slice());
+    assert!(rt; lists(rt.alloc(), List::Rejoin(Form::Pfa), &files, PFA));
     Ok(())
 }
