@@ -353,15 +353,28 @@ fn told_in_vain(alloc: Global) -> (&'static str, u64) {
     (word, full.calls())
 }
 
+/// Which fault is told wrongly, if one is.
+fn what_is_told_wrongly(alloc: Global) -> &'static str {
+    if !is_told(alloc, &RunFault::Read, "failed: read\n", 3) {
+        "a failed read"
+    } else if !is_told(alloc, &RunFault::Write, "failed: write\n", 3) {
+        "a failed write"
+    } else if !is_refused(alloc, Reason::TooLong, "refused: file too long\n") {
+        "a file that is too long"
+    } else if !is_refused(alloc, Reason::Memory, "refused: out of memory\n") {
+        "want of memory"
+    } else if told_in_vain(alloc) != ("write", 1) {
+        "a writer that takes nothing"
+    } else {
+        ""
+    }
+}
+
 // meets write_fault Ok
 #[test]
 fn lines_of_faults(rt: HostRuntime) {
-    let alloc = rt.alloc();
-    assert!(rt; is_told(alloc, &RunFault::Read, "failed: read\n", 3));
-    assert!(rt; is_told(alloc, &RunFault::Write, "failed: write\n", 3));
-    assert!(rt; is_refused(alloc, Reason::TooLong, "refused: file too long\n"));
-    assert!(rt; is_refused(alloc, Reason::Memory, "refused: out of memory\n"));
-    assert!(rt; told_in_vain(alloc) == ("write", 1));
+    let wrong = what_is_told_wrongly(rt.alloc());
+    assert!(rt; wrong.is_empty(), "{wrong}");
 }
 
 #[test]

@@ -99,6 +99,31 @@ fn lacks_the_next(alloc: Global, file: &[u8]) -> bool {
         && answers(alloc, Engine::Subset(NAMES, Form::Pfa), file, LINE)
 }
 
+/// What of that font is wrong, if anything.
+fn what_is_wrong(alloc: Global, file: &[u8]) -> &'static str {
+    const LINE: &[u8] = b"ok 65535 glyphs, 0 subrs, weight ";
+    const LAST: &[u8] = b"\nwidth g9999 fault Unended\n";
+    if !has_glyphs(alloc, file, LINE) {
+        "its line"
+    } else if !is_listed(alloc, file, 65_536, b"\nglyph g9999 0\n") {
+        "its listing"
+    } else if !is_listed_in_full(alloc, file, 131_071, LAST) {
+        "its full listing"
+    } else if !is_rewritten(alloc, file, Form::Pfa) {
+        "its PFA"
+    } else if !is_rewritten(alloc, file, Form::Pfb) {
+        "its PFB"
+    } else if !has_the_last(alloc, file) {
+        "its last glyph"
+    } else if !lacks_the_next(alloc, file) {
+        "a name that it lacks"
+    } else if !differs(alloc, file, file, b"", Some(true)) {
+        "that it joins with itself"
+    } else {
+        ""
+    }
+}
+
 // meets run_check Ok at 65535 glyphs
 // meets run_show NoGlyph at 65535 glyphs
 // meets run_subset NoGlyph at 65535 glyphs
@@ -110,46 +135,40 @@ fn lacks_the_next(alloc: Global, file: &[u8]) -> bool {
 #[test]
 fn as_many_glyphs_as_a_font_can_have(rt: HostRuntime) -> Result<(), Fail> {
     let file = many(rt.alloc())?;
-    let file = file.as_slice();
-    const LINE: &[u8] = b"ok 65535 glyphs, 0 subrs, weight ";
-    assert!(rt; has_glyphs(rt.alloc(), file, LINE));
-    assert!(rt; is_listed(rt.alloc(), file, 65_536, b"\nglyph g9999 0\n"));
-    const LAST: &[u8] = b"\nwidth g9999 fault Unended\n";
-    assert!(rt; is_listed_in_full(rt.alloc(), file, 131_071, LAST));
-    assert!(rt; is_rewritten(rt.alloc(), file, Form::Pfa));
-    assert!(rt; is_rewritten(rt.alloc(), file, Form::Pfb));
-    assert!(rt; has_the_last(rt.alloc(), file));
-    assert!(rt; lacks_the_next(rt.alloc(), file));
-    assert!(rt; differs(rt.alloc(), file, file, b"", Some(true)));
+    let wrong = what_is_wrong(rt.alloc(), file.as_slice());
+    assert!(rt; wrong.is_empty(), "{wrong}");
     Ok(())
 }
 
-/// Whether listings of so many Subrs join, and are refused where the last line of one repeats a line, breaks off, or differs.
+/// Whether listings of which the first has all lines of the second join, and are refused where the last line of one repeats a line,
+/// breaks off, or differs.
+fn all_join(alloc: Global, left: &[u8], right: &[u8], repeated: &[u8], broken: &[u8]) -> bool {
+    joins(alloc, left, right, left, b"")
+        && joins(
+            alloc,
+            right,
+            repeated,
+            b"",
+            b"refused: repeated in line 65536\n",
+        )
+        && joins(alloc, right, broken, b"", b"refused: bad line 65536\n")
+        && joins(
+            alloc,
+            left,
+            b"S 65534 0b\n",
+            b"",
+            b"refused: subr 65534 differs\n",
+        )
+}
+
+/// The same of listings of so many Subrs.
 fn listings_join(alloc: Global, count: u32) -> Result<bool, AllocError> {
     let left = numbered(alloc, 0, count, b"S ", b" \n")?;
     let right = numbered(alloc, count / 2, count, b"S ", b" \n")?;
     let repeated = joined(alloc, &[left.as_slice(), b"S 0 \n"])?;
     let broken = joined(alloc, &[left.as_slice(), b"S"])?;
-    let last = b"S 65534 0b\n";
     let (left, right) = (left.as_slice(), right.as_slice());
-    Ok(
-        joins(alloc, left, right, left, b"")
-            && joins(
-                alloc,
-                right,
-                repeated.as_slice(),
-                b"",
-                b"refused: repeated in line 65536\n",
-            )
-            && joins(
-                alloc,
-                right,
-                broken.as_slice(),
-                b"",
-                b"refused: bad line 65536\n",
-            )
-            && joins(alloc, left, last, b"", b"refused: subr 65534 differs\n"),
-    )
+    Ok(all_join(alloc, left, right, repeated.as_slice(), broken.as_slice()))
 }
 
 // meets run_join Ok at 65535 lines

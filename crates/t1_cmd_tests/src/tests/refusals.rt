@@ -290,6 +290,44 @@ fn joined_zeros(alloc: Global, left: usize, right: usize) -> &'static str {
     word(run_join(alloc, &mut left, &mut right, &mut Counted::new(&mut out)))
 }
 
+/// A byte more than a file may have.
+const OVER: usize = 268_435_457;
+
+/// What isn't refused of so many zeros that are read, if anything.
+fn what_reads_zeros(alloc: Global) -> &'static str {
+    // FILE_LIMIT is 268435456.
+    if read_zeros(alloc, FILE_LIMIT) != Some(268_435_456) {
+        "read_all, up to the limit"
+    } else if read_zeros(alloc, OVER).is_some() {
+        "read_all"
+    } else if !are_too_long(alloc, OVER) {
+        "an engine over one font"
+    } else if !are_too_long_in_a_list(alloc, OVER) {
+        "an engine over a list"
+    } else if joined_zeros(alloc, 0, OVER) != "too long" {
+        "run_join, on the right"
+    } else if joined_zeros(alloc, OVER, 0) != "too long" {
+        "run_join, on the left"
+    } else if compared_zeros(alloc, OVER) != "too long" {
+        "run_diff"
+    } else {
+        ""
+    }
+}
+
+/// What doesn't refuse such a file, if anything.
+fn what_takes_file(alloc: Global, file: &[u8]) -> &'static str {
+    if !is_too_long_a_file(alloc, file) {
+        "a call over fonts"
+    } else if !is_too_long_a_listing(alloc, file) {
+        "join_listings"
+    } else if !is_too_long_to_compare(alloc, file) {
+        "diff_files"
+    } else {
+        ""
+    }
+}
+
 // meets read_all Ok at 268435456 bytes
 // meets read_all TooLong at 268435457 bytes
 // meets run_join TooLong at 268435457 bytes
@@ -300,19 +338,12 @@ fn joined_zeros(alloc: Global, left: usize, right: usize) -> &'static str {
 // like run_check: subset_file, subset_file_with_codes, merge_files, rejoin_files, run_diff, diff_files
 #[test]
 fn files_over_the_limit(rt: HostRuntime) -> Result<(), Fail> {
-    // FILE_LIMIT is 268435456.
-    const OVER: usize = 268_435_457;
     let alloc = rt.alloc();
-    assert!(rt; read_zeros(alloc, FILE_LIMIT) == Some(268_435_456));
-    assert!(rt; read_zeros(alloc, OVER).is_none());
-    assert!(rt; are_too_long(alloc, OVER) && are_too_long_in_a_list(alloc, OVER));
-    assert!(rt; joined_zeros(alloc, 0, OVER) == "too long");
-    assert!(rt; joined_zeros(alloc, OVER, 0) == "too long");
-    assert!(rt; compared_zeros(alloc, OVER) == "too long");
+    let wrong = what_reads_zeros(alloc);
+    assert!(rt; wrong.is_empty(), "{wrong}");
     let file = read_all(alloc, &mut Counted::new(Zeros { left: OVER }), OVER)?;
-    let file = file.as_slice();
-    assert!(rt; is_too_long_a_file(alloc, file));
-    assert!(rt; is_too_long_a_listing(alloc, file) && is_too_long_to_compare(alloc, file));
+    let wrong = what_takes_file(alloc, file.as_slice());
+    assert!(rt; wrong.is_empty(), "{wrong}");
     Ok(())
 }
 
