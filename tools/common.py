@@ -1,4 +1,5 @@
 """What the scripts of tools/ and bench/ share: files, runs of the program, the ciphers, segments, and the parts of made fonts."""
+import glob
 import os
 import re
 import shutil
@@ -123,10 +124,31 @@ def below(names):
     return [crate for crate in needs() if crate in wanted]
 
 
-def home_of_tests(crate):
-    """The crate in which the tests of a crate stand: the one above it that has nothing else, or the crate itself."""
-    above = crate + "_tests"
-    return above if above in needs() else crate
+def is_of_tests(crate):
+    """Whether a crate has nothing but tests, and what they share."""
+    return crate.endswith("_tests")
+
+
+def tested(home):
+    """The crate whose tests a crate of tests has, CRATE_tests or CRATE_SUBJECT_tests: of those whose names begin its own the longest."""
+    return max((crate for crate in needs() if not is_of_tests(crate) and home.startswith(crate + "_")), key=len)
+
+
+def homes_of_tests(crate):
+    """The crates in which the tests of a crate stand: those above it that have nothing else, or the crate itself."""
+    return [home for home in needs() if is_of_tests(home) and tested(home) == crate] or [crate]
+
+
+def files_of_tests(home):
+    """The paths of the files in which the tests of a crate stand, and what they share."""
+    source = os.path.join(TOP, "crates", home, "src")
+    paths = sorted(glob.glob(source + "/**/*.rt", recursive=True))
+    return [path for path in paths if is_of_tests(home) or "/tests" in path[len(source):]]
+
+
+def tests_of(home):
+    """The names of the tests that stand in a crate."""
+    return [name for path in files_of_tests(home) for name in re.findall(r"^#\[test\]\nfn (\w+)", text_of(path), re.M)]
 
 
 def copy_crates(room, names):

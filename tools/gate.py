@@ -21,7 +21,7 @@ import threading
 import time
 
 from build import is_built, mark
-from common import TOP, below, compiler, needs, put, say, text_of
+from common import TOP, below, compiler, is_of_tests, needs, put, say, tested, text_of
 from kit import kit, lanes, library, sum_of_crate, sum_of_files
 from wrong_bodies import KEPT, edits_of
 
@@ -75,10 +75,10 @@ def part_of(words):
     name = words[words.index("--crate-name") + 1] if "--crate-name" in words else None
     if name is None:
         return None
-    crate = name[:-len("_tests")] if name.endswith("_tests") else name
+    crate = tested(name) if is_of_tests(name) else name
     if "--crate-checked" in words:
         return f"{crate}, compiled twice"
-    return f"{crate}, its tests" if name.endswith("_tests") or "--test" in words else f"{crate}, its proof"
+    return f"{crate}, its tests" if is_of_tests(name) or "--test" in words else f"{crate}, its proof"
 
 
 class Watch(threading.Thread):

@@ -10,7 +10,7 @@ import re
 import sys
 from xml.sax.saxutils import escape
 
-from common import TOP, needs, put, say, text_of
+from common import TOP, is_of_tests, needs, put, say, text_of
 
 WIDTH, HEIGHT, GAP, RISE, EDGE = 150, 46, 24, 52, 20
 STYLE = (
@@ -47,7 +47,7 @@ def box(x, y, name, about, width=WIDTH):
 
 def ours():
     """What each crate rests on, of the crates of this repository but for those that have tests alone."""
-    all_needs = {crate: deps for crate, deps in needs().items() if not crate.endswith("_tests")}
+    all_needs = {crate: deps for crate, deps in needs().items() if not is_of_tests(crate)}
     return {crate: [dep for dep in deps if dep in all_needs] for crate, deps in all_needs.items()}
 
 

@@ -15,7 +15,7 @@ import subprocess
 import sys
 import tempfile
 
-from common import TOP, needs, put, put_between, text_of
+from common import TOP, homes_of_tests, is_of_tests, needs, put, put_between, text_of
 from gate import BEHIND, WRONG
 from kit import compiler_words, is_static, lanes
 
@@ -30,13 +30,13 @@ DEAREST = 30
 
 def crates():
     """The crates that have a proof, by their names without those of their tests."""
-    return [name for name in needs() if not name.endswith("_tests")]
+    return [name for name in needs() if not is_of_tests(name)]
 
 
 def kinds_of(name):
     """What the gate does with a crate."""
     return [kind for kind in ("its proof", "its tests", "compiled twice") if kind == "its proof" or
-            kind == "its tests" and (name + "_tests" in needs() or is_static(name)) or kind == "compiled twice" and name == "t1subset"]
+            kind == "its tests" and (homes_of_tests(name) != [name] or is_static(name)) or kind == "compiled twice" and name == "t1subset"]
 
 
 def scripts():

@@ -16,7 +16,7 @@ import sys
 import tempfile
 from concurrent.futures import ThreadPoolExecutor
 
-from common import BUILDS, EEXEC, TINY, TINY_PFB, TOP, bytes_of, ciphered, compiler, example, home_of_tests, put, segments
+from common import BUILDS, EEXEC, TINY, TINY_PFB, TOP, bytes_of, ciphered, compiler, example, homes_of_tests, put, segments, tests_of
 from test_answers import GROWING
 
 PROGRAM = BUILDS[0]
@@ -220,13 +220,15 @@ def listing_cases():
 
 def built_tests(crate):
     """The words that run each test of growths of a crate, and whether it refuses all."""
-    home = home_of_tests(crate)
-    path = os.path.join(TOP, "crates", home, "out", home + "_tests")
-    listed = subprocess.run([path, "--list"], capture_output=True, text=True, check=True).stdout
-    for name in re.findall(r"^(.*): test$", listed, re.M):
-        word = name.rsplit("::", 1)[-1]
-        if word.startswith(("growths", "no_growth")):
-            yield [path, name], word == "no_growth"
+    for home in homes_of_tests(crate):
+        if not tests_of(home):
+            continue
+        path = os.path.join(TOP, "crates", home, "out", home + "_tests")
+        listed = subprocess.run([path, "--list"], capture_output=True, text=True, check=True).stdout
+        for name in re.findall(r"^(.*): test$", listed, re.M):
+            word = name.rsplit("::", 1)[-1]
+            if word.startswith(("growths", "no_growth")):
+                yield [path, name], word == "no_growth"
 
 
 def sweep_crate(shim, crate):

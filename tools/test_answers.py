@@ -23,7 +23,7 @@ import os
 import re
 import sys
 
-from common import TOP, home_of_tests, text_of
+from common import TOP, files_of_tests, homes_of_tests, text_of
 
 CRATES = ["t1_bytes", "t1_char", "t1_run", "t1_join", "t1_font", "t1_document", "t1_subset", "t1_cmd"]
 # Crates whose tests are run with growths refused. The calls of t1_example are examples, whose answers are not told of.
@@ -150,9 +150,10 @@ FIXED["t1_bytes"] += ["FILE_LIMIT"]
 
 def sources(crate, tests=False):
     """The paths of a crate's code, or of its tests."""
-    source = os.path.join(TOP, "crates", home_of_tests(crate) if tests else crate, "src")
-    paths = glob.glob(source + "/*.rt") + glob.glob(source + "/tests/*.rt")
-    return sorted(path for path in paths if ("/tests" in path[len(source) :]) == tests)
+    if tests:
+        return [path for home in homes_of_tests(crate) for path in files_of_tests(home)]
+    paths = glob.glob(os.path.join(TOP, "crates", crate, "src/*.rt"))
+    return sorted(path for path in paths if os.path.basename(path) != "tests.rt")
 
 
 def owner(text, at):

@@ -5,17 +5,15 @@ import os
 import re
 import sys
 
-from common import TOP, home_of_tests, text_of
+from common import TOP, homes_of_tests, text_of
 
 TEST = re.compile(r"`(\w+)/([\w/]+\.rt)::(\w+)`")
 BODY = re.compile(r"`(\w+)/(\w+)`")
 
 
 def has_test(crate, path, name):
-    try:
-        return re.search(rf"#\[test\]\nfn {name}\(", text_of(TOP, "crates", home_of_tests(crate), "src", path)) is not None
-    except OSError:
-        return False
+    paths = [os.path.join(TOP, "crates", home, "src", path) for home in homes_of_tests(crate)]
+    return any(os.path.exists(path) and re.search(rf"#\[test\]\nfn {name}\(", text_of(path)) for path in paths)
 
 
 def has_body(crate, name):

@@ -28,7 +28,7 @@ import tempfile
 import threading
 
 from build import Builds
-from common import TOP, below, bytes_of, copy_crates, home_of_tests, needs, put, text_of
+from common import TOP, below, bytes_of, copy_crates, homes_of_tests, needs, put, tests_of, text_of
 from edits import apply, catcher, change_of, function_of, names_nothing, refusal, refused_lemma, told_of
 from kit import compiler_words, files_of, lanes, library, sum_of_crate
 
@@ -64,12 +64,15 @@ def leave_one_test(folder, test):
 def caught(crate, edit):
     """What the tests of a crate say of an edit, tried in its own copy without any proof."""
     test = catcher(edit)
+    home = next((home for home in homes_of_tests(crate) if test in tests_of(home)), None)
+    if not home:
+        return [f"{label(crate, edit)}: NOT CAUGHT: there is no test {test}"]
     with tempfile.TemporaryDirectory(prefix="wrong-bodies-") as room:
         copy_crates(room, list(needs()))
         bad = apply(edit, os.path.join(room, "crates", crate))
         if bad:
             return [f"{label(crate, edit)}: BAD EDIT: {bad}"]
-        folder = os.path.join(room, "crates", home_of_tests(crate))
+        folder = os.path.join(room, "crates", home)
         leave_one_test(folder, test)
         words = ["rt", "try", "--test", "--seconds", SECONDS]
         done = subprocess.run(words, cwd=folder, capture_output=True, text=True, errors="replace")

@@ -1,4 +1,4 @@
-//! The tests of `t1_cmd`, which call what is public of it: over the proved crate, so that only they are proved here.
+//! The tests of what `t1_cmd` reads, tells and joins, and of its engines over one font.
 #![tactic(auto)]
 
 #[cfg(test)]

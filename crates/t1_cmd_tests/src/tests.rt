@@ -1,80 +1,31 @@
-mod budgets;
-mod changed;
+//! Reading, the lines of faults, and listings that join; below, the engines over one font and the calls below them.
+
 mod codes;
 mod counts;
-mod diffs;
-mod documents;
 mod drawings;
 mod engines;
-mod failing_merges;
-mod fonts;
 mod growths;
 mod kept;
 mod large;
-mod lists;
 mod mends;
-mod merges;
 mod refusals;
-mod rejoins;
 mod subsets;
 
-use engines::line_of_reason;
 use std::alloc::Global;
 use std::io;
-use std::io::{ErrorKind, Read, Write};
+use std::io::{ErrorKind, Read};
 use std::test::Fail;
 use t1_cmd::{
-    Counted, FilesRefusal, Name, Reason, RunFault, join_listings, read_all, run_join, status,
-    write_fault, write_fault_of,
+    Counted, Name, Reason, RunFault, join_listings, read_all, run_join, status, write_fault,
+    write_fault_of,
 };
+use t1_cmd_shared_tests::feeds::{FINE, Feed, Plan, Sink, word, word_of};
+use t1_cmd_shared_tests::texts::{line_of, of_files_or_line};
 use t1_font::ReadFault;
 use t1_join::{JoinFault, ListFault};
 use t1_subset::{Conflict, ShellPart};
 
-/// How a reader or a writer behaves: the most bytes of a call, and the call that fails.
-#[derive(Clone, Copy)]
-struct Plan {
-    most: usize,
-    fails: u64,
-    kind: ErrorKind,
-}
-
-const FINE: Plan = Plan {
-    most: usize::MAX,
-    fails: 0,
-    kind: ErrorKind::Other,
-};
-
-/// Bytes in memory that are read by a plan.
-#[derive(Drop)]
-struct Feed<'a> {
-    bytes: &'a [u8],
-    plan: Plan,
-    calls: u64,
-}
-
-impl<'a> Feed<'a> {
-    fn new(bytes: &'a [u8], plan: Plan) -> Counted<Feed<'a>> {
-        Counted::new(Feed {
-            bytes,
-            plan,
-            calls: 0,
-        })
-    }
-}
-
-impl Read for Feed<'_> {
-    fn read(&mut self, buf: &mut [u8]) -> io::Result<usize> {
-        self.calls = self.calls.saturating_add(1);
-        if self.calls == self.plan.fails {
-            return Err(io::Error::from(self.plan.kind));
-        }
-        let n = self.plan.most.min(buf.len());
-        self.bytes.read(&mut buf[..n])
-    }
-}
-
-/// A writer that only ever interrupts, and a reader too.
+/// A reader that only ever interrupts.
 struct Busy;
 
 impl Drop for Busy {
@@ -89,67 +40,11 @@ impl Read for Busy {
     }
 }
 
-/// A text in memory that is written by a plan.
-#[derive(Drop)]
-struct Sink {
-    text: Vec<u8>,
-    plan: Plan,
-    calls: u64,
-}
-
-impl Sink {
-    fn new(text: Vec<u8>, plan: Plan) -> Sink {
-        Sink {
-            text,
-            plan,
-            calls: 0,
-        }
-    }
-}
-
-impl Write for Sink {
-    fn write(&mut self, buf: &[u8]) -> io::Result<usize> {
-        self.calls = self.calls.saturating_add(1);
-        if self.calls == self.plan.fails {
-            return Err(io::Error::from(self.plan.kind));
-        }
-        let n = self.plan.most.min(buf.len());
-        self.text.extend_from_slice(&buf[..n])?;
-        Ok(n)
-    }
-
-    fn flush(&mut self) -> io::Result<()> {
-        Ok(())
-    }
-}
-
-/// A fault, as a word.
-fn fault_word(fault: &RunFault) -> &'static str {
-    match fault {
-        RunFault::Refused(Reason::Memory) => "memory",
-        RunFault::Refused(_) => "refused",
-        RunFault::Read => "read",
-        RunFault::Write => "write",
-    }
-}
-
-/// What a run answers, as a word.
-fn word(outcome: &Result<(), RunFault>) -> &'static str {
-    match outcome {
-        Ok(()) => "ok",
-        Err(fault) => fault_word(fault),
-    }
-}
-
 /// How reading at most 100 bytes ends, as a word, and how many bytes were read where it is well.
 fn read_100<R: Read>(alloc: Global, reader: &mut Counted<R>) -> (&'static str, usize) {
     match read_all(alloc, reader, 100) {
         Ok(bytes) => ("ok", bytes.len()),
-        Err(fault) => {
-            let word = fault_word(&fault);
-            drop(fault);
-            (word, 0)
-        }
+        Err(fault) => (word_of(fault), 0),
     }
 }
 
@@ -170,17 +65,22 @@ fn reads(alloc: Global, bytes: &[u8], plan: Plan, want: &str, length: usize) -> 
 // meets read_all TooLong at 101 bytes
 #[test]
 fn turns_of_read_all(rt: HostRuntime) {
-    let bytes = [7u8; 101];
-    let one = Plan { most: 1, ..FINE };
-    let stops = Plan {
+    const BYTES: &[u8] = &[7; 101];
+    const ONE: Plan = Plan { most: 1, ..FINE };
+    const STOPS: Plan = Plan {
         fails: 50,
         kind: ErrorKind::Interrupted,
-        ..one
+        ..ONE
     };
-    assert!(rt; reads(rt.alloc(), &bytes[..100], one, "ok", 100));
-    assert!(rt; reads(rt.alloc(), &bytes[..99], stops, "ok", 99));
-    assert!(rt; reads(rt.alloc(), &bytes, one, "refused", 0));
-    assert!(rt; reads(rt.alloc(), &bytes[..100], stops, "read", 0));
+    const ROWS: &[(usize, Plan, &str, usize)] = &[
+        (100, ONE, "ok", 100),
+        (99, STOPS, "ok", 99),
+        (101, ONE, "refused", 0),
+        (100, STOPS, "read", 0),
+    ];
+    for &(count, plan, want, length) in ROWS {
+        assert!(rt; reads(rt.alloc(), &BYTES[..count.min(101)], plan, want, length));
+    }
 }
 
 #[test]
@@ -207,21 +107,9 @@ const RIGHT: &[u8] = b"G Y 0E\nS 5 ef060b\n";
 
 const BOTH: &[u8] = b"S 5 ef060b\nG X 8b0e\nG Y 0e\n";
 
-/// The line of a fault, or nothing if there is none.
-fn line_of(alloc: Global, ended: &Result<(), RunFault>) -> Vec<u8> {
-    let mut line = Vec::new(alloc);
-    if let Err(fault) = ended {
-        drop(write_fault(alloc, fault, &mut Counted::new(&mut line)));
-    }
-    line
-}
-
 /// The text of the join of two texts, or else the line of its refusal.
 fn joined_or_line(alloc: Global, left: &[u8], right: &[u8]) -> Vec<u8> {
-    match join_listings(alloc, left, right) {
-        Ok(text) => text,
-        Err(FilesRefusal { reason, .. }) => line_of_reason(alloc, reason),
-    }
+    of_files_or_line(alloc, join_listings(alloc, left, right))
 }
 
 /// Whether of two texts in memory this is written, and this is the line of the refusal; and the call over texts answers
@@ -241,9 +129,12 @@ fn is_joined(alloc: Global, left: &[u8], right: &[u8], text: &[u8], line: &[u8])
         &mut Counted::new(right),
         &mut Counted::new(&mut out),
     );
-    let told = line_of(alloc, &ended);
-    drop(ended);
-    out.as_slice() == text && told.as_slice() == line
+    match ended {
+        Ok(()) => line.is_empty() && out.as_slice() == text,
+        Err(fault) => {
+            out.is_empty() && text.is_empty() && line_of(alloc, fault).as_slice() == line
+        }
+    }
 }
 
 /// Two listings, and what is written of them or the line of their refusal.
@@ -300,11 +191,18 @@ const PLACES: &[(&[u8], &[u8], Option<usize>)] = &[
     (b"S 5 0b\n", b"S 5 0c\n", None),
 ];
 
+/// The place of the text for which a join is refused, if it is refused.
+fn refused_place(alloc: Global, left: &[u8], right: &[u8]) -> Option<Option<usize>> {
+    match join_listings(alloc, left, right) {
+        Ok(_) => None,
+        Err(refusal) => Some(refusal.place),
+    }
+}
+
 #[test]
 fn places_of_refused_listings(rt: HostRuntime) {
     for &(left, right, place) in PLACES {
-        let refusal = join_listings(rt.alloc(), left, right).err();
-        assert!(rt; refusal.is_some_and(|refusal| refusal.place == place));
+        assert!(rt; refused_place(rt.alloc(), left, right) == Some(place));
     }
 }
 
@@ -324,9 +222,7 @@ fn joined_from(alloc: Global, first: Plan, second: Plan) -> Joined {
     let mut left = Feed::new(LEFT, first);
     let mut right = Feed::new(RIGHT, second);
     let mut out = Counted::new(Sink::new(Vec::new(alloc), FINE));
-    let ended = run_join(alloc, &mut left, &mut right, &mut out);
-    let word = word(&ended);
-    drop(ended);
+    let word = word(run_join(alloc, &mut left, &mut right, &mut out));
     let writes = out.calls();
     Joined {
         word,
@@ -368,8 +264,7 @@ fn joined_into(alloc: Global, plan: Plan) -> (&'static str, u64, bool, bool) {
         &mut Feed::new(RIGHT, FINE),
         &mut out,
     );
-    let word = word(&ended);
-    drop(ended);
+    let word = word(ended);
     let failed = out.failed();
     let text = out.into_inner().text;
     (
@@ -413,21 +308,17 @@ fn each_write_fails(rt: HostRuntime) {
 /// Whether a fault is told by this line and has this status.
 fn is_told(alloc: Global, fault: &RunFault, want: &str, code: u8) -> bool {
     let mut line = Vec::new(alloc);
-    let ended = write_fault(alloc, fault, &mut Counted::new(&mut line));
-    let is_ok = ended.is_ok();
-    drop(ended);
-    is_ok && line.as_slice() == want.as_bytes() && status(fault) == code
+    let word = word(write_fault(alloc, fault, &mut Counted::new(&mut line)));
+    word == "ok" && line.as_slice() == want.as_bytes() && status(fault) == code
 }
 
 /// Whether a fault is told by this line behind a path, or else to a writer that takes nothing by one call.
 fn is_told_of(alloc: Global, path: &[u8], fault: &RunFault, want: &[u8]) -> bool {
     let mut line = Vec::new(alloc);
     let mut full = Counted::new(Sink::new(Vec::new(alloc), Plan { most: 0, ..FINE }));
-    let is_ok = write_fault_of(alloc, path, fault, &mut Counted::new(&mut line)).is_ok();
-    let in_vain = write_fault_of(alloc, path, fault, &mut full);
-    let word = word(&in_vain);
-    drop(in_vain);
-    is_ok && line.as_slice() == want && word == "write" && full.calls() == 1
+    let fine = word(write_fault_of(alloc, path, fault, &mut Counted::new(&mut line)));
+    let in_vain = word(write_fault_of(alloc, path, fault, &mut full));
+    fine == "ok" && line.as_slice() == want && in_vain == "write" && full.calls() == 1
 }
 
 // meets write_fault_of Ok
@@ -458,21 +349,32 @@ fn is_refused(alloc: Global, reason: Reason, want: &str) -> bool {
 fn told_in_vain(alloc: Global) -> (&'static str, u64) {
     let plan = Plan { most: 0, ..FINE };
     let mut full = Counted::new(Sink::new(Vec::new(alloc), plan));
-    let ended = write_fault(alloc, &RunFault::Read, &mut full);
-    let word = word(&ended);
-    drop(ended);
+    let word = word(write_fault(alloc, &RunFault::Read, &mut full));
     (word, full.calls())
+}
+
+/// Which fault is told wrongly, if one is.
+fn what_is_told_wrongly(alloc: Global) -> &'static str {
+    if !is_told(alloc, &RunFault::Read, "failed: read\n", 3) {
+        "a failed read"
+    } else if !is_told(alloc, &RunFault::Write, "failed: write\n", 3) {
+        "a failed write"
+    } else if !is_refused(alloc, Reason::TooLong, "refused: file too long\n") {
+        "a file that is too long"
+    } else if !is_refused(alloc, Reason::Memory, "refused: out of memory\n") {
+        "want of memory"
+    } else if told_in_vain(alloc) != ("write", 1) {
+        "a writer that takes nothing"
+    } else {
+        ""
+    }
 }
 
 // meets write_fault Ok
 #[test]
 fn lines_of_faults(rt: HostRuntime) {
-    let alloc = rt.alloc();
-    assert!(rt; is_told(alloc, &RunFault::Read, "failed: read\n", 3));
-    assert!(rt; is_told(alloc, &RunFault::Write, "failed: write\n", 3));
-    assert!(rt; is_refused(alloc, Reason::TooLong, "refused: file too long\n"));
-    assert!(rt; is_refused(alloc, Reason::Memory, "refused: out of memory\n"));
-    assert!(rt; told_in_vain(alloc) == ("write", 1));
+    let wrong = what_is_told_wrongly(rt.alloc());
+    assert!(rt; wrong.is_empty(), "{wrong}");
 }
 
 #[test]

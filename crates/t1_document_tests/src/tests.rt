@@ -11,19 +11,11 @@ mod rewriting;
 
 use std::alloc::{AllocError, Global};
 use t1_document::{Document, Kind};
+use t1_font_shared_tests::joined;
 use t1_tiny::PFA;
 
 /// How many bytes the first line of the font Tiny has, without its end.
 const LINE: usize = 29;
-
-/// Texts, one behind the other.
-fn joined(alloc: Global, parts: &[&[u8]]) -> Result<Vec<u8>, AllocError> {
-    let mut text = Vec::new(alloc);
-    for part in parts {
-        text.extend_from_slice(part)?;
-    }
-    Ok(text)
-}
 
 /// The font text of Tiny with another first line.
 fn tiny(alloc: Global, line: &[u8]) -> Result<Vec<u8>, AllocError> {

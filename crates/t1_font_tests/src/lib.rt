@@ -1,4 +1,4 @@
-//! The tests of `t1_font`, which call what is public of it: over the proved crate, so that only they are proved here.
+//! The tests of what `t1_font` reads and writes: files of fonts, and what each fault of them is.
 #![tactic(auto)]
 
 #[cfg(test)]

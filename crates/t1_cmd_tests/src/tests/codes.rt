@@ -1,9 +1,8 @@
 //! Subsets by codes of the font's Encoding, and lists of codes.
-use super::changed::tiny_encoded;
-use super::engines::{Engine, answer, answers};
 use std::alloc::{AllocError, Global};
-use std::test::Fail;
 use t1_cmd::read_codes;
+use t1_cmd_shared_tests::changed::tiny_encoded;
+use t1_cmd_shared_tests::engines::{Engine, answer, answers};
 use t1_font::Form;
 use t1_tiny::{PFA, PFB};
 
@@ -32,13 +31,9 @@ fn is_same(alloc: Global, names: &[&[u8]], codes: &[u8], all: &[&[u8]], form: Fo
 #[test]
 fn codes_stand_for_names(rt: HostRuntime) {
     for &(names, codes, all) in SAME {
-        for form in [Form::Pfa, Form::Pfb] {
-            assert!(rt;
-                is_same(rt.alloc(), names, codes, all, form),
-                "{}",
-                codes.len()
-            );
-        }
+        let same = is_same(rt.alloc(), names, codes, all, Form::Pfa)
+            && is_same(rt.alloc(), names, codes, all, Form::Pfb);
+        assert!(rt; same, "{}", codes.len());
     }
 }
 
@@ -103,18 +98,23 @@ const ENCODED: &[(&[u8], &[u8], &[u8])] = &[
     ),
 ];
 
-#[test]
-fn codes_of_other_encodings(rt: HostRuntime) -> Result<(), Fail> {
-    for &(encoding, codes, want) in ENCODED {
-        let file = tiny_encoded(rt.alloc(), encoding)?;
-        let got = answer(
-            rt.alloc(),
+/// Whether what is answered of Tiny with this Encoding begins so.
+fn begins(alloc: Global, encoding: &[u8], codes: &[u8], want: &[u8]) -> bool {
+    match tiny_encoded(alloc, encoding) {
+        Ok(file) => answer(
+            alloc,
             Engine::Codes(&[], codes, Form::Pfa),
             file.as_slice(),
-        );
-        assert!(rt; got.as_slice().starts_with(want), "{}", want.len());
+        ).starts_with(want),
+        Err(_) => false,
     }
-    Ok(())
+}
+
+#[test]
+fn codes_of_other_encodings(rt: HostRuntime) {
+    for &(encoding, codes, want) in ENCODED {
+        assert!(rt; begins(rt.alloc(), encoding, codes, want), "{}", want.len());
+    }
 }
 
 /// So many times a text.
@@ -139,10 +139,14 @@ fn count(alloc: Global, times: usize, end: &[u8]) -> Result<Option<usize>, Alloc
 // meets read_codes Some at 1, 65536 codes
 // meets read_codes None at 1, 65535 codes
 #[test]
-fn long_lists_of_codes(rt: HostRuntime) -> Result<(), Fail> {
-    assert!(rt; count(rt.alloc(), 0, b"0-255")? == Some(256));
-    assert!(rt; count(rt.alloc(), 65_535, b"65")? == Some(65_536));
-    assert!(rt; count(rt.alloc(), 0, b"65-")?.is_none());
-    assert!(rt; count(rt.alloc(), 65_535, b"")?.is_none());
-    Ok(())
+fn long_lists_of_codes(rt: HostRuntime) {
+    const ROWS: &[(usize, &[u8], Option<usize>)] = &[
+        (0, b"0-255", Some(256)),
+        (65_535, b"65", Some(65_536)),
+        (0, b"65-", None),
+        (65_535, b"", None),
+    ];
+    for &(times, end, want) in ROWS {
+        assert!(rt; count(rt.alloc(), times, end) == Ok(want));
+    }
 }

@@ -1,9 +1,9 @@
 //! What counted readers and writers hand on, by exact bytes, and flushes.
-use super::{FINE, Plan, Sink};
 use std::io;
 use std::io::{Read, Write};
 use std::test::Fail;
 use t1_cmd::Counted;
+use t1_cmd_shared_tests::feeds::{FINE, Plan, Sink};
 
 /// Whether a read gives this many bytes, and the buffer then has these.
 fn reads(reader: &mut Counted<&[u8]>, buffer: &mut [u8], count: usize, bytes: &[u8]) -> bool {

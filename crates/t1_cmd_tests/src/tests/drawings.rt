@@ -1,9 +1,9 @@
 //! Drawings of glyphs of the font Tiny and of changed ones.
-use super::changed::{tiny_and, without_acute};
-use super::engines::{Engine, answer, answers};
-use super::subsets::subset;
 use std::alloc::{AllocError, Global};
-use t1_font::{Font, Source, read};
+use t1_cmd_shared_tests::changed::{tiny_and, without_acute};
+use t1_cmd_shared_tests::engines::{Engine, answers, of_tiny, subset};
+use t1_font::Font;
+use t1_font_shared_tests::of_font;
 use t1_tiny::PFA;
 
 // meets run_show Ok at 11 glyphs
@@ -194,7 +194,7 @@ const NAMES: &[&str] = &[
 
 /// Whether the glyph of a name draws in a file as it does in Tiny.
 fn is_as_in_tiny(alloc: Global, file: &[u8], name: &[u8]) -> bool {
-    let want = answer(alloc, Engine::Show(name), PFA);
+    let want = of_tiny(alloc, Engine::Show(name));
     answers(alloc, Engine::Show(name), file, want.as_slice())
 }
 
@@ -210,27 +210,12 @@ fn count_drawn(alloc: Global, font: &Font<'_>, file: &[u8]) -> usize {
     count
 }
 
-/// The same of a source's font.
-fn lent_drawn(alloc: Global, source: &Source, file: &[u8]) -> usize {
-    match source.font(alloc) {
-        Ok(font) => {
-            let count = count_drawn(alloc, &font, file);
-            drop(font);
-            count
-        }
-        Err(_) => 0,
-    }
-}
-
 /// The same of the file of Tiny's subset by these names.
 fn drawn_as_in_tiny(alloc: Global, names: &[&[u8]]) -> usize {
     let file = subset(alloc, PFA, names);
-    match read(alloc, file.as_slice()) {
-        Ok(source) => {
-            let count = lent_drawn(alloc, &source, file.as_slice());
-            drop(source);
-            count
-        }
+    let file = file.as_slice();
+    match of_font(alloc, file, |font| Ok(count_drawn(alloc, font, file))) {
+        Ok(count) => count,
         Err(_) => 0,
     }
 }

@@ -1,150 +1,14 @@
 //! The engines over one font: what they write of the font Tiny and of changed ones, and how they end.
-use super::changed::tiny_encoded;
-use super::{FINE, Feed, Plan, Sink, line_of, word};
 use std::alloc::Global;
-use std::io::{ErrorKind, Read, Write};
-use std::test::Fail;
-use t1_cmd::{
-    Counted, Reason, RunFault, check_file, convert_file, list_file, list_file_full, list_mends,
-    mend_file, run_check, run_check_of, run_convert, run_list, run_list_full, run_mend, run_show,
-    run_subset, run_subset_with_codes, show_file, subset_file, subset_file_with_codes,
+use std::io::ErrorKind;
+use t1_cmd::Counted;
+use t1_cmd_shared_tests::changed::tiny_encoded;
+use t1_cmd_shared_tests::engines::{
+    ENGINES, Engine, TINY_IN_FULL, TINY_LISTED, answer, answers, of_tiny, run,
 };
+use t1_cmd_shared_tests::feeds::{FINE, Feed, Plan, Sink, word};
 use t1_font::Form;
 use t1_tiny::{PFA, PFB};
-
-/// An engine over one font.
-#[derive(Clone, Copy)]
-pub enum Engine<'a> {
-    Check,
-    CheckOf(&'a [u8]),
-    List,
-    ListFull,
-    Show(&'a [u8]),
-    Convert(Form),
-    Mend(Form),
-    Subset(&'a [&'a [u8]], Form),
-    Codes(&'a [&'a [u8]], &'a [u8], Form),
-}
-
-/// Runs an engine.
-pub fn run<R: Read, W: Write>(
-    alloc: Global,
-    engine: Engine<'_>,
-    reader: &mut Counted<R>,
-    writer: &mut Counted<W>,
-) -> Result<(), RunFault> {
-    match engine {
-        Engine::Check => run_check(alloc, reader, writer),
-        Engine::CheckOf(path) => run_check_of(alloc, reader, path, writer),
-        Engine::List => run_list(alloc, reader, writer),
-        Engine::ListFull => run_list_full(alloc, reader, writer),
-        Engine::Show(name) => run_show(alloc, reader, name, writer),
-        Engine::Convert(form) => run_convert(alloc, reader, form, writer),
-        Engine::Mend(form) => match run_mend(alloc, reader, form, writer) {
-            Ok(lines) => {
-                drop(lines);
-                Ok(())
-            }
-            Err(fault) => Err(fault),
-        },
-        Engine::Subset(names, form) => run_subset(alloc, reader, names, form, writer),
-        Engine::Codes(names, codes, form) => run_subset_with_codes(
-            alloc, reader, names, codes, form, writer,
-        ),
-    }
-}
-
-/// The line of a file, behind a path.
-fn checked_of(alloc: Global, path: &[u8], file: &[u8]) -> Result<Vec<u8>, Reason> {
-    let line = check_file(alloc, file)?;
-    let mut text = Vec::from_slice(alloc, path)?;
-    text.extend_from_slice(b": ")?;
-    text.extend_from_slice(line.as_slice())?;
-    Ok(text)
-}
-
-/// What the call below an engine makes of a file.
-pub fn made(alloc: Global, engine: Engine<'_>, file: &[u8]) -> Result<Vec<u8>, Reason> {
-    match engine {
-        Engine::Check => check_file(alloc, file),
-        Engine::CheckOf(path) => checked_of(alloc, path, file),
-        Engine::List => list_file(alloc, file),
-        Engine::ListFull => list_file_full(alloc, file),
-        Engine::Show(name) => show_file(alloc, file, name),
-        Engine::Convert(form) => convert_file(alloc, file, form),
-        Engine::Mend(form) => mend_file(alloc, file, form),
-        Engine::Subset(names, form) => subset_file(alloc, file, names, form),
-        Engine::Codes(names, codes, form) => subset_file_with_codes(
-            alloc, file, names, codes, form,
-        ),
-    }
-}
-
-/// The line of a refusal.
-pub fn line_of_reason(alloc: Global, reason: Reason) -> Vec<u8> {
-    let ended = Err(RunFault::Refused(reason));
-    let line = line_of(alloc, &ended);
-    drop(ended);
-    line
-}
-
-/// The same, or the line of its refusal.
-fn made_or_line(alloc: Global, engine: Engine<'_>, file: &[u8]) -> Vec<u8> {
-    match made(alloc, engine, file) {
-        Ok(text) => text,
-        Err(reason) => line_of_reason(alloc, reason),
-    }
-}
-
-/// Whether what is mended of a file is told where this is what the file is mended to, or is refused where this is that line.
-fn is_told(alloc: Global, file: &[u8], mended: &[u8]) -> bool {
-    match list_mends(alloc, file) {
-        Ok(lines) => {
-            drop(lines);
-            !mended.starts_with(b"refused: ")
-        }
-        Err(reason) => line_of_reason(alloc, reason).as_slice() == mended,
-    }
-}
-
-/// What an engine writes of a file, and the call below it makes of it, or the line of the refusal of both; nothing if they
-/// differ.
-pub fn answer(alloc: Global, engine: Engine<'_>, file: &[u8]) -> Vec<u8> {
-    let text = written(alloc, engine, file);
-    if made_or_line(alloc, engine, file).as_slice() != text.as_slice() {
-        return Vec::new(alloc);
-    }
-    if matches!(engine, Engine::Mend(_)) && !is_told(alloc, file, text.as_slice()) {
-        return Vec::new(alloc);
-    }
-    text
-}
-
-/// What an engine writes of bytes in memory, or the line of its fault.
-fn written(alloc: Global, engine: Engine<'_>, input: &[u8]) -> Vec<u8> {
-    let mut out = Vec::new(alloc);
-    let ended = run(
-        alloc,
-        engine,
-        &mut Counted::new(input),
-        &mut Counted::new(&mut out),
-    );
-    let is_ok = ended.is_ok();
-    let line = line_of(alloc, &ended);
-    drop(ended);
-    if is_ok {
-        return out;
-    }
-    if !out.is_empty() {
-        return Vec::new(alloc);
-    }
-    line
-}
-
-/// Whether an engine writes this of bytes in memory, or it is the line of its fault.
-pub fn answers(alloc: Global, engine: Engine<'_>, input: &[u8], want: &[u8]) -> bool {
-    answer(alloc, engine, input).as_slice() == want
-}
 
 // meets run_check_of Ok at 11 glyphs
 #[test]
@@ -200,32 +64,6 @@ fn tiny_in_both_forms(rt: HostRuntime) {
     }
 }
 
-pub const TINY_LISTED: &[u8] = b"code 65 X
-code 66 Y
-code 194 H
-subr 0 11
-subr 1 5
-subr 2 5
-subr 3 1
-subr 4 8
-subr 5 3
-subr 6 3
-subr 7 4
-subr 8 0
-subr 9 3
-glyph .notdef 5
-glyph A 10
-glyph Aacute 14
-glyph B 14
-glyph F 46
-glyph H 11
-glyph L 7
-glyph N 14
-glyph X 15
-glyph Y 12
-glyph acute 10
-";
-
 // meets run_list Ok at 11 glyphs
 // like run_list: list_file
 #[test]
@@ -233,25 +71,8 @@ fn tiny_is_listed(rt: HostRuntime) {
     assert!(rt; answers(rt.alloc(), Engine::List, PFB, TINY_LISTED));
 }
 
-/// What is listed of Tiny in full, behind the same lines.
-pub const TINY_IN_FULL: &[u8] = b"name Tiny
-matrix 0.001 0 0 0.001 0 0
-box 0 0 500 700
-width .notdef 250 0
-width A 500 0
-width Aacute 500 0
-width B 500 0
-width F 500 0
-width H 500 0
-width L fault Nesting
-width N fault NestedSeac
-width X 300 0
-width Y 500 0
-width acute 300 0
-";
-
 /// Whether a text is one and then another.
-pub fn is_both(text: &[u8], one: &[u8], other: &[u8]) -> bool {
+fn is_both(text: &[u8], one: &[u8], other: &[u8]) -> bool {
     text.len() == one.len().saturating_add(other.len())
         && text.starts_with(one)
         && text.ends_with(other)
@@ -294,14 +115,19 @@ const ENCODINGS: &[(&[u8], &[u8], &str)] = &[
     ),
 ];
 
-#[test]
-fn encodings_are_listed(rt: HostRuntime) -> Result<(), Fail> {
-    for &(encoding, want, what) in ENCODINGS {
-        let file = tiny_encoded(rt.alloc(), encoding)?;
-        let got = answer(rt.alloc(), Engine::List, file.as_slice());
-        assert!(rt; got.as_slice().starts_with(want), "{what}");
+/// Whether the list of Tiny with this Encoding begins so.
+fn begins(alloc: Global, encoding: &[u8], want: &[u8]) -> bool {
+    match tiny_encoded(alloc, encoding) {
+        Ok(file) => answer(alloc, Engine::List, file.as_slice()).starts_with(want),
+        Err(_) => false,
     }
-    Ok(())
+}
+
+#[test]
+fn encodings_are_listed(rt: HostRuntime) {
+    for &(encoding, want, what) in ENCODINGS {
+        assert!(rt; begins(rt.alloc(), encoding, want), "{what}");
+    }
 }
 
 /// How an engine ends over a reader of a plan, as a word, how many calls of that reader failed, and how many calls of the
@@ -309,9 +135,7 @@ fn encodings_are_listed(rt: HostRuntime) -> Result<(), Fail> {
 fn read_by(alloc: Global, engine: Engine<'_>, plan: Plan) -> (&'static str, u64, u64) {
     let mut reader = Feed::new(PFA, plan);
     let mut out = Counted::new(Sink::new(Vec::new(alloc), FINE));
-    let ended = run(alloc, engine, &mut reader, &mut out);
-    let word = word(&ended);
-    drop(ended);
+    let word = word(run(alloc, engine, &mut reader, &mut out));
     (word, reader.failed(), out.calls())
 }
 
@@ -339,21 +163,6 @@ fn each_read_fails(rt: HostRuntime) {
     }
 }
 
-pub const ENGINES: &[Engine] = &[
-    Engine::Check,
-    Engine::CheckOf(b"tiny.pfa"),
-    Engine::List,
-    Engine::ListFull,
-    Engine::Show(b"Aacute"),
-    Engine::Convert(Form::Pfa),
-    Engine::Convert(Form::Pfb),
-    Engine::Mend(Form::Pfa),
-    Engine::Mend(Form::Pfb),
-    Engine::Subset(&[b"X"], Form::Pfa),
-    Engine::Subset(&[b"X"], Form::Pfb),
-    Engine::Codes(&[b"X"], b"B", Form::Pfa),
-];
-
 /// How an engine ends over a writer of a plan, as a word, how many calls of that writer failed, and whether a prefix of the
 /// text is out.
 fn written_by(
@@ -363,9 +172,7 @@ fn written_by(
     whole: &[u8],
 ) -> (&'static str, u64, bool) {
     let mut out = Counted::new(Sink::new(Vec::new(alloc), plan));
-    let ended = run(alloc, engine, &mut Feed::new(PFA, FINE), &mut out);
-    let word = word(&ended);
-    drop(ended);
+    let word = word(run(alloc, engine, &mut Feed::new(PFA, FINE), &mut out));
     let failed = out.failed();
     let text = out.into_inner().text;
     (word, failed, whole.starts_with(text.as_slice()))
@@ -419,7 +226,7 @@ fn writes_by_bytes(alloc: Global, engine: Engine<'_>, whole: &[u8]) -> bool {
 
 /// Whether an engine ends as it must over each of these writers.
 fn writes_or_stops(alloc: Global, engine: Engine<'_>) -> bool {
-    let whole = answer(alloc, engine, PFA);
+    let whole = of_tiny(alloc, engine);
     writes_by_bytes(alloc, engine, whole.as_slice())
         && stops(alloc, engine, NOTHING, whole.as_slice())
         && stops(alloc, engine, INTERRUPTED, whole.as_slice())

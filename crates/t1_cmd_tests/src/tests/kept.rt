@@ -1,109 +1,13 @@
-//! Answers that only come in odd cases, or are long, with ample memory: names that keep their fonts, places deep inside, many codes
-//! and conflicts, long paths and documents.
-use super::changed::{tiny_and, tiny_encoded};
-use super::diffs::differs;
-use super::documents::{
-    BEGIN, document, joined, levelled, other, part, pooled, pooled_as, tagged, whole,
-};
-use super::engines::{Engine, answer, answers};
+//! Answers that only come in odd cases, or are long, with ample memory: many codes and conflicts, and long paths.
 use std::alloc::{AllocError, Global};
 use std::test::Fail;
-use t1_cmd::{extract_file, list_fonts};
+use t1_bytes::texts::find_from;
+use t1_cmd_shared_tests::changed::{tiny_and, tiny_encoded};
+use t1_cmd_shared_tests::diffs::differs;
+use t1_cmd_shared_tests::engines::{Engine, answer, answers};
+use t1_cmd_shared_tests::texts::joined;
 use t1_font::Form;
 use t1_tiny::{PFA, PFB};
-
-// meets run_pool Ok at 2 documents
-// meets run_level Ok at 2 documents
-#[test]
-fn a_joined_font_that_fits_no_place(rt: HostRuntime) -> Result<(), Fail> {
-    const BARRED: &[u8] = b"kept Tiny: the joined font does not fit a place\n";
-    let alloc = rt.alloc();
-    let cut = part(alloc);
-    let a = document(
-        alloc,
-        joined(alloc, &[b"%!\n %%EndFont\n", cut.as_slice()])?.as_slice(),
-    )?;
-    let b = document(
-        alloc,
-        joined(alloc, &[b"%!\n %%EndFont\n", whole()])?.as_slice(),
-    )?;
-    let (a, b) = (a.as_slice(), b.as_slice());
-    let want = joined(alloc, &[a, b"\n", b, BARRED])?;
-    assert!(rt; pooled(alloc, &[a, b])?.as_slice() == want.as_slice());
-    let want = joined(alloc, &[b"|", a, b"|", b, BARRED])?;
-    assert!(rt; levelled(alloc, &[a, b])?.as_slice() == want.as_slice());
-    Ok(())
-}
-
-/// What a call answers, or nothing where it refuses.
-fn taken<E: Drop>(answer: Result<Vec<u8>, E>) -> Option<Vec<u8>> {
-    match answer {
-        Ok(text) => Some(text),
-        Err(refusal) => {
-            drop(refusal);
-            None
-        }
-    }
-}
-
-// meets run_fonts Ok at 1 documents
-// like run_fonts: list_fonts
-#[test]
-fn a_place_two_documents_deep(rt: HostRuntime) -> Result<(), Fail> {
-    let alloc = rt.alloc();
-    let deep = joined(
-        alloc,
-        &[
-            b"%%BeginDocument: a\n%%BeginDocument: b\n",
-            BEGIN,
-            PFA,
-            b"%%EndFont\n%%EndDocument\n%%EndDocument\n",
-        ],
-    )?;
-    let listed = taken(list_fonts(alloc, &[b"a.ps"], &[deep.as_slice()]));
-    let want = b"a.ps: 61 Tiny 11 2 joined\n1 places, 1 names, 0 kept\n";
-    assert!(rt; listed.is_some_and(|text| text.as_slice() == want.as_slice()));
-    let font = taken(extract_file(alloc, b"Tiny", &[deep.as_slice()]));
-    assert!(rt; font.is_some_and(|text| text.as_slice() == PFA.as_slice()));
-    Ok(())
-}
-
-// meets run_pool Ok at 4 documents
-#[test]
-fn a_name_and_a_family_both_kept(rt: HostRuntime) -> Result<(), Fail> {
-    const BOTH: &[u8] =
-        b"kept GHIJKL+Tiny: shells differ in head\nkept ABCDEF+Tiny: shells differ in head\n";
-    let alloc = rt.alloc();
-    let cut = part(alloc);
-    let other = other(alloc)?;
-    let g = document(alloc, tagged(alloc, whole(), b"GHIJKL+")?.as_slice())?;
-    let o = document(
-        alloc,
-        tagged(alloc, other.as_slice(), b"GHIJKL+")?.as_slice(),
-    )?;
-    let a = document(alloc, tagged(alloc, cut.as_slice(), b"ABCDEF+")?.as_slice())?;
-    let q = document(
-        alloc,
-        tagged(alloc, other.as_slice(), b"MNOPQR+")?.as_slice(),
-    )?;
-    let (g, o, a, q) = (g.as_slice(), o.as_slice(), a.as_slice(), q.as_slice());
-    let want = joined(alloc, &[g, b"\n", o, b"\n", a, b"\n", q, BOTH])?;
-    assert!(rt; pooled_as(alloc, true, &[g, o, a, q])?.as_slice() == want.as_slice());
-    Ok(())
-}
-
-/// How many bytes stand behind the last place of a long document.
-const LONG: usize = 2_200_000;
-
-// meets run_pool Ok at 2200000 bytes
-#[test]
-fn a_long_document(rt: HostRuntime) -> Result<(), Fail> {
-    let alloc = rt.alloc();
-    let mut text = document(alloc, whole())?;
-    text.resize(LONG, b'x')?;
-    assert!(rt; pooled(alloc, &[text.as_slice()])?.as_slice() == text.as_slice());
-    Ok(())
-}
 
 // meets run_subset_with_codes Ok at 20 codes
 // like run_subset_with_codes: subset_file_with_codes
@@ -115,15 +19,21 @@ fn twenty_codes(rt: HostRuntime) {
     assert!(rt; answers(rt.alloc(), codes, PFA, want.as_slice()));
 }
 
+/// Lines of the codes from 10 to 89: what stands before the digits of each, and what after them.
+fn lines_of_codes(alloc: Global, before: &[u8], after: &[u8]) -> Result<Vec<u8>, AllocError> {
+    let mut lines = Vec::new(alloc);
+    for code in 10..90u32 {
+        let code = code.to_string(alloc)?;
+        let line = joined(alloc, &[before, code.as_bytes(), after])?;
+        lines.extend_from_slice(line.as_slice())?;
+    }
+    Ok(lines)
+}
+
 /// Tiny whose codes from 10 to 89 have this name.
 fn named(alloc: Global, name: &[u8]) -> Result<Vec<u8>, AllocError> {
-    let mut encoding = Vec::from_slice(alloc, b"/Encoding 256 array\n")?;
-    for code in 10..90u32 {
-        encoding.extend_from_slice(b"dup ")?;
-        encoding.extend_from_slice(code.to_string(alloc)?.as_bytes())?;
-        encoding.extend_from_slice(name)?;
-    }
-    encoding.extend_from_slice(b"def")?;
+    let codes = lines_of_codes(alloc, b"dup ", name)?;
+    let encoding = joined(alloc, &[b"/Encoding 256 array\n", codes.as_slice(), b"def"])?;
     tiny_encoded(alloc, encoding.as_slice())
 }
 
@@ -134,12 +44,7 @@ fn eighty_conflicts(rt: HostRuntime) -> Result<(), Fail> {
     let alloc = rt.alloc();
     let x = named(alloc, b" /X put\n")?;
     let y = named(alloc, b" /Y put\n")?;
-    let mut want = Vec::new(alloc);
-    for code in 10..90u32 {
-        want.extend_from_slice(b"code ")?;
-        want.extend_from_slice(code.to_string(alloc)?.as_bytes())?;
-        want.extend_from_slice(b" differs\n")?;
-    }
+    let want = lines_of_codes(alloc, b"code ", b" differs\n")?;
     assert!(rt;
         differs(
             alloc,
@@ -175,7 +80,6 @@ fn a_long_path(rt: HostRuntime) -> Result<(), Fail> {
 fn a_width_to_the_left(rt: HostRuntime) -> Result<(), Fail> {
     let file = tiny_and(rt.alloc(), b"X", b"\x8b\x27\x0d\x0e")?;
     let text = answer(rt.alloc(), Engine::ListFull, file.as_slice());
-    let line = b"\nwidth X -100 0\n".as_slice();
-    assert!(rt; text.as_slice().windows(line.len()).any(|part| part == line));
+    assert!(rt; find_from(text.as_slice(), b"\nwidth X -100 0\n", 0).is_some());
     Ok(())
 }

@@ -1,10 +1,11 @@
 //! Fonts that other programs spell: what they are mended to, and that they rejoin with what is spelled as this program does.
-use super::changed::{tiny_encoded, with_all};
-use super::engines::{Engine, answer, answers};
-use super::lists::{List, listed};
 use std::alloc::{AllocError, Global};
 use std::test::Fail;
 use t1_cmd::{Counted, list_mends, run_mend};
+use t1_cmd_shared_tests::changed::{tiny_encoded, with_all};
+use t1_cmd_shared_tests::engines::{Engine, answer, answers};
+use t1_cmd_shared_tests::lists::{List, lists};
+use t1_cmd_shared_tests::texts::is;
 use t1_font::Form;
 use t1_tiny::{PFA, PFB};
 
@@ -46,58 +47,51 @@ fn is_mended(alloc: Global, file: &[u8]) -> bool {
         && answers(alloc, Engine::Mend(Form::Pfb), file, PFB)
 }
 
-/// What the engine tells of a file's mending.
-fn ran(alloc: Global, file: &[u8]) -> Result<Vec<u8>, AllocError> {
+/// Whether the engine and the call tell these lines of a file's mending.
+fn tells(alloc: Global, file: &[u8], want: &[u8]) -> bool {
     let mut out = Vec::new(alloc);
     let mut reader = Counted::new(file);
-    match run_mend(alloc, &mut reader, Form::Pfa, &mut Counted::new(&mut out)) {
-        Ok(lines) => Ok(lines),
-        Err(fault) => {
-            drop(fault);
-            Err(AllocError)
-        }
-    }
+    let ran = run_mend(alloc, &mut reader, Form::Pfa, &mut Counted::new(&mut out));
+    is(ran, want) && is(list_mends(alloc, file), want)
 }
 
-/// What the call tells of it.
-fn told(alloc: Global, file: &[u8]) -> Result<Vec<u8>, AllocError> {
-    match list_mends(alloc, file) {
-        Ok(lines) => Ok(lines),
-        Err(reason) => {
-            drop(reason);
-            Err(AllocError)
-        }
-    }
+/// Tiny with a comment in its Encoding, and the test.
+fn tested(alloc: Global) -> Result<Vec<u8>, AllocError> {
+    let commented = commented(alloc)?;
+    with_all(alloc, commented.as_slice(), BEGINS, TESTED)
 }
 
-/// Whether both tell these lines.
-fn tells(alloc: Global, file: &[u8], want: &[u8]) -> Result<bool, AllocError> {
-    let ran = ran(alloc, file)?;
-    let told = told(alloc, file)?;
-    Ok(ran.as_slice() == want && told.as_slice() == want)
+/// What is told wrongly of Tiny, or of it with a comment, with a copy, or with a comment and the test, if anything.
+fn what_is_told_wrongly(
+    alloc: Global,
+    commented: &[u8],
+    copied: &[u8],
+    tested: &[u8],
+) -> &'static str {
+    const BOTH: &[u8] = b"comment in Encoding at 387\ntest of FontDirectory taken out at 0\n";
+    if !tells(alloc, PFA, b"") {
+        "Tiny"
+    } else if !tells(alloc, PFB, b"") {
+        "the PFB"
+    } else if !tells(alloc, commented, b"comment in Encoding at 223\n") {
+        "a comment"
+    } else if !tells(alloc, copied, b"code copied at 209\n") {
+        "a copy"
+    } else if !tells(alloc, tested, BOTH) {
+        "a comment, and the test"
+    } else {
+        ""
+    }
 }
 
 #[test]
 fn mending_is_told(rt: HostRuntime) -> Result<(), Fail> {
-    const BOTH: &[u8] = b"comment in Encoding at 387\ntest of FontDirectory taken out at 0\n";
     let commented = commented(rt.alloc())?;
     let copied = copied(rt.alloc())?;
-    let tested = with_all(rt.alloc(), commented.as_slice(), BEGINS, TESTED)?;
-    let rows: [(&[u8], &[u8], &str); 5] = [
-        (PFA, b"", "Tiny"),
-        (PFB, b"", "the PFB"),
-        (
-            commented.as_slice(),
-            b"comment in Encoding at 223\n",
-            "a comment",
-        ),
-        (copied.as_slice(), b"code copied at 209\n", "a copy"),
-        (tested.as_slice(), BOTH, "a comment, and the test"),
-    ];
-    for (file, want, what) in rows {
-        let right = tells(rt.alloc(), file, want)?;
-        assert!(rt; right, "{what}");
-    }
+    let tested = tested(rt.alloc())?;
+    let (commented, copied) = (commented.as_slice(), copied.as_slice());
+    let wrong = what_is_told_wrongly(rt.alloc(), commented, copied, tested.as_slice());
+    assert!(rt; wrong.is_empty(), "{wrong}");
     Ok(())
 }
 
@@ -105,10 +99,10 @@ fn mending_is_told(rt: HostRuntime) -> Result<(), Fail> {
 // like run_mend: mend_file, list_mends
 #[test]
 fn tiny_is_mended(rt: HostRuntime) -> Result<(), Fail> {
-    let files = [commented(rt.alloc())?, copied(rt.alloc())?];
-    for file in files.as_slice() {
-        assert!(rt; is_mended(rt.alloc(), file.as_slice()));
-    }
+    let commented = commented(rt.alloc())?;
+    let copied = copied(rt.alloc())?;
+    assert!(rt; is_mended(rt.alloc(), commented.as_slice()));
+    assert!(rt; is_mended(rt.alloc(), copied.as_slice()));
     assert!(rt; answers(rt.alloc(), Engine::Mend(Form::Pfa), PFB, PFA));
     assert!(rt; answers(rt.alloc(), Engine::Mend(Form::Pfb), PFA, PFB));
     Ok(())
@@ -118,9 +112,11 @@ fn tiny_is_mended(rt: HostRuntime) -> Result<(), Fail> {
 #[test]
 fn tests_are_taken_out(rt: HostRuntime) -> Result<(), Fail> {
     let tested = with_all(rt.alloc(), PFA, BEGINS, TESTED)?;
-    let kept = answer(rt.alloc(), Engine::Convert(Form::Pfa), tested.as_slice());
-    assert!(rt; kept.as_slice() == tested.as_slice(), "pfa leaves it");
     let file = tested.as_slice();
+    assert!(rt;
+        answers(rt.alloc(), Engine::Convert(Form::Pfa), file, file),
+        "pfa leaves it"
+    );
     assert!(rt;
         answers(rt.alloc(), Engine::Mend(Form::Pfa), file, PFA),
         "mend takes it out"
@@ -133,7 +129,6 @@ fn mended_fonts_rejoin(rt: HostRuntime) -> Result<(), Fail> {
     let tested = with_all(rt.alloc(), PFA, BEGINS, TESTED)?;
     let commented = commented(rt.alloc())?;
     let files = [tested.as_slice(), commented.as_slice(), PFB];
-    let list = listed(rt.alloc(), List::Rejoin(Form::Pfa), &files);
-    assert!(rt; list.as_slice() == PFA.as_slice());
+    assert!(rt; lists(rt.alloc(), List::Rejoin(Form::Pfa), &files, PFA));
     Ok(())
 }

@@ -1,11 +1,6 @@
 //! Each refusal of a font by each engine, with the line that is printed: of the engines over one font, and of those over
 //! lists, whose third font is the one that is refused.
-use super::changed::file_of;
-use super::diffs::refuses as diff_refuses;
-use super::engines::{ENGINES, answers, made, run};
-use super::lists::{LISTS, listed, made_of, refused_place, run_list_of};
-use super::word;
-use std::alloc::{AllocError, Global};
+use std::alloc::Global;
 use std::io;
 use std::io::Read;
 use std::test::Fail;
@@ -14,6 +9,12 @@ use t1_cmd::{
     level_files, list_fonts, pool_files, read_all, run_diff, run_extract, run_fonts, run_join,
     run_level, run_pool,
 };
+use t1_cmd_shared_tests::changed::file_of;
+use t1_cmd_shared_tests::diffs::refuses as diff_refuses;
+use t1_cmd_shared_tests::engines::{ENGINES, answers, made, run};
+use t1_cmd_shared_tests::feeds::word_of;
+use t1_cmd_shared_tests::lists::{LISTS, all_list, made_of, refused_place, run_list_of};
+use t1_cmd_shared_tests::texts::done;
 use t1_tiny::PFA;
 
 /// Files whose containers or clear texts are refused, and the line.
@@ -80,16 +81,21 @@ fn all_refuse(alloc: Global, file: &[u8], line: &[u8]) -> bool {
 /// Whether each engine over a list refuses a file with this line where it is the third of four, and the call below it tells
 /// its place.
 fn third_is_refused(alloc: Global, file: &[u8], line: &[u8]) -> bool {
+    let files = [PFA, PFA, file, b""];
     for &list in LISTS {
-        let files = [PFA, PFA, file, b""];
-        if listed(alloc, list, &files).as_slice() != line {
-            return false;
-        }
         if refused_place(alloc, list, &files) != Some(2) {
             return false;
         }
     }
-    true
+    all_list(alloc, &files, line)
+}
+
+/// The same of a private text.
+fn all_refuse_private(alloc: Global, private: &[u8], line: &[u8]) -> bool {
+    match file_of(alloc, 0, private) {
+        Ok(file) => all_refuse(alloc, file.as_slice(), line),
+        Err(_) => false,
+    }
 }
 
 // meets run_check BadSegment
@@ -109,19 +115,17 @@ fn third_is_refused(alloc: Global, file: &[u8], line: &[u8]) -> bool {
 // like run_check: check_file, list_file, list_file_full, show_file, convert_file, mend_file, list_mends
 // like run_check: subset_file, subset_file_with_codes, merge_files, rejoin_files, run_diff, diff_files
 #[test]
-fn each_fault_by_each_engine(rt: HostRuntime) -> Result<(), Fail> {
+fn each_fault_by_each_engine(rt: HostRuntime) {
     for &(file, line) in CLEAR {
         assert!(rt; all_refuse(rt.alloc(), file, line), "{}", line.len());
     }
     for &(private, line) in PRIVATE {
-        let file = file_of(rt.alloc(), 0, private)?;
         assert!(rt;
-            all_refuse(rt.alloc(), file.as_slice(), line),
+            all_refuse_private(rt.alloc(), private, line),
             "{}",
             line.len()
         );
     }
-    Ok(())
 }
 
 /// So many zeros.
@@ -139,9 +143,13 @@ impl Read for Zeros {
     }
 }
 
-/// Whether a run is refused for a file over the limit.
-fn is_too_long(ended: &Result<(), RunFault>) -> bool {
-    matches!(ended, Err(RunFault::Refused(Reason::TooLong)))
+/// How a run ends, as a word, where a file over the limit has one of its own.
+fn word(ended: Result<(), RunFault>) -> &'static str {
+    match ended {
+        Ok(()) => "ok",
+        Err(RunFault::Refused(Reason::TooLong)) => "too long",
+        Err(fault) => word_of(fault),
+    }
 }
 
 /// Whether so many zeros are too long for each engine over a list.
@@ -149,10 +157,8 @@ fn are_too_long_in_a_list(alloc: Global, count: usize) -> bool {
     for &list in LISTS {
         let mut out = Vec::new(alloc);
         let mut zeros = [Counted::new(Zeros { left: count })];
-        let ended = run_list_of(alloc, list, &mut zeros, &mut Counted::new(&mut out));
-        let told = is_too_long(&ended);
-        drop(ended);
-        if !told || !out.is_empty() {
+        let word = word(run_list_of(alloc, list, &mut zeros, &mut Counted::new(&mut out)));
+        if word != "too long" || !out.is_empty() {
             return false;
         }
     }
@@ -160,98 +166,75 @@ fn are_too_long_in_a_list(alloc: Global, count: usize) -> bool {
 }
 
 /// Whether so many zeros are too long for each engine over one font.
-fn are_too_long(alloc: Global, count: usize) -> Result<bool, AllocError> {
+fn are_too_long(alloc: Global, count: usize) -> bool {
     for &engine in ENGINES {
         let mut out = Vec::new(alloc);
         let mut zeros = Counted::new(Zeros { left: count });
-        let ended = run(alloc, engine, &mut zeros, &mut Counted::new(&mut out));
-        let told = is_too_long(&ended);
-        drop(ended);
-        if !told || !out.is_empty() {
-            return Ok(false);
-        }
-    }
-    Ok(true)
-}
-
-/// Whether a file is too long for the call below each engine.
-fn is_too_long_a_file(alloc: Global, file: &[u8]) -> bool {
-    for &engine in ENGINES {
-        if !matches!(made(alloc, engine, file), Err(Reason::TooLong)) {
-            return false;
-        }
-    }
-    for &list in LISTS {
-        let refused = made_of(alloc, list, &[file]);
-        if !matches!(
-            refused,
-            Err(FilesRefusal {
-                place: Some(0),
-                reason: Reason::TooLong
-            })
-        ) {
+        let word = word(run(alloc, engine, &mut zeros, &mut Counted::new(&mut out)));
+        if word != "too long" || !out.is_empty() {
             return false;
         }
     }
     true
 }
 
+/// Whether it is told that the file at this place is too long, or that all are.
+fn told_too_long<T: Drop>(answer: Result<T, FilesRefusal>, at: Option<usize>) -> bool {
+    match answer {
+        Ok(value) => {
+            drop(value);
+            false
+        }
+        Err(FilesRefusal { place, reason }) => {
+            let long = matches!(&reason, Reason::TooLong);
+            drop(reason);
+            long && place == at
+        }
+    }
+}
+
+/// Whether a file is too long for the call below each engine over one font.
+fn is_too_long_alone(alloc: Global, file: &[u8]) -> bool {
+    for &engine in ENGINES {
+        if !matches!(made(alloc, engine, file), Err(Reason::TooLong)) {
+            return false;
+        }
+    }
+    true
+}
+
+/// Whether a file is too long for the call below each engine.
+fn is_too_long_a_file(alloc: Global, file: &[u8]) -> bool {
+    for &list in LISTS {
+        if !told_too_long(made_of(alloc, list, &[file]), Some(0)) {
+            return false;
+        }
+    }
+    is_too_long_alone(alloc, file)
+}
+
 /// Whether a text is too long for the call over two texts, at either place.
 fn is_too_long_a_listing(alloc: Global, text: &[u8]) -> bool {
-    let first = join_listings(alloc, text, b"");
-    let second = join_listings(alloc, b"", text);
-    matches!(
-        first,
-        Err(FilesRefusal {
-            place: Some(0),
-            reason: Reason::TooLong
-        })
-    ) && matches!(
-        second,
-        Err(FilesRefusal {
-            place: Some(1),
-            reason: Reason::TooLong
-        })
-    )
+    told_too_long(join_listings(alloc, text, b""), Some(0))
+        && told_too_long(join_listings(alloc, b"", text), Some(1))
 }
 
 /// Whether a file is too long for the call over two fonts, at either place.
 fn is_too_long_to_compare(alloc: Global, file: &[u8]) -> bool {
-    let first = diff_files(alloc, file, b"");
-    let second = diff_files(alloc, PFA, file);
-    matches!(
-        first,
-        Err(FilesRefusal {
-            place: Some(0),
-            reason: Reason::TooLong
-        })
-    ) && matches!(
-        second,
-        Err(FilesRefusal {
-            place: Some(1),
-            reason: Reason::TooLong
-        })
-    )
+    told_too_long(diff_files(alloc, file, b""), Some(0))
+        && told_too_long(diff_files(alloc, PFA, file), Some(1))
 }
 
 /// How Tiny and so many zeros are compared, as a word.
 fn compared_zeros(alloc: Global, count: usize) -> &'static str {
     let mut right = Counted::new(Zeros { left: count });
     let mut out = Vec::new(alloc);
-    let ended = run_diff(
+    word(done(run_diff(
         alloc,
         &mut Counted::new(PFA.as_slice()),
         &mut right,
         &mut Counted::new(&mut out),
-    );
-    let ended = ended.map(|_| ());
-    let word = if is_too_long(&ended) {
-        "too long"
-    } else {
-        word(&ended)
-    };
-    drop(ended);
-    word
+    )))
 }
 
 /// An engine over documents.
@@ -271,33 +254,11 @@ fn zeros_as_documents(alloc: Global, left: usize, right: usize, engine: Engine) 
     ];
     let mut out = Vec::new(alloc);
     let mut writer = Counted::new(&mut out);
-    let ended = match engine {
-        Engine::Pool => run_pool(alloc, false, &mut readers, &mut writer).map(|_| ()),
-        Engine::Level => run_level(alloc, &mut readers).map(|_| ()),
-        Engine::Fonts => run_fonts(alloc, &[], &mut readers, &mut writer),
-        Engine::Extract => run_extract(alloc, b"Tiny", &mut readers, &mut writer),
-    };
-    let word = if is_too_long(&ended) {
-        "too long"
-    } else {
-        word(&ended)
-    };
-    drop(ended);
-    word
-}
-
-/// Whether it is told that the document at this place is too long, or that all are.
-fn told_too_long<T: Drop>(answer: Result<T, FilesRefusal>, at: Option<usize>) -> bool {
-    match answer {
-        Ok(value) => {
-            drop(value);
-            false
-        }
-        Err(FilesRefusal { place, reason }) => {
-            let long = matches!(&reason, Reason::TooLong);
-            drop(reason);
-            long && place == at
-        }
+    match engine {
+        Engine::Pool => word(done(run_pool(alloc, false, &mut readers, &mut writer))),
+        Engine::Level => word(done(run_level(alloc, &mut readers))),
+        Engine::Fonts => word(run_fonts(alloc, &[], &mut readers, &mut writer)),
+        Engine::Extract => word(run_extract(alloc, b"Tiny", &mut readers, &mut writer)),
     }
 }
 
@@ -326,14 +287,45 @@ fn joined_zeros(alloc: Global, left: usize, right: usize) -> &'static str {
     let mut left = Counted::new(Zeros { left });
     let mut right = Counted::new(Zeros { left: right });
     let mut out = Vec::new(alloc);
-    let ended = run_join(alloc, &mut left, &mut right, &mut Counted::new(&mut out));
-    let word = if is_too_long(&ended) {
-        "too long"
+    word(run_join(alloc, &mut left, &mut right, &mut Counted::new(&mut out)))
+}
+
+/// A byte more than a file may have.
+const OVER: usize = 268_435_457;
+
+/// What isn't refused of so many zeros that are read, if anything.
+fn what_reads_zeros(alloc: Global) -> &'static str {
+    // FILE_LIMIT is 268435456.
+    if read_zeros(alloc, FILE_LIMIT) != Some(268_435_456) {
+        "read_all, up to the limit"
+    } else if read_zeros(alloc, OVER).is_some() {
+        "read_all"
+    } else if !are_too_long(alloc, OVER) {
+        "an engine over one font"
+    } else if !are_too_long_in_a_list(alloc, OVER) {
+        "an engine over a list"
+    } else if joined_zeros(alloc, 0, OVER) != "too long" {
+        "run_join, on the right"
+    } else if joined_zeros(alloc, OVER, 0) != "too long" {
+        "run_join, on the left"
+    } else if compared_zeros(alloc, OVER) != "too long" {
+        "run_diff"
     } else {
-        word(&ended)
-    };
-    drop(ended);
-    word
+        ""
+    }
+}
+
+/// What doesn't refuse such a file, if anything.
+fn what_takes_file(alloc: Global, file: &[u8]) -> &'static str {
+    if !is_too_long_a_file(alloc, file) {
+        "a call over fonts"
+    } else if !is_too_long_a_listing(alloc, file) {
+        "join_listings"
+    } else if !is_too_long_to_compare(alloc, file) {
+        "diff_files"
+    } else {
+        ""
+    }
 }
 
 // meets read_all Ok at 268435456 bytes
@@ -346,20 +338,12 @@ fn joined_zeros(alloc: Global, left: usize, right: usize) -> &'static str {
 // like run_check: subset_file, subset_file_with_codes, merge_files, rejoin_files, run_diff, diff_files
 #[test]
 fn files_over_the_limit(rt: HostRuntime) -> Result<(), Fail> {
-    // FILE_LIMIT is 268435456.
-    assert!(rt; read_zeros(rt.alloc(), FILE_LIMIT) == Some(268_435_456));
-    assert!(rt; read_zeros(rt.alloc(), 268_435_457).is_none());
-    assert!(rt; are_too_long(rt.alloc(), 268_435_457)?);
-    assert!(rt; are_too_long_in_a_list(rt.alloc(), 268_435_457));
-    let mut zeros = Counted::new(Zeros { left: 268_435_457 });
-    let file = read_all(rt.alloc(), &mut zeros, 268_435_457)?;
-    assert!(rt; is_too_long_a_file(rt.alloc(), file.as_slice()));
-    assert!(rt; is_too_long_a_listing(rt.alloc(), file.as_slice()));
-    assert!(rt; is_too_long_to_compare(rt.alloc(), file.as_slice()));
-    drop(file);
-    assert!(rt; joined_zeros(rt.alloc(), 0, 268_435_457) == "too long");
-    assert!(rt; joined_zeros(rt.alloc(), 268_435_457, 0) == "too long");
-    assert!(rt; compared_zeros(rt.alloc(), 268_435_457) == "too long");
+    let alloc = rt.alloc();
+    let wrong = what_reads_zeros(alloc);
+    assert!(rt; wrong.is_empty(), "{wrong}");
+    let file = read_all(alloc, &mut Counted::new(Zeros { left: OVER }), OVER)?;
+    let wrong = what_takes_file(alloc, file.as_slice());
+    assert!(rt; wrong.is_empty(), "{wrong}");
     Ok(())
 }
 

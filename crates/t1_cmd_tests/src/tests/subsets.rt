@@ -1,16 +1,12 @@
 //! Subsets of the font Tiny and of changed ones.
-use super::changed::{file_of, tiny_and};
-use super::engines::{Engine, answer, answers};
 use std::alloc::{AllocError, Global};
 use std::test::Fail;
-use t1_font::{Font, Form, Source, read};
+use t1_cmd_shared_tests::changed::{heaviest, tiny_and};
+use t1_cmd_shared_tests::engines::{Engine, answer, answers, subset};
+use t1_font::{Font, Form};
+use t1_font_shared_tests::{joined, of_font};
 use t1_run::Subroutines;
 use t1_tiny::{PFA, PFB};
-
-/// The PFA file of a subset, or the line of its refusal.
-pub fn subset(alloc: Global, input: &[u8], names: &[&[u8]]) -> Vec<u8> {
-    answer(alloc, Engine::Subset(names, Form::Pfa), input)
-}
 
 /// Adds the names of a font's glyphs.
 fn push_names(font: &Font<'_>, text: &mut Vec<u8>) -> Result<(), AllocError> {
@@ -47,33 +43,14 @@ fn kept_by(alloc: Global, font: &Font<'_>) -> Result<Vec<u8>, AllocError> {
     Ok(text)
 }
 
-/// The same of a source's font.
-fn kept(alloc: Global, source: &Source) -> Result<Vec<u8>, AllocError> {
-    let font = source.font(alloc)?;
-    let text = kept_by(alloc, &font);
-    drop(font);
-    text
-}
-
-/// Whether this is what a font keeps.
-fn font_keeps(alloc: Global, source: &Source, want: &[u8]) -> bool {
-    match kept(alloc, source) {
-        Ok(text) => text.as_slice() == want,
-        Err(_) => false,
-    }
-}
-
 /// Whether the subset of a file keeps this.
 fn keeps(alloc: Global, input: &[u8], names: &[&[u8]], want: &[u8]) -> bool {
     let file = subset(alloc, input, names);
-    match read(alloc, file.as_slice()) {
-        Ok(source) => {
-            let is_kept = font_keeps(alloc, &source, want);
-            drop(source);
-            is_kept
-        }
-        Err(_) => false,
-    }
+    of_font(
+        alloc,
+        file.as_slice(),
+        |font| Ok(kept_by(alloc, font)?.as_slice() == want),
+    ) == Ok(true)
 }
 
 /// Names, and what their subset of Tiny keeps.
@@ -238,20 +215,13 @@ fn names_that_are_absent(rt: HostRuntime) {
     }
 }
 
-/// A font of the greatest weight, with a Subr of no bytes.
-pub fn heaviest(alloc: Global) -> Result<Vec<u8>, AllocError> {
-    // The clear tail has 18 bytes and the private texts 13, 1 and 27; a Subr of no bytes weighs 129, and `.notdef` 257.
-    let private =
-        b"/lenIV 0 def /Subrs 9 array dup 5 0 RD  NP ND /CharStrings 1 dict dup begin\n/.notdef 1 RD \x1b ND\nend\nmark currentfile closefile\n";
-    file_of(alloc, 67_108_419, private)
-}
-
 #[test]
 fn the_heaviest_font(rt: HostRuntime) -> Result<(), Fail> {
     let file = heaviest(rt.alloc())?;
     let cut = subset(rt.alloc(), file.as_slice(), &[]);
     let pfb = answer(rt.alloc(), Engine::Convert(Form::Pfb), cut.as_slice());
-    for font in [file.as_slice(), cut.as_slice(), pfb.as_slice()] {
+    let fonts: &[&[u8]] = &[file.as_slice(), cut.as_slice(), pfb.as_slice()];
+    for font in fonts {
         let want = b"ok 1 glyphs, 1 subrs, weight 67108864\n";
         assert!(rt; answers(rt.alloc(), Engine::Check, font, want));
     }
@@ -260,8 +230,8 @@ fn the_heaviest_font(rt: HostRuntime) -> Result<(), Fail> {
 
 #[test]
 fn a_byte_over_the_greatest_weight(rt: HostRuntime) -> Result<(), Fail> {
-    let mut file = Vec::from_slice(rt.alloc(), b" ")?;
-    file.extend_from_slice(heaviest(rt.alloc())?.as_slice())?;
+    let heaviest = heaviest(rt.alloc())?;
+    let file = joined(rt.alloc(), &[b" ", heaviest.as_slice()])?;
     let want = b"refused: over a limit\n";
     assert!(rt; answers(rt.alloc(), Engine::Check, file.as_slice(), want));
     Ok(())

@@ -2,19 +2,18 @@
 //! answers want of memory answers right when it is made again.
 
 use super::rewriting::rewritten;
-use super::{joined, tiny};
+use super::tiny;
 use std::alloc::{AllocError, Global};
-use std::test::Fail;
-use t1_document::{Outcome, Place, join_fonts, members_of, names_of, push_document, read_document};
+use t1_document::{
+    Document, Joins, Outcome, Place, join_fonts, members_of, names_of, push_document, read_document,
+};
 use t1_font::ReadFault;
+use t1_font_shared_tests::{joined, seen, used};
 
 /// Whether the font of a place is read.
 fn is_read(alloc: Global, place: &Place<'_>) -> Result<bool, AllocError> {
-    match place.source(alloc) {
-        Ok(source) => {
-            drop(source);
-            Ok(true)
-        }
+    match seen(place.source(alloc), |_| true) {
+        Ok(read) => Ok(read),
         Err(ReadFault::Memory) => Err(AllocError),
         Err(_) => Ok(false),
     }
@@ -25,48 +24,96 @@ fn is_right(alloc: Global, place: &Place<'_>) -> Result<bool, AllocError> {
     Ok(is_read(alloc, place)? && place.can_stand(alloc, place.text)?)
 }
 
-/// Whether a text has one font text, at this offset.
-fn is_at(alloc: Global, text: &[u8], at: usize) -> Result<bool, AllocError> {
-    let document = read_document(alloc, text)?;
-    let right = match document.places.as_slice() {
-        [place] => place.text_offset(0) == at,
-        _ => false,
-    };
-    drop(document);
-    Ok(right)
+/// Whether a document has one font text, at this offset, for which both calls answer right.
+fn is_at(alloc: Global, document: &Document<'_>, at: usize) -> Result<bool, AllocError> {
+    match document.places.as_slice() {
+        [place] => Ok(place.text_offset(0) == at && is_right(alloc, place)?),
+        _ => Ok(false),
+    }
 }
 
-/// Whether a text has one place, for which both calls answer right.
-fn has_font(alloc: Global, text: &[u8]) -> Result<bool, AllocError> {
-    let document = read_document(alloc, text)?;
-    let right = match document.places.as_slice() {
-        [place] => is_right(alloc, place),
-        _ => Ok(false),
-    };
-    drop(document);
-    right
+/// Whether the places of a document with these joins have one text.
+fn has_one_text(
+    alloc: Global,
+    document: &Document<'_>,
+    joins: &Joins<'_>,
+) -> Result<bool, AllocError> {
+    let same = matches!(joins.get(b"Tiny"), Some(Outcome::Same(_)));
+    seen(
+        document.new_texts(alloc, joins),
+        |texts| same && texts.get(b"Tiny").is_some(),
+    )
+}
+
+/// Whether a document has one name, whose places have one text.
+fn has_one_name(alloc: Global, document: &Document<'_>) -> Result<bool, AllocError> {
+    let places = document.places.as_slice();
+    let one = seen(names_of(alloc, places), |names| names.len() == 1)?;
+    let same = used(
+        join_fonts(alloc, places),
+        |joins| has_one_text(alloc, document, joins),
+    )?;
+    Ok(one && same)
+}
+
+/// Two documents with this text, one behind the other.
+fn twice(alloc: Global, text: &[u8]) -> Result<Vec<u8>, AllocError> {
+    let mut both = Vec::new(alloc);
+    push_document(&mut both, text)?;
+    push_document(&mut both, text)?;
+    Ok(both)
 }
 
 /// Whether two documents with this text have one name, whose places have one text.
 fn joins_right(alloc: Global, text: &[u8]) -> Result<bool, AllocError> {
-    let mut both = Vec::new(alloc);
-    push_document(&mut both, text)?;
-    push_document(&mut both, text)?;
-    let document = read_document(alloc, both.as_slice())?;
-    let names = names_of(alloc, document.places.as_slice())?;
-    let joins = join_fonts(alloc, document.places.as_slice())?;
-    let texts = document.new_texts(alloc, &joins)?;
-    let same = matches!(joins.get(b"Tiny"), Some(Outcome::Same(_)));
-    Ok(names.len() == 1 && same && texts.get(b"Tiny").is_some())
+    let both = twice(alloc, text)?;
+    used(
+        read_document(alloc, both.as_slice()),
+        |document| has_one_name(alloc, document),
+    )
+}
+
+/// Whether a document stays this text, with one font for each family of which these are the members.
+fn stays(
+    alloc: Global,
+    document: &Document<'_>,
+    members: &[Place<'_>],
+    text: &[u8],
+) -> Result<bool, AllocError> {
+    let same = used(join_fonts(alloc, members), |joins| {
+        Ok(document.alias(alloc, joins)?.as_slice() == text)
+    });
+    Ok(members.len() == 1 && same?)
 }
 
 /// Whether a text with one place stays, with one font for each family.
 fn keeps_family(alloc: Global, text: &[u8]) -> Result<bool, AllocError> {
-    let document = read_document(alloc, text)?;
-    let members = members_of(alloc, document.places.as_slice())?;
-    let joins = join_fonts(alloc, members.as_slice())?;
-    let aliased = document.alias(alloc, &joins)?;
-    Ok(members.len() == 1 && aliased.as_slice() == text)
+    used(read_document(alloc, text), |document| {
+        used(members_of(alloc, document.places.as_slice()), |members| {
+            stays(alloc, document, members.as_slice(), text)
+        })
+    })
+}
+
+/// Whether a text is read right, and joins.
+fn is_read_right(alloc: Global, text: &[u8]) -> Result<bool, AllocError> {
+    let read = used(
+        read_document(alloc, text),
+        |document| is_at(alloc, document, 12),
+    )?;
+    Ok(read && joins_right(alloc, text)? && keeps_family(alloc, text)?)
+}
+
+/// Whether a document gets a new text, levelled and pooled.
+fn is_rewritten(
+    alloc: Global,
+    parts: &[&[u8]],
+    new: &[u8],
+    want: &[u8],
+) -> Result<bool, AllocError> {
+    let levelled = rewritten(alloc, parts, new, false)?;
+    let pooled = rewritten(alloc, parts, new, true)?;
+    Ok(levelled.as_slice() == want && pooled.as_slice() == want)
 }
 
 /// Whether each call answers right.
@@ -76,26 +123,19 @@ fn all_answer_right(alloc: Global) -> Result<bool, AllocError> {
     let parts: [&[u8]; 3] = [b"%%BeginFont\n", font.as_slice(), b"\n%%EndFont\n"];
     let text = joined(alloc, &parts)?;
     let want = joined(alloc, &[b"%%BeginFont\n", new.as_slice(), b"\n%%EndFont\n"])?;
-    let levelled = rewritten(alloc, &parts, new.as_slice(), false)?;
-    let pooled = rewritten(alloc, &parts, new.as_slice(), true)?;
     Ok(
-        has_font(alloc, text.as_slice())?
-            && is_at(alloc, text.as_slice(), 12)?
-            && joins_right(alloc, text.as_slice())?
-            && keeps_family(alloc, text.as_slice())?
-            && levelled.as_slice() == want.as_slice()
-            && pooled.as_slice() == want.as_slice(),
+        is_read_right(alloc, text.as_slice())?
+            && is_rewritten(alloc, &parts, new.as_slice(), want.as_slice())?,
     )
 }
 
 // meets Place::source Ok at 1 fonts
 // meets Place::can_stand Ok at 1 texts
 #[test]
-fn growths(rt: HostRuntime) -> Result<(), Fail> {
+fn growths(rt: HostRuntime) {
     let right = match all_answer_right(rt.alloc()) {
-        Err(AllocError) => all_answer_right(rt.alloc())?,
-        answer => answer?,
+        Err(AllocError) => all_answer_right(rt.alloc()),
+        answer => answer,
     };
-    assert!(rt; right);
-    Ok(())
+    assert!(rt; right == Ok(true));
 }

@@ -1,12 +1,12 @@
 //! A name whose places keep their fonts for a lack, and documents of many bytes and of very many places.
 
-use super::joins::{BEGIN, EMPTY_END, END, comes, cut, whole};
-use super::{joined, tiny};
+use super::joins::{BEGIN, EMPTY_END, END, comes, cut, font_text, whole};
+use super::tiny;
 use std::alloc::{AllocError, Global};
 use std::test::Fail;
 use t1_bytes::texts::find_from;
-use t1_bytes::{EEXEC_KEY, EEXEC_LEAD, open, seal, split_eexec};
-use t1_font::{Form, read, write};
+use t1_bytes::{EEXEC_KEY, EEXEC_LEAD, open, split_eexec};
+use t1_font_shared_tests::{file, joined, of_font};
 use t1_tiny::PFA;
 
 /// How many bytes of Tiny are its clear text.
@@ -14,13 +14,13 @@ const CLEAR: usize = 313;
 
 /// A text without what stands from the first of these on up to the second.
 fn without(alloc: Global, text: &[u8], from: &[u8], to: &[u8]) -> Result<Vec<u8>, AllocError> {
-    let Some(start) = find_from(text, from, 0) else {
-        return Err(AllocError);
-    };
-    let Some(end) = find_from(text, to, start) else {
-        return Err(AllocError);
-    };
-    joined(alloc, &[&text[..start], &text[end..]])
+    match find_from(text, from, 0) {
+        Some(start) => match find_from(text, to, start) {
+            Some(end) => joined(alloc, &[&text[..start], &text[end..]]),
+            None => Err(AllocError),
+        },
+        None => Err(AllocError),
+    }
 }
 
 /// The file of Tiny, with a binary cipher, without its Subr 5, which its glyph X executes.
@@ -30,24 +30,13 @@ fn file_without_5(alloc: Global) -> Result<Vec<u8>, AllocError> {
     };
     let private = open(cipher, EEXEC_KEY, EEXEC_LEAD);
     let less = without(alloc, private.as_slice(), b"dup 5 ", b"dup 6 ")?;
-    let Ok(sealed) = seal(alloc, less.as_slice(), EEXEC_KEY, EEXEC_LEAD) else {
-        return Err(AllocError);
-    };
-    let mut file = Vec::from_slice(alloc, &PFA[..CLEAR])?;
-    file.extend_from_slice(sealed.as_slice())?;
-    Ok(file)
+    file(alloc, &PFA[..CLEAR], less.as_slice())
 }
 
 /// The font text of that font.
 fn text_without_5(alloc: Global) -> Result<Vec<u8>, AllocError> {
     let file = file_without_5(alloc)?;
-    let Ok(source) = read(alloc, file.as_slice()) else {
-        return Err(AllocError);
-    };
-    let font = source.font(alloc)?;
-    let mut text = write(alloc, &font, Form::Pfa)?;
-    text.pop();
-    Ok(text)
+    of_font(alloc, file.as_slice(), |font| font_text(alloc, font))
 }
 
 // meets join_fonts Ok at 2 places
@@ -58,7 +47,7 @@ fn a_name_kept_for_a_lack(rt: HostRuntime) -> Result<(), Fail> {
     let whole = whole(alloc)?;
     let parts = [BEGIN, less.as_slice(), END, BEGIN, whole.as_slice(), END];
     let line = b"Tiny glyph X lacks subr 5\n";
-    assert!(rt; comes(alloc, &parts, line, &parts, &parts)?);
+    assert!(rt; comes(alloc, &parts, line, &parts, &parts));
     Ok(())
 }
 
@@ -67,10 +56,9 @@ const LONG: usize = 250_000;
 
 /// A font text with a long first line.
 fn long(alloc: Global, text: &[u8]) -> Result<Vec<u8>, AllocError> {
-    let mut line = Vec::from_slice(alloc, b"%!")?;
-    line.resize(LONG, b'-')?;
-    line.push(b'\n')?;
-    joined(alloc, &[line.as_slice(), text])
+    let mut dashes = Vec::new(alloc);
+    dashes.resize(LONG, b'-')?;
+    joined(alloc, &[b"%!", dashes.as_slice(), b"\n", text])
 }
 
 // meets read_document Ok at 250000 bytes
@@ -94,13 +82,27 @@ fn a_long_document(rt: HostRuntime) -> Result<(), Fail> {
         b"Tiny joined\n",
         &[BEGIN, b, END, BEGIN, b, END, last],
         &[BEGIN, b, END, BEGIN, EMPTY_END, last],
-    )?;
+    );
     assert!(rt; right);
     Ok(())
 }
 
 /// How many places a document of very many has.
 const MANY: usize = 1_000;
+
+/// A first place, and behind it so many times another, both in parts.
+fn repeated<'a>(
+    alloc: Global,
+    first: &[&'a [u8]],
+    other: &[&'a [u8]],
+    times: usize,
+) -> Result<Vec<&'a [u8]>, AllocError> {
+    let mut parts = Vec::from_slice(alloc, first)?;
+    for _ in 0..times {
+        parts.extend_from_slice(other)?;
+    }
+    Ok(parts)
+}
 
 // meets join_fonts Ok at 1000 places
 // meets names_of Ok at 1000 places
@@ -112,23 +114,15 @@ fn very_many_places(rt: HostRuntime) -> Result<(), Fail> {
     let alloc = rt.alloc();
     let font = tiny(alloc, b"%!")?;
     let first = [BEGIN, font.as_slice(), END];
-    let mut parts = Vec::new(alloc);
-    let mut pooled = Vec::new(alloc);
-    for at in 0..MANY {
-        parts.extend_from_slice(&first)?;
-        if at == 0 {
-            pooled.extend_from_slice(&first)?;
-        } else {
-            pooled.extend_from_slice(&[BEGIN, EMPTY_END])?;
-        }
-    }
+    let parts = repeated(alloc, &first, &first, MANY - 1)?;
+    let pooled = repeated(alloc, &first, &[BEGIN, EMPTY_END], MANY - 1)?;
     let right = comes(
         alloc,
         parts.as_slice(),
         b"Tiny same\n",
         parts.as_slice(),
         pooled.as_slice(),
-    )?;
+    );
     assert!(rt; right);
     Ok(())
 }

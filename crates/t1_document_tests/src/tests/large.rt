@@ -1,10 +1,11 @@
 //! Documents of many places and marks.
 
 use super::rewriting::rewritten;
-use super::{joined, tiny};
+use super::tiny;
 use std::alloc::{AllocError, Global};
 use std::test::Fail;
-use t1_document::{Texts, join_fonts, names_of, read_document};
+use t1_document::{Document, Joins, Texts, join_fonts, names_of, read_document};
+use t1_font_shared_tests::{is, joined, seen, used};
 
 /// So many times a text.
 fn repeated(alloc: Global, text: &[u8], times: usize) -> Result<Vec<u8>, AllocError> {
@@ -17,23 +18,23 @@ fn repeated(alloc: Global, text: &[u8], times: usize) -> Result<Vec<u8>, AllocEr
 
 /// How many places a text has.
 fn count(alloc: Global, text: &[u8]) -> Result<usize, AllocError> {
-    let document = read_document(alloc, text)?;
-    let count = document.places.len();
-    drop(document);
-    Ok(count)
+    seen(read_document(alloc, text), |document| document.places.len())
 }
 
-/// The offset of the last font text of a text.
-fn last_offset(alloc: Global, text: &[u8]) -> Result<Option<usize>, AllocError> {
-    let document = read_document(alloc, text)?;
+/// The offset of the last font text of a document.
+fn last_offset_of(document: &Document<'_>) -> Option<usize> {
     let mut last = None;
     let mut at = 0usize;
     for place in document.places.as_slice() {
         last = Some(place.text_offset(at));
         at = place.end_offset(at);
     }
-    drop(document);
-    Ok(last)
+    last
+}
+
+/// The same of a text.
+fn last_offset(alloc: Global, text: &[u8]) -> Result<Option<usize>, AllocError> {
+    seen(read_document(alloc, text), last_offset_of)
 }
 
 /// A name of four bytes for a number below 1,000.
@@ -49,23 +50,22 @@ fn numbered(alloc: Global, number: u32) -> Result<Vec<u8>, AllocError> {
 fn names(alloc: Global, count: u32) -> Result<Vec<Vec<u8>>, AllocError> {
     let mut names = Vec::new(alloc);
     for number in 0..count {
-        match names.push(numbered(alloc, number)?) {
-            Ok(_) => {}
-            Err(_) => return Err(AllocError),
-        }
+        names.push(numbered(alloc, number)?)?;
     }
     Ok(names)
+}
+
+/// A font text of this name, with a first line.
+fn named(alloc: Global, line: &[u8], name: &[u8]) -> Result<Vec<u8>, AllocError> {
+    let head = joined(alloc, &[line, b"\n/FontName /", name, b" def"])?;
+    tiny(alloc, head.as_slice())
 }
 
 /// A font text for each name, with a first line.
 fn fonts(alloc: Global, line: &[u8], names: &[Vec<u8>]) -> Result<Vec<Vec<u8>>, AllocError> {
     let mut fonts = Vec::new(alloc);
     for name in names {
-        let head = joined(alloc, &[line, b"\n/FontName /", name.as_slice(), b" def"])?;
-        match fonts.push(tiny(alloc, head.as_slice())?) {
-            Ok(_) => {}
-            Err(_) => return Err(AllocError),
-        }
+        fonts.push(named(alloc, line, name.as_slice())?)?;
     }
     Ok(fonts)
 }
@@ -74,11 +74,30 @@ fn fonts(alloc: Global, line: &[u8], names: &[Vec<u8>]) -> Result<Vec<Vec<u8>>, 
 fn document_of(alloc: Global, fonts: &[Vec<u8>]) -> Result<Vec<u8>, AllocError> {
     let mut text = Vec::new(alloc);
     for font in fonts {
-        text.extend_from_slice(b"%%BeginResource: font\n")?;
-        text.extend_from_slice(font.as_slice())?;
-        text.extend_from_slice(b"\n%%EndResource\n")?;
+        let place = joined(
+            alloc,
+            &[
+                b"%%BeginResource: font\n",
+                font.as_slice(),
+                b"\n%%EndResource\n",
+            ],
+        )?;
+        text.extend_from_slice(place.as_slice())?;
     }
     Ok(text)
+}
+
+/// A new text for each name.
+fn texts_of<'a>(
+    alloc: Global,
+    names: &'a [Vec<u8>],
+    fonts: &'a [Vec<u8>],
+) -> Result<Texts<'a>, AllocError> {
+    let mut texts = Texts::new(alloc);
+    for (name, font) in names.iter().zip(fonts.iter()) {
+        texts.put(name.as_slice(), font.as_slice())?;
+    }
+    Ok(texts)
 }
 
 /// A document levelled with a new text for each name.
@@ -88,15 +107,12 @@ fn levelled(
     names: &[Vec<u8>],
     fonts: &[Vec<u8>],
 ) -> Result<Vec<u8>, AllocError> {
-    let mut texts = Texts::new(alloc);
-    for (name, font) in names.iter().zip(fonts.iter()) {
-        texts.put(name.as_slice(), font.as_slice())?;
-    }
-    let document = read_document(alloc, text)?;
-    let levelled = document.level(alloc, &texts);
-    drop(document);
-    drop(texts);
-    levelled
+    used(read_document(alloc, text), |document| {
+        used(
+            texts_of(alloc, names, fonts),
+            |texts| document.level(alloc, texts),
+        )
+    })
 }
 
 // meets read_document Ok at 300 places
@@ -116,19 +132,39 @@ fn many_names(rt: HostRuntime) -> Result<(), Fail> {
         before.as_slice(),
         names.as_slice(),
         fonts_after.as_slice(),
-    )?;
-    assert!(rt; levelled.as_slice() == after.as_slice());
+    );
+    assert!(rt; is(levelled, after.as_slice()));
     Ok(())
 }
 
-/// How many names a text has, and the text pooled with the fonts that they come to.
-fn pooled(alloc: Global, text: &[u8]) -> Result<(usize, Vec<u8>), AllocError> {
-    let document = read_document(alloc, text)?;
-    let count = names_of(alloc, document.places.as_slice())?.len();
-    let joins = join_fonts(alloc, document.places.as_slice())?;
-    let texts = document.new_texts(alloc, &joins)?;
-    let pooled = document.pool(alloc, &texts)?;
-    Ok((count, pooled))
+/// How long a document is when it is pooled with the fonts that its names come to.
+fn pooled_length(
+    alloc: Global,
+    document: &Document<'_>,
+    joins: &Joins<'_>,
+) -> Result<usize, AllocError> {
+    used(document.new_texts(alloc, joins), |texts| {
+        seen(document.pool(alloc, texts), |pooled| pooled.len())
+    })
+}
+
+/// How many names a document has, and how long it is when it is pooled so.
+fn pooled_of(alloc: Global, document: &Document<'_>) -> Result<(usize, usize), AllocError> {
+    let places = document.places.as_slice();
+    let count = seen(names_of(alloc, places), |names| names.len())?;
+    let length = used(
+        join_fonts(alloc, places),
+        |joins| pooled_length(alloc, document, joins),
+    )?;
+    Ok((count, length))
+}
+
+/// The same of a text.
+fn pooled(alloc: Global, text: &[u8]) -> Result<(usize, usize), AllocError> {
+    used(
+        read_document(alloc, text),
+        |document| pooled_of(alloc, document),
+    )
 }
 
 // meets join_fonts Ok at 300 places
@@ -140,10 +176,9 @@ fn many_fonts_of_each(rt: HostRuntime) -> Result<(), Fail> {
     let fonts = fonts(alloc, b"%!", names.as_slice())?;
     let once = document_of(alloc, fonts.as_slice())?;
     let all = repeated(alloc, once.as_slice(), 3)?;
-    let (count, pooled) = pooled(alloc, all.as_slice())?;
-    assert!(rt; count == 100);
     let empty = b"%%BeginResource: font\n%%EndResource\n".len();
-    assert!(rt; pooled.len() == once.len().saturating_add(empty.saturating_mul(200)));
+    let length = once.len().saturating_add(empty.saturating_mul(200));
+    assert!(rt; pooled(alloc, all.as_slice()) == Ok((100, length)));
     Ok(())
 }
 

@@ -1,9 +1,10 @@
 //! Which places a document has.
 
-use super::{joined, labelled, tiny};
+use super::{labelled, tiny};
 use std::alloc::{AllocError, Global};
 use std::test::Fail;
 use t1_document::read_document;
+use t1_font_shared_tests::{is, joined, used};
 use t1_tiny::PFA;
 
 /// A text in which each `@` stands for the file of the font Tiny.
@@ -21,17 +22,26 @@ fn with_fonts(alloc: Global, row: &[u8]) -> Result<Vec<u8>, AllocError> {
 
 /// A text with its places labelled.
 fn places(alloc: Global, text: &[u8]) -> Result<Vec<u8>, AllocError> {
-    let document = read_document(alloc, text)?;
-    let places = labelled(alloc, &document);
-    drop(document);
-    places
+    used(
+        read_document(alloc, text),
+        |document| labelled(alloc, document),
+    )
 }
 
-/// The text of a row, and it with its places labelled.
-fn labelled_row(alloc: Global, row: &[u8]) -> Result<(Vec<u8>, Vec<u8>), AllocError> {
-    let text = with_fonts(alloc, row)?;
-    let found = places(alloc, text.as_slice())?;
-    Ok((text, found))
+/// Whether the text of a row has these places, labelled.
+fn has_places(alloc: Global, row: &[u8], want: &[u8]) -> bool {
+    match with_fonts(alloc, row) {
+        Ok(text) => is(places(alloc, text.as_slice()), want),
+        Err(_) => false,
+    }
+}
+
+/// Whether it has none.
+fn has_no_places(alloc: Global, row: &[u8]) -> bool {
+    match with_fonts(alloc, row) {
+        Ok(text) => is(places(alloc, text.as_slice()), text.as_slice()),
+        Err(_) => false,
+    }
 }
 
 /// A text with its fonts, and the same with its places labelled.
@@ -81,12 +91,10 @@ const PLACES: &[Row] = &[
 ];
 
 #[test]
-fn texts_with_places(rt: HostRuntime) -> Result<(), Fail> {
+fn texts_with_places(rt: HostRuntime) {
     for &(row, want, what) in PLACES {
-        let (_text, found) = labelled_row(rt.alloc(), row)?;
-        assert!(rt; found.as_slice() == want, "{what}");
+        assert!(rt; has_places(rt.alloc(), row, want), "{what}");
     }
-    Ok(())
 }
 
 const NO_PLACES: &[(&[u8], &str)] = &[
@@ -133,12 +141,10 @@ const NO_PLACES: &[(&[u8], &str)] = &[
 ];
 
 #[test]
-fn texts_without_places(rt: HostRuntime) -> Result<(), Fail> {
+fn texts_without_places(rt: HostRuntime) {
     for &(row, what) in NO_PLACES {
-        let (text, found) = labelled_row(rt.alloc(), row)?;
-        assert!(rt; found.as_slice() == text.as_slice(), "{what}");
+        assert!(rt; has_no_places(rt.alloc(), row), "{what}");
     }
-    Ok(())
 }
 
 /// A text with CR for each LF.
@@ -158,11 +164,9 @@ fn places_with_cr(alloc: Global, row: &[u8]) -> Result<Vec<u8>, AllocError> {
 }
 
 #[test]
-fn lines_that_end_with_cr(rt: HostRuntime) -> Result<(), Fail> {
-    let found = places_with_cr(rt.alloc(), b"%%BeginFont\n@x\n%%EndFont\n")?;
-    let want = b"%%BeginFont\r<Font 0 Tiny>\rx\r%%EndFont\r".as_slice();
-    assert!(rt; found.as_slice() == want);
-    Ok(())
+fn lines_that_end_with_cr(rt: HostRuntime) {
+    let found = places_with_cr(rt.alloc(), b"%%BeginFont\n@x\n%%EndFont\n");
+    assert!(rt; is(found, b"%%BeginFont\r<Font 0 Tiny>\rx\r%%EndFont\r"));
 }
 
 /// The label of a place of Tiny with another first line, or its text if it is none.
@@ -174,8 +178,8 @@ fn place_of(alloc: Global, line: &[u8]) -> Result<Vec<u8>, AllocError> {
 
 #[test]
 fn the_first_name(rt: HostRuntime) -> Result<(), Fail> {
-    let found = place_of(rt.alloc(), b"%!\n%/FontName /A+B def")?;
-    assert!(rt; found.as_slice() == b"%%BeginFont\n<Font 0 A+B>\n%%EndFont".as_slice());
+    let found = place_of(rt.alloc(), b"%!\n%/FontName /A+B def");
+    assert!(rt; is(found, b"%%BeginFont\n<Font 0 A+B>\n%%EndFont"));
     let found = place_of(rt.alloc(), b"%!\n/FontName / def")?;
     assert!(rt; found.len() > 2000);
     Ok(())

@@ -1,11 +1,50 @@
 //! What documents become with new texts.
 
-use super::{joined, tiny};
+use super::tiny;
 use std::alloc::{AllocError, Global};
 use std::test::Fail;
-use t1_document::{Texts, read_document};
+use t1_document::{Document, Texts, read_document};
+use t1_font_shared_tests::{are_same, joined, used};
 
-/// A document with a new text for the font Tiny, levelled or pooled.
+/// Texts with this one for the font Tiny.
+fn texts_of(alloc: Global, new: &[u8]) -> Result<Texts<'_>, AllocError> {
+    let mut texts = Texts::new(alloc);
+    texts.put(b"Tiny", b"")?;
+    texts.put(b"Tiny", new)?;
+    texts.put(b"Other", b"")?;
+    Ok(texts)
+}
+
+/// A document with these texts, levelled or pooled.
+fn rewritten_by(
+    alloc: Global,
+    document: &Document<'_>,
+    texts: &Texts<'_>,
+    pool: bool,
+) -> Result<Vec<u8>, AllocError> {
+    if pool {
+        document.pool(alloc, texts)
+    } else {
+        document.level(alloc, texts)
+    }
+}
+
+/// A text with a new text for the font Tiny, levelled or pooled.
+fn text_rewritten(
+    alloc: Global,
+    text: &[u8],
+    new: &[u8],
+    pool: bool,
+) -> Result<Vec<u8>, AllocError> {
+    used(read_document(alloc, text), |document| {
+        used(
+            texts_of(alloc, new),
+            |texts| rewritten_by(alloc, document, texts, pool),
+        )
+    })
+}
+
+/// A document of these parts with a new text for the font Tiny, levelled or pooled.
 pub fn rewritten(
     alloc: Global,
     parts: &[&[u8]],
@@ -13,34 +52,13 @@ pub fn rewritten(
     pool: bool,
 ) -> Result<Vec<u8>, AllocError> {
     let text = joined(alloc, parts)?;
-    let mut texts = Texts::new(alloc);
-    texts.put(b"Tiny", b"")?;
-    texts.put(b"Tiny", new)?;
-    texts.put(b"Other", b"")?;
-    let document = read_document(alloc, text.as_slice())?;
-    let rewritten = if pool {
-        document.pool(alloc, &texts)
-    } else {
-        document.level(alloc, &texts)
-    };
-    drop(document);
-    drop(texts);
-    rewritten
+    text_rewritten(alloc, text.as_slice(), new, pool)
 }
 
 /// Whether a document becomes these two with a new text for Tiny.
-fn becomes(
-    alloc: Global,
-    parts: &[&[u8]],
-    new: &[u8],
-    level: &[&[u8]],
-    pool: &[&[u8]],
-) -> Result<bool, AllocError> {
-    let levelled = rewritten(alloc, parts, new, false)?;
-    let pooled = rewritten(alloc, parts, new, true)?;
-    let level = joined(alloc, level)?;
-    let pool = joined(alloc, pool)?;
-    Ok(levelled.as_slice() == level.as_slice() && pooled.as_slice() == pool.as_slice())
+fn becomes(alloc: Global, parts: &[&[u8]], new: &[u8], level: &[&[u8]], pool: &[&[u8]]) -> bool {
+    are_same(rewritten(alloc, parts, new, false), joined(alloc, level))
+        && are_same(rewritten(alloc, parts, new, true), joined(alloc, pool))
 }
 
 const BEGIN: &[u8] = b"%%BeginFont: CMR10\n";
@@ -62,7 +80,7 @@ fn new_texts(rt: HostRuntime) -> Result<(), Fail> {
     let two = tiny(alloc, b"%! two")?;
     let new = tiny(alloc, b"%! another")?;
     let (a, b, n) = (one.as_slice(), two.as_slice(), new.as_slice());
-    let right = becomes(alloc, &[b"%!\n"], n, &[b"%!\n"], &[b"%!\n"])?;
+    let right = becomes(alloc, &[b"%!\n"], n, &[b"%!\n"], &[b"%!\n"]);
     assert!(rt; right, "no place");
     let right = becomes(
         alloc,
@@ -70,7 +88,7 @@ fn new_texts(rt: HostRuntime) -> Result<(), Fail> {
         a,
         &[BEGIN, a, END, BEGIN, a, END],
         &[BEGIN, a, END, BEGIN, EMPTY_END],
-    )?;
+    );
     assert!(rt; right, "its own text");
     let right = becomes(
         alloc,
@@ -87,7 +105,7 @@ fn new_texts(rt: HostRuntime) -> Result<(), Fail> {
             EMPTY_END,
             b"showpage\n",
         ],
-    )?;
+    );
     assert!(rt; right, "two subsets");
     Ok(())
 }
@@ -107,7 +125,7 @@ fn new_texts_in_documents_inside(rt: HostRuntime) -> Result<(), Fail> {
         &[
             INSIDE, BEGIN, n, END, BEHIND, BEGIN, n, END, BEGIN, EMPTY_END,
         ],
-    )?;
+    );
     assert!(rt; right, "a document inside");
     let right = becomes(
         alloc,
@@ -115,7 +133,7 @@ fn new_texts_in_documents_inside(rt: HostRuntime) -> Result<(), Fail> {
         n,
         &[INSIDE, BEGIN, n, END, BEGIN, n, END, BEHIND],
         &[INSIDE, BEGIN, n, END, BEGIN, n, END, BEHIND],
-    )?;
+    );
     assert!(rt; right, "documents inside alone");
     Ok(())
 }
@@ -131,18 +149,24 @@ fn stays(alloc: Global, new: &[u8]) -> Result<bool, AllocError> {
         font.as_slice(),
         EMPTY_END,
     ];
-    becomes(alloc, &parts, new, &parts, &parts)
+    Ok(becomes(alloc, &parts, new, &parts, &parts))
 }
 
 #[test]
 fn texts_that_are_refused(rt: HostRuntime) -> Result<(), Fail> {
     let alloc = rt.alloc();
     let marked = tiny(alloc, b"%!\n%%EndFont")?;
-    assert!(rt; stays(alloc, marked.as_slice())?, "a mark inside");
     let other = tiny(alloc, b"%!\n/FontName /Other def")?;
-    assert!(rt; stays(alloc, other.as_slice())?, "another name");
-    let longer = joined(alloc, &[tiny(alloc, b"%!")?.as_slice(), b"\n"])?;
-    assert!(rt; stays(alloc, longer.as_slice())?, "more than a font text");
-    assert!(rt; stays(alloc, b"")?, "nothing");
+    let font = tiny(alloc, b"%!")?;
+    let longer = joined(alloc, &[font.as_slice(), b"\n"])?;
+    let rows: &[(&[u8], &str)] = &[
+        (marked.as_slice(), "a mark inside"),
+        (other.as_slice(), "another name"),
+        (longer.as_slice(), "more than a font text"),
+        (b"", "nothing"),
+    ];
+    for &(new, what) in rows {
+        assert!(rt; stays(alloc, new) == Ok(true), "{what}");
+    }
     Ok(())
 }

@@ -1,12 +1,15 @@
 //! What is written is read again: other words, other numbers of lead bytes, no Subrs, one glyph.
 
-use super::rows::{private, with};
-use super::{CLEAR, GLYPHS, behind, counts, file, is_written_as, joined, lent_file, rewritten};
+use super::rows::private;
 use bstr::ByteSlice;
 use std::alloc::{AllocError, Global};
 use std::test::Fail;
 use t1_bytes::{EEXEC_KEY, EEXEC_LEAD, open, split_eexec};
 use t1_font::{Font, Form, Part, Source, read, write};
+use t1_font_shared_tests::{
+    CLEAR, GLYPHS, behind, counts, file, is_written_as, joined, lent, lent_file, of_font,
+    rewritten, seen, with,
+};
 use t1_tiny::{PFA, PFB};
 
 /// A text with `new` in place of each `old`, of which there are at most 64.
@@ -67,18 +70,13 @@ fn words_of(alloc: Global, font: &Font<'_>) -> Result<Vec<u8>, AllocError> {
     Ok(words)
 }
 
-/// The same of the font that a source lends.
-fn lent_words(alloc: Global, source: &Source) -> Result<Vec<u8>, AllocError> {
-    let font = source.font(alloc)?;
-    words_of(alloc, &font)
-}
-
-/// The same of a file's font.
-fn words(alloc: Global, file: &[u8]) -> Result<Vec<u8>, AllocError> {
-    match read(alloc, file) {
-        Ok(source) => lent_words(alloc, &source),
-        Err(_) => Err(AllocError),
-    }
+/// Whether these are the kept words of a file's font.
+fn has_words(alloc: Global, file: &[u8], want: &[u8]) -> Result<bool, AllocError> {
+    of_font(
+        alloc,
+        file,
+        |font| Ok(words_of(alloc, font)?.as_slice() == want),
+    )
 }
 
 /// Whether a file's font is written with a private text that begins so.
@@ -90,10 +88,9 @@ fn is_written_with(alloc: Global, file: &[u8], text: &[u8]) -> Result<bool, Allo
 fn other_words_are_kept(rt: HostRuntime) -> Result<(), Fail> {
     let text = other_words(rt.alloc())?;
     let file = file(rt.alloc(), &PFA[..313], text.as_slice())?;
-    let words = words(rt.alloc(), file.as_slice())?;
-    assert!(rt; words.as_slice() == b"-| | |- -| |- ".as_slice());
-    let again = is_written_with(rt.alloc(), file.as_slice(), text.as_slice())?;
-    assert!(rt; again, "the words are written again");
+    assert!(rt; has_words(rt.alloc(), file.as_slice(), b"-| | |- -| |- ") == Ok(true));
+    let again = is_written_with(rt.alloc(), file.as_slice(), text.as_slice());
+    assert!(rt; again == Ok(true), "the words are written again");
     Ok(())
 }
 
@@ -124,33 +121,44 @@ fn is_kept(alloc: Global, clear: &[u8], private: &[u8], weight: u32) -> bool {
 
 /// A font with 255 lead bytes, and a charstring of no other.
 fn most_lead_bytes(alloc: Global) -> Result<Vec<u8>, AllocError> {
-    let mut text = Vec::from_slice(
+    joined(
         alloc,
-        b"/lenIV 255 def /CharStrings 1 dict dup begin /.notdef 255 RD ",
-    )?;
-    text.resize(text.len().saturating_add(255), b'x')?;
-    text.extend_from_slice(b" ND end closefile and a rest")?;
-    Ok(text)
+        &[
+            b"/lenIV 255 def /CharStrings 1 dict dup begin /.notdef 255 RD ",
+            &[b'x'; 255],
+            b" ND end closefile and a rest",
+        ],
+    )
 }
 
 /// The same of a font whose head and private text begin with so many blanks.
 fn is_kept_behind(alloc: Global, blanks: usize, weight: u32) -> Result<bool, AllocError> {
     let clear = behind(alloc, blanks, CLEAR)?;
     let start = behind(alloc, blanks, b"/lenIV 0 def ")?;
-    let private = joined(alloc, start.as_slice(), GLYPHS)?;
+    let private = joined(alloc, &[start.as_slice(), GLYPHS])?;
     Ok(is_kept(alloc, clear.as_slice(), private.as_slice(), weight))
 }
 
 // A line has the digits of 32 bytes, so some of these ciphers fill their last line.
 // meets write Ok at 0, 64, 1000000 bytes
 #[test]
-fn each_length_of_the_last_line(rt: HostRuntime) -> Result<(), Fail> {
+fn each_length_of_the_last_line(rt: HostRuntime) {
     for blanks in 0..65u32 {
-        let kept = is_kept_behind(rt.alloc(), blanks as usize, 318 + 2 * blanks)?;
-        assert!(rt; kept, "{blanks} blanks");
+        let kept = is_kept_behind(rt.alloc(), blanks as usize, 318 + 2 * blanks);
+        assert!(rt; kept == Ok(true), "{blanks} blanks");
     }
-    assert!(rt; is_kept_behind(rt.alloc(), 1_000_000, 2_000_318)?);
-    Ok(())
+    assert!(rt; is_kept_behind(rt.alloc(), 1_000_000, 2_000_318) == Ok(true));
+}
+
+/// The same of a font whose private text ends with the shortest table of glyphs.
+fn is_kept_with_glyphs(
+    alloc: Global,
+    clear: &[u8],
+    start: &[u8],
+    weight: u32,
+) -> Result<bool, AllocError> {
+    let private = joined(alloc, &[start, GLYPHS])?;
+    Ok(is_kept(alloc, clear, private.as_slice(), weight))
 }
 
 #[test]
@@ -170,11 +178,8 @@ fn both_forms_are_read_again(rt: HostRuntime) -> Result<(), Fail> {
         ),
     ];
     for &(clear, start, weight, name) in ROWS {
-        let private = joined(rt.alloc(), start, GLYPHS)?;
-        assert!(rt;
-            is_kept(rt.alloc(), clear, private.as_slice(), weight),
-            "{name}"
-        );
+        let kept = is_kept_with_glyphs(rt.alloc(), clear, start, weight);
+        assert!(rt; kept == Ok(true), "{name}");
     }
     let most = most_lead_bytes(rt.alloc())?;
     assert!(rt;
@@ -185,36 +190,31 @@ fn both_forms_are_read_again(rt: HostRuntime) -> Result<(), Fail> {
 }
 
 /// Whether a font, and one that its source lends while it is lent once already, have this canonical PFB.
-fn are_written_as(alloc: Global, font: &Font<'_>, source: &Source, pfb: &[u8]) -> bool {
-    match (
-        write(alloc, font, Form::Pfb),
-        lent_file(alloc, source, Form::Pfb),
-    ) {
-        (Ok(first), Ok(again)) => first.as_slice() == pfb && again.as_slice() == pfb,
-        _ => false,
-    }
-}
-
-/// Whether a source lends the font of this canonical PFB each time.
-fn lends_again(alloc: Global, source: &Source, pfb: &[u8]) -> bool {
-    match source.font(alloc) {
-        Ok(font) => are_written_as(alloc, &font, source, pfb),
-        Err(_) => false,
-    }
+fn are_written_as(
+    alloc: Global,
+    font: &Font<'_>,
+    source: &Source,
+    pfb: &[u8],
+) -> Result<bool, AllocError> {
+    let first = write(alloc, font, Form::Pfb)?;
+    let again = lent_file(alloc, source, Form::Pfb)?;
+    Ok(first.as_slice() == pfb && again.as_slice() == pfb)
 }
 
 /// Whether a file's font is lent twice as the font of this canonical PFB.
 fn is_lent_twice(alloc: Global, file: &[u8], pfb: &[u8]) -> bool {
-    match read(alloc, file) {
-        Ok(source) => lends_again(alloc, &source, pfb),
-        Err(_) => false,
-    }
+    let twice = seen(read(alloc, file), |source| {
+        lent(
+            alloc,
+            source,
+            |font| are_written_as(alloc, font, source, pfb),
+        )
+    });
+    twice == Ok(Ok(true))
 }
 
 #[test]
 fn a_source_lends_its_font_twice(rt: HostRuntime) {
-    const FILES: &[(&str, &[u8])] = &[("PFA", PFA), ("PFB", PFB)];
-    for &(name, file) in FILES {
-        assert!(rt; is_lent_twice(rt.alloc(), file, PFB), "the {name}");
-    }
+    assert!(rt; is_lent_twice(rt.alloc(), PFA, PFB), "the PFA");
+    assert!(rt; is_lent_twice(rt.alloc(), PFB, PFB), "the PFB");
 }

@@ -1,22 +1,19 @@
 //! Encodings that are literal arrays.
 
-use super::{is_written_as, rewritten};
 use bstr::ByteSlice;
 use std::alloc::{AllocError, Global};
 use std::test::Fail;
 use t1_font::{Form, ReadFault, read};
+use t1_font_shared_tests::{is_written_as, joined, rewritten};
 use t1_tiny::PFA;
 
 /// Tiny's PFA with this text behind its `/Encoding`.
 pub(super) fn encoded(alloc: Global, encoding: &[u8]) -> Result<Vec<u8>, AllocError> {
     let tiny: &[u8] = PFA;
-    let Some(end) = tiny.find(b"readonly def") else {
-        return Err(AllocError);
-    };
-    let mut file = Vec::from_slice(alloc, &tiny[..144])?;
-    file.extend_from_slice(encoding)?;
-    file.extend_from_slice(&tiny[end + 12..])?;
-    Ok(file)
+    match tiny.find(b"readonly def") {
+        Some(end) => joined(alloc, &[&tiny[..144], encoding, &tiny[end + 12..]]),
+        None => Err(AllocError),
+    }
 }
 
 /// So many times `.notdef` without blanks, between two texts.
@@ -83,7 +80,10 @@ fn arrays_of_no_names(rt: HostRuntime) {
         ),
     ];
     for &(open, count, close, offset, name) in ROWS {
-        let want = offset.map(|at| ReadFault::BadEncoding { at });
+        let want = match offset {
+            Some(at) => Some(ReadFault::BadEncoding { at }),
+            None => None,
+        };
         assert!(rt; refusal(rt.alloc(), open, count, close) == want, "{name}");
     }
 }

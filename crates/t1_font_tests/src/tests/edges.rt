@@ -1,13 +1,12 @@
 //! The borders of the grammar: what still reads, and what it reads as.
 
-use super::{CLEAR, GLYPHS, counts, fault, file, joined, rewritten, source};
-use std::alloc::{AllocError, Global};
 use std::test::Fail;
-use t1_font::{Font, Form, ReadFault, Source};
+use t1_font::{Font, Form, ReadFault};
+use t1_font_shared_tests::{CLEAR, GLYPHS, counts, fault, file, of_file, rewritten};
 use t1_run::Subroutines;
 
 #[test]
-fn words_at_their_limits(rt: HostRuntime) -> Result<(), Fail> {
+fn words_at_their_limits(rt: HostRuntime) {
     const BAD: Option<ReadFault> = Some(ReadFault::BadSubrs { at: 28 });
     const ROWS: &[(&[u8], Option<ReadFault>, &str)] = &[
         (b"ND\n", None, "an empty table"),
@@ -72,18 +71,13 @@ fn words_at_their_limits(rt: HostRuntime) -> Result<(), Fail> {
         ),
     ];
     for &(table, want, name) in ROWS {
-        let head = joined(rt.alloc(), b"/lenIV 0 def /Subrs 3 array ", table)?;
-        let private = joined(rt.alloc(), head.as_slice(), GLYPHS)?;
-        assert!(rt;
-            fault(rt.alloc(), CLEAR, private.as_slice()) == want,
-            "{name}"
-        );
+        let private: &[&[u8]] = &[b"/lenIV 0 def /Subrs 3 array ", table, GLYPHS];
+        assert!(rt; fault(rt.alloc(), &[CLEAR], private) == want, "{name}");
     }
-    Ok(())
 }
 
 #[test]
-fn codes_at_their_limits(rt: HostRuntime) -> Result<(), Fail> {
+fn codes_at_their_limits(rt: HostRuntime) {
     const BAD: Option<ReadFault> = Some(ReadFault::BadEncoding { at: 23 });
     const ROWS: &[(&[u8], Option<ReadFault>, &str)] = &[
         (b"dup 8#000000377/X put def", None, "nine octal digits"),
@@ -102,15 +96,12 @@ fn codes_at_their_limits(rt: HostRuntime) -> Result<(), Fail> {
         (b"/X put def", BAD, "no dup"),
     ];
     for &(table, want, name) in ROWS {
-        let start = joined(rt.alloc(), b"%!\n/Encoding 256 array ", table)?;
-        let clear = joined(rt.alloc(), start.as_slice(), b" currentfile eexec ")?;
-        let private = joined(rt.alloc(), b"/lenIV 0 def ", GLYPHS)?;
+        let clear: &[&[u8]] = &[b"%!\n/Encoding 256 array ", table, b" currentfile eexec "];
         assert!(rt;
-            fault(rt.alloc(), clear.as_slice(), private.as_slice()) == want,
+            fault(rt.alloc(), clear, &[b"/lenIV 0 def ", GLYPHS]) == want,
             "{name}"
         );
     }
-    Ok(())
 }
 
 /// What a font says of codes 65 and 66: whether the first has no name, and the second the name Y; and whether it has a
@@ -138,18 +129,9 @@ fn subrs(font: &Font<'_>) -> (bool, u16, bool, bool, Option<u16>) {
 /// What a font says of its codes and of its Subrs, and its lenIV.
 type Said = ((bool, bool, bool), (bool, u16, bool, bool, Option<u16>), u8);
 
-/// What the font of a source says.
-fn said_of(alloc: Global, source: &Source) -> Result<Said, AllocError> {
-    let font = source.font(alloc)?;
-    Ok((codes(&font), subrs(&font), font.len_iv()))
-}
-
-/// What the font of these texts says.
-fn said(alloc: Global, clear: &[u8], private: &[u8]) -> Option<Said> {
-    match source(alloc, clear, private) {
-        Ok(source) => said_of(alloc, &source).ok(),
-        Err(_) => None,
-    }
+/// What a font says.
+fn said(font: &Font<'_>) -> Said {
+    (codes(font), subrs(font), font.len_iv())
 }
 
 #[test]
@@ -160,12 +142,12 @@ fn last_entries_and_first_words(rt: HostRuntime) -> Result<(), Fail> {
         b"/lenIV 0 def /lenIV 9 def /Subrs 3 array dup 2 1 a \x01 b dup 2 1 c \x0b d ND\nx \
         /CharStrings 9 dict dup begin /.notdef 1 e \x01 f /.notdef 1 g \x02 end\nend \
         closefileclosefile/Subrs 0 array ";
+    let file = file(rt.alloc(), clear, private)?;
+    let said = of_file(rt.alloc(), file.as_slice(), |font| Ok(said(font)));
     assert!(rt;
-        said(rt.alloc(), clear, private)
-            == Some(((true, true, true), (true, 3, false, true, Some(2)), 0)),
+        said == Ok(((true, true, true), (true, 3, false, true, Some(2)), 0)),
         "a later .notdef takes a code away, the first lenIV counts, a gap stays"
     );
-    let file = file(rt.alloc(), clear, private)?;
     assert!(rt;
         counts(rt.alloc(), file.as_slice()) == Ok((1, 446)),
         "one name, and one Subr"

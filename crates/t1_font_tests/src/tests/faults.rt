@@ -1,9 +1,8 @@
 //! Each fault of reading with its place, near the front and far behind it, and of two that apply the first.
 
-use super::{CLEAR, behind, fault, fault_of};
 use std::alloc::{AllocError, Global};
-use std::test::Fail;
 use t1_font::ReadFault;
+use t1_font_shared_tests::{CLEAR, behind, fault, fault_of};
 
 /// A first segment of so many blanks that declares this length, and what stands behind it.
 fn segment(
@@ -19,10 +18,18 @@ fn segment(
     Ok(file)
 }
 
+/// Why such a file spells no font.
+fn segment_fault(alloc: Global, declared: u32, blanks: usize, rest: &[u8]) -> Option<ReadFault> {
+    match segment(alloc, declared, blanks, rest) {
+        Ok(file) => fault_of(alloc, file.as_slice()),
+        Err(_) => Some(ReadFault::Memory),
+    }
+}
+
 // meets read BadSegment at 2, 100000, 1000000 bytes
 // like read: read_vec, read_wide, read_wide_vec, mends
 #[test]
-fn faults_of_segments(rt: HostRuntime) -> Result<(), Fail> {
+fn faults_of_segments(rt: HostRuntime) {
     const ROWS: &[(u32, usize, &[u8], usize, &str)] = &[
         (3, 2, b"", 0, "data cut off"),
         (100_001, 100_000, b"", 0, "data cut off"),
@@ -43,13 +50,9 @@ fn faults_of_segments(rt: HostRuntime) -> Result<(), Fail> {
         ),
     ];
     for &(declared, blanks, rest, at, name) in ROWS {
-        let file = segment(rt.alloc(), declared, blanks, rest)?;
-        assert!(rt;
-            fault_of(rt.alloc(), file.as_slice()) == Some(ReadFault::BadSegment { at }),
-            "{name}"
-        );
+        let fault = segment_fault(rt.alloc(), declared, blanks, rest);
+        assert!(rt; fault == Some(ReadFault::BadSegment { at }), "{name}");
     }
-    Ok(())
 }
 
 /// How many blanks stand before a text.
@@ -71,13 +74,29 @@ fn moved(fault: ReadFault, blanks: usize) -> ReadFault {
     }
 }
 
+/// Why a file of so many blanks and a text spells no font.
+fn fault_behind(alloc: Global, blanks: usize, text: &[u8]) -> Option<ReadFault> {
+    match behind(alloc, blanks, text) {
+        Ok(file) => fault_of(alloc, file.as_slice()),
+        Err(_) => Some(ReadFault::Memory),
+    }
+}
+
+/// Why the file of a private text behind so many blanks spells no font.
+fn private_fault_behind(alloc: Global, blanks: usize, text: &[u8]) -> Option<ReadFault> {
+    match behind(alloc, blanks, text) {
+        Ok(private) => fault(alloc, &[CLEAR], &[private.as_slice()]),
+        Err(_) => Some(ReadFault::Memory),
+    }
+}
+
 // meets read NoEexec at 0, 100000 bytes
 // meets read ShortCipher at 0, 100000 bytes
 // meets read NoEncoding at 0, 100000 bytes
 // meets read BadEncoding at 0, 100000 bytes
 // like read: read_vec, read_wide, read_wide_vec, mends
 #[test]
-fn faults_of_clear_texts(rt: HostRuntime) -> Result<(), Fail> {
+fn faults_of_clear_texts(rt: HostRuntime) {
     const ROWS: &[(&[u8], ReadFault, &str)] = &[
         (b"", ReadFault::NoEexec, "nothing"),
         (
@@ -113,14 +132,13 @@ fn faults_of_clear_texts(rt: HostRuntime) -> Result<(), Fail> {
     ];
     for &(text, want, name) in ROWS {
         for &blanks in BEFORE {
-            let file = behind(rt.alloc(), blanks, text)?;
+            let fault = fault_behind(rt.alloc(), blanks, text);
             assert!(rt;
-                fault_of(rt.alloc(), file.as_slice()) == Some(moved(want, blanks)),
+                fault == Some(moved(want, blanks)),
                 "{name}, behind {blanks} blanks"
             );
         }
     }
-    Ok(())
 }
 
 // meets read NoCharStrings at 0, 100000 bytes
@@ -133,7 +151,7 @@ fn faults_of_clear_texts(rt: HostRuntime) -> Result<(), Fail> {
 // meets read Limit at 0, 100000 bytes
 // like read: read_vec, read_wide, read_wide_vec, mends
 #[test]
-fn faults_of_private_texts(rt: HostRuntime) -> Result<(), Fail> {
+fn faults_of_private_texts(rt: HostRuntime) {
     const ROWS: &[(&[u8], ReadFault, &str)] = &[
         (
             b"/lenIV -1 def",
@@ -208,12 +226,11 @@ fn faults_of_private_texts(rt: HostRuntime) -> Result<(), Fail> {
     ];
     for &(text, want, name) in ROWS {
         for &blanks in BEFORE {
-            let private = behind(rt.alloc(), blanks, text)?;
+            let fault = private_fault_behind(rt.alloc(), blanks, text);
             assert!(rt;
-                fault(rt.alloc(), CLEAR, private.as_slice()) == Some(moved(want, blanks)),
+                fault == Some(moved(want, blanks)),
                 "{name}, behind {blanks} blanks"
             );
         }
     }
-    Ok(())
 }

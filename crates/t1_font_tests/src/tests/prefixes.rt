@@ -1,13 +1,13 @@
 //! Each prefix of the files of the font Tiny.
 
-use super::counts;
 use std::alloc::Global;
 use t1_font::ReadFault;
+use t1_font_shared_tests::of_file;
 use t1_tiny::{PFA, PFB};
 
 /// The weight of a file's font.
 fn weight(alloc: Global, file: &[u8]) -> Result<u32, ReadFault> {
-    Ok(counts(alloc, file)?.1)
+    of_file(alloc, file, |font| Ok(font.weight()))
 }
 
 #[test]

@@ -1,11 +1,10 @@
 //! The font Tiny: its two files, and changed files.
 
-use super::{counts, fault, file, is_written_as, joined};
-use bstr::ByteSlice;
 use std::alloc::{AllocError, Global};
 use std::test::Fail;
 use t1_bytes::{CHARSTRING_KEY, EEXEC_KEY, EEXEC_LEAD, open, seal, split_eexec};
-use t1_font::{Form, ReadFault, Source, read};
+use t1_font::{Font, Form, ReadFault, read};
+use t1_font_shared_tests::{counts, fault_of, file, is_written_as, joined, of_file, of_font, with};
 use t1_run::Glyphs;
 use t1_tiny::{PFA, PFB};
 
@@ -15,17 +14,6 @@ pub fn private(alloc: Global) -> Result<Vec<u8>, AllocError> {
         return Err(AllocError);
     };
     Ok(open(cipher, EEXEC_KEY, EEXEC_LEAD))
-}
-
-/// A text with `new` in place of the first `old`.
-pub fn with(alloc: Global, text: &[u8], old: &[u8], new: &[u8]) -> Result<Vec<u8>, AllocError> {
-    let Some(at) = text.find(old) else {
-        return Err(AllocError);
-    };
-    let mut changed = Vec::from_slice(alloc, &text[..at])?;
-    changed.extend_from_slice(new)?;
-    changed.extend_from_slice(&text[at + old.len()..])?;
-    Ok(changed)
 }
 
 /// Whether a file's font is written as Tiny's PFA.
@@ -46,14 +34,17 @@ fn in_upper_case(alloc: Global) -> Result<Vec<u8>, AllocError> {
     Ok(upper)
 }
 
+/// Whether a file is one of Tiny's, by what it is written as, its glyphs and its weight.
+fn is_whole_tiny(alloc: Global, file: &[u8]) -> bool {
+    is_tiny(alloc, file)
+        && is_written_as(alloc, file, Form::Pfb, PFB)
+        && counts(alloc, file) == Ok((11, 4936))
+}
+
 #[test]
 fn tiny_is_written_again(rt: HostRuntime) -> Result<(), Fail> {
-    const FILES: &[(&str, &[u8])] = &[("PFA", PFA), ("PFB", PFB)];
-    for &(name, file) in FILES {
-        let both = is_tiny(rt.alloc(), file) && is_written_as(rt.alloc(), file, Form::Pfb, PFB);
-        assert!(rt; both, "the {name} in both forms");
-        assert!(rt; counts(rt.alloc(), file) == Ok((11, 4936)), "the {name}");
-    }
+    assert!(rt; is_whole_tiny(rt.alloc(), PFA), "the PFA in both forms");
+    assert!(rt; is_whole_tiny(rt.alloc(), PFB), "the PFB in both forms");
     let cut: &[u8] = PFB;
     assert!(rt;
         is_tiny(rt.alloc(), &cut[..1333]),
@@ -67,9 +58,23 @@ fn tiny_is_written_again(rt: HostRuntime) -> Result<(), Fail> {
     Ok(())
 }
 
+/// Tiny with another text in its private one.
+fn with_private(alloc: Global, old: &[u8], new: &[u8]) -> Result<Vec<u8>, AllocError> {
+    let text = private(alloc)?;
+    let changed = with(alloc, text.as_slice(), old, new)?;
+    file(alloc, &PFA[..313], changed.as_slice())
+}
+
+/// Why this font is refused, if it is.
+fn private_fault(alloc: Global, old: &[u8], new: &[u8]) -> Option<ReadFault> {
+    match with_private(alloc, old, new) {
+        Ok(file) => fault_of(alloc, file.as_slice()),
+        Err(_) => Some(ReadFault::Memory),
+    }
+}
+
 #[test]
 fn changed_private_texts(rt: HostRuntime) -> Result<(), Fail> {
-    let text = private(rt.alloc())?;
     const ROWS: &[(&[u8], &[u8], Option<ReadFault>)] = &[
         (
             b"dup 0 15 RD ",
@@ -111,22 +116,15 @@ fn changed_private_texts(rt: HostRuntime) -> Result<(), Fail> {
         (b"closefile", b"closefil", Some(ReadFault::NoClosefile)),
     ];
     for &(old, new, want) in ROWS {
-        let changed = with(rt.alloc(), text.as_slice(), old, new)?;
         assert!(rt;
-            fault(rt.alloc(), &PFA[..313], changed.as_slice()) == want,
+            private_fault(rt.alloc(), old, new) == want,
             "{}",
             new.len()
         );
     }
-    let counted = with(
-        rt.alloc(),
-        text.as_slice(),
-        b"/CharStrings 11 dict",
-        b"/CharStrings 3 dict",
-    )?;
-    let other = file(rt.alloc(), &PFA[..313], counted.as_slice())?;
+    let counted = with_private(rt.alloc(), b"/CharStrings 11 dict", b"/CharStrings 3 dict")?;
     assert!(rt;
-        is_tiny(rt.alloc(), other.as_slice()),
+        is_tiny(rt.alloc(), counted.as_slice()),
         "another size of the dictionary"
     );
     Ok(())
@@ -144,20 +142,9 @@ fn changed_clear_texts(rt: HostRuntime) -> Result<(), Fail> {
     Ok(())
 }
 
-/// Whether the font of a source has a glyph with these bytes.
-fn lends_glyph(alloc: Global, source: &Source, name: &[u8], plain: &[u8]) -> bool {
-    match source.font(alloc) {
-        Ok(font) => font.glyph(name) == Some(plain),
-        Err(_) => false,
-    }
-}
-
-/// The same of a file's font.
+/// Whether a file's font has a glyph with these bytes.
 fn has_glyph(alloc: Global, file: &[u8], name: &[u8], plain: &[u8]) -> bool {
-    match read(alloc, file) {
-        Ok(source) => lends_glyph(alloc, &source, name, plain),
-        Err(_) => false,
-    }
+    of_file(alloc, file, |font| Ok(font.glyph(name) == Some(plain))) == Ok(true)
 }
 
 /// The bytes of Tiny's glyph Y.
@@ -165,30 +152,11 @@ const Y: &[u8] = &[
     0x8B, 0xF8, 0x88, 0x0D, 0x8B, 0x16, 0x90, 0x0A, 0x91, 0x0A, 0x09, 0x0E,
 ];
 
-/// Tiny with a second glyph of the name X, with the bytes of Y.
-fn with_a_second_x(alloc: Global) -> Result<Vec<u8>, AllocError> {
-    let Ok(body) = seal(alloc, Y, CHARSTRING_KEY, 4) else {
-        return Err(AllocError);
-    };
-    let mut entry = joined(alloc, b"/X 16 RD ", body.as_slice())?;
-    entry.extend_from_slice(b" ND\nend\nend\nreadonly put")?;
-    let text = private(alloc)?;
-    let changed = with(
-        alloc,
-        text.as_slice(),
-        b"end\nend\nreadonly put",
-        entry.as_slice(),
-    )?;
-    file(alloc, &PFA[..313], changed.as_slice())
-}
-
-#[test]
-fn a_second_glyph_of_a_name(rt: HostRuntime) -> Result<(), Fail> {
-    let file = with_a_second_x(rt.alloc())?;
-    assert!(rt; counts(rt.alloc(), file.as_slice()) == Ok((11, 4933)));
-    let has = has_glyph(rt.alloc(), file.as_slice(), b"X", Y);
-    assert!(rt; has, "X has the bytes of Y");
-    Ok(())
+/// Tiny with these entries behind its glyphs.
+fn with_entries(alloc: Global, entries: &[u8]) -> Result<Vec<u8>, AllocError> {
+    let ends = b"end\nend\nreadonly put";
+    let entries = joined(alloc, &[entries, ends])?;
+    with_private(alloc, ends, entries.as_slice())
 }
 
 /// Tiny with a glyph of each of these names behind its own, with the bytes of Y.
@@ -198,26 +166,23 @@ fn with_names(alloc: Global, names: &[&[u8]]) -> Result<Vec<u8>, AllocError> {
     };
     let mut entries = Vec::new(alloc);
     for name in names {
-        entries.push(b'/')?;
-        entries.extend_from_slice(name)?;
-        entries.extend_from_slice(b" 16 RD ")?;
-        entries.extend_from_slice(body.as_slice())?;
-        entries.extend_from_slice(b" ND\n")?;
+        let entry = joined(alloc, &[b"/", name, b" 16 RD ", body.as_slice(), b" ND\n"])?;
+        entries.extend_from_slice(entry.as_slice())?;
     }
-    entries.extend_from_slice(b"end\nend\nreadonly put")?;
-    let text = private(alloc)?;
-    let changed = with(
-        alloc,
-        text.as_slice(),
-        b"end\nend\nreadonly put",
-        entries.as_slice(),
-    )?;
-    file(alloc, &PFA[..313], changed.as_slice())
+    with_entries(alloc, entries.as_slice())
+}
+
+#[test]
+fn a_second_glyph_of_a_name(rt: HostRuntime) -> Result<(), Fail> {
+    let file = with_names(rt.alloc(), &[b"X"])?;
+    assert!(rt; counts(rt.alloc(), file.as_slice()) == Ok((11, 4933)));
+    let has = has_glyph(rt.alloc(), file.as_slice(), b"X", Y);
+    assert!(rt; has, "X has the bytes of Y");
+    Ok(())
 }
 
 /// The names of a font's glyphs that begin with `alike`, in their order, a name a line.
-fn names_alike(alloc: Global, source: &Source) -> Result<Vec<u8>, AllocError> {
-    let font = source.font(alloc)?;
+fn names_alike(alloc: Global, font: &Font<'_>) -> Result<Vec<u8>, AllocError> {
     let mut text = Vec::new(alloc);
     for name in font.names() {
         if name.starts_with(b"alike") {
@@ -228,8 +193,18 @@ fn names_alike(alloc: Global, source: &Source) -> Result<Vec<u8>, AllocError> {
     Ok(text)
 }
 
+/// Whether Tiny with glyphs of these names has those that begin so in this order.
+fn have_order(alloc: Global, names: &[&[u8]], wanted: &[u8]) -> Result<bool, AllocError> {
+    let file = with_names(alloc, names)?;
+    of_font(
+        alloc,
+        file.as_slice(),
+        |font| Ok(names_alike(alloc, font)?.as_slice() == wanted),
+    )
+}
+
 #[test]
-fn names_that_begin_alike(rt: HostRuntime) -> Result<(), Fail> {
+fn names_that_begin_alike(rt: HostRuntime) {
     const ROWS: &[(&[&[u8]], &[u8])] = &[
         (&[b"alike2", b"alike1"], b"alike1\nalike2\n"),
         (
@@ -258,10 +233,6 @@ fn names_that_begin_alike(rt: HostRuntime) -> Result<(), Fail> {
         ),
     ];
     for &(names, wanted) in ROWS {
-        let file = with_names(rt.alloc(), names)?;
-        let source = read(rt.alloc(), file.as_slice())?;
-        let text = names_alike(rt.alloc(), &source)?;
-        assert!(rt; text.as_slice() == wanted);
+        assert!(rt; have_order(rt.alloc(), names, wanted) == Ok(true));
     }
-    Ok(())
 }

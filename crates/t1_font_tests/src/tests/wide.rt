@@ -1,19 +1,18 @@
 //! Files that other programs spell: what the wide readers take beside what the strict ones do, and what they refuse.
 
 use super::arrays::encoded;
-use super::{CLEAR, GLYPHS, file, is_written_as, joined, lent_file};
 use std::alloc::{AllocError, Global};
-use std::test::Fail;
-use t1_font::{Form, ReadFault, read, read_wide};
+use t1_font::{Form, ReadFault, read, read_wide, write};
+use t1_font_shared_tests::{CLEAR, GLYPHS, file, file_of, is_written_as, joined, of_source};
 use t1_tiny::PFA;
 
 /// The canonical file of the font that a file spells widely.
 fn mended(alloc: Global, file: &[u8]) -> Result<Vec<u8>, ReadFault> {
-    let source = read_wide(alloc, file)?;
-    match lent_file(alloc, &source, Form::Pfa) {
-        Ok(file) => Ok(file),
-        Err(_) => Err(ReadFault::Memory),
-    }
+    of_source(
+        alloc,
+        read_wide(alloc, file),
+        |font| write(alloc, font, Form::Pfa),
+    )
 }
 
 /// Whether a file spells widely what another one spells, and is refused for this fault where it is read strictly.
@@ -32,17 +31,25 @@ const OPEN: &[u8] = b" 256 array\n0 1 255 {1 index exch /.notdef put} for\n";
 
 /// Tiny with codes that get their names by copies.
 pub(super) fn with_copies(alloc: Global) -> Result<Vec<u8>, AllocError> {
-    let text = joined(
-        alloc,
-        OPEN,
-        b"dup 1 /X put dup 2 /Y put dup dup 1 2 getinterval 65 exch putinterval \
-        dup 1 /.notdef put dup dup 2 exch 3 get put dup 194 /H put % endarray\ndef",
-    )?;
+    const COPIES: &[u8] = b"dup 1 /X put dup 2 /Y put dup dup 1 2 getinterval 65 exch putinterval \
+        dup 1 /.notdef put dup dup 2 exch 3 get put dup 194 /H put % endarray\ndef";
+    opened(alloc, COPIES)
+}
+
+/// Tiny with these entries in its Encoding.
+fn opened(alloc: Global, entries: &[u8]) -> Result<Vec<u8>, AllocError> {
+    let text = joined(alloc, &[OPEN, entries])?;
     encoded(alloc, text.as_slice())
 }
 
+/// Whether Tiny with these entries is mended as Tiny, and refused for its Encoding at this place where it is read strictly.
+fn entries_are_mended(alloc: Global, entries: &[u8], at: usize) -> Result<bool, AllocError> {
+    let file = opened(alloc, entries)?;
+    Ok(is_mended_as(alloc, file.as_slice(), PFA, ReadFault::BadEncoding { at }))
+}
+
 #[test]
-fn tables_of_codes(rt: HostRuntime) -> Result<(), Fail> {
+fn tables_of_codes(rt: HostRuntime) {
     const ROWS: &[(&[u8], usize, &str)] = &[
         (
             b"% one\ndup 65 /X put dup 66 /Y put dup 194 /H put readonly def",
@@ -102,21 +109,32 @@ fn tables_of_codes(rt: HostRuntime) -> Result<(), Fail> {
         ),
     ];
     for &(entries, at, name) in ROWS {
-        let text = joined(rt.alloc(), OPEN, entries)?;
-        let file = encoded(rt.alloc(), text.as_slice())?;
-        let right = is_mended_as(
-            rt.alloc(),
-            file.as_slice(),
-            PFA,
-            ReadFault::BadEncoding { at },
+        assert!(rt;
+            entries_are_mended(rt.alloc(), entries, at) == Ok(true),
+            "{name}"
         );
-        assert!(rt; right, "{name}");
     }
-    Ok(())
+}
+
+/// Whether Tiny with this Encoding is mended as with that one, and refused at this place where it is read strictly.
+fn encoding_is_mended(
+    alloc: Global,
+    spelled: &[u8],
+    like: &[u8],
+    at: usize,
+) -> Result<bool, AllocError> {
+    let file = encoded(alloc, spelled)?;
+    let plain = encoded(alloc, like)?;
+    Ok(is_mended_as(
+        alloc,
+        file.as_slice(),
+        plain.as_slice(),
+        ReadFault::BadEncoding { at },
+    ))
 }
 
 #[test]
-fn other_forms_of_an_encoding(rt: HostRuntime) -> Result<(), Fail> {
+fn other_forms_of_an_encoding(rt: HostRuntime) {
     const ROWS: &[(&[u8], &[u8], usize, &str)] = &[
         (
             b" StandardEncoding readonly def",
@@ -138,25 +156,36 @@ fn other_forms_of_an_encoding(rt: HostRuntime) -> Result<(), Fail> {
         ),
     ];
     for &(spelled, like, at, name) in ROWS {
-        let file = encoded(rt.alloc(), spelled)?;
-        let plain = encoded(rt.alloc(), like)?;
-        let fault = ReadFault::BadEncoding { at };
-        let right = is_mended_as(rt.alloc(), file.as_slice(), plain.as_slice(), fault);
-        assert!(rt; right, "{name}");
+        assert!(rt;
+            encoding_is_mended(rt.alloc(), spelled, like, at) == Ok(true),
+            "{name}"
+        );
     }
-    Ok(())
 }
 
 /// A private text with this table of Subrs.
 fn with_subrs(alloc: Global, table: &[u8]) -> Result<Vec<u8>, AllocError> {
-    let mut private = Vec::from_slice(alloc, b"/lenIV 0 def /Subrs 2 array ")?;
-    private.extend_from_slice(table)?;
-    private.extend_from_slice(GLYPHS)?;
-    file(alloc, CLEAR, private.as_slice())
+    file_of(
+        alloc,
+        &[CLEAR],
+        &[b"/lenIV 0 def /Subrs 2 array ", table, GLYPHS],
+    )
+}
+
+/// Whether such a font is mended as one without comments, and refused for its Subrs at this place where it is read strictly.
+fn subrs_are_mended(alloc: Global, table: &[u8], at: usize) -> Result<bool, AllocError> {
+    let file = with_subrs(alloc, table)?;
+    let plain = with_subrs(alloc, b"dup 0 1 RD \x0b NP dup 1 1 RD \x0b NP ND ")?;
+    Ok(is_mended_as(
+        alloc,
+        file.as_slice(),
+        plain.as_slice(),
+        ReadFault::BadSubrs { at },
+    ))
 }
 
 #[test]
-fn comments_among_subrs(rt: HostRuntime) -> Result<(), Fail> {
+fn comments_among_subrs(rt: HostRuntime) {
     const ROWS: &[(&[u8], usize, &str)] = &[
         (
             b"% one\ndup 0 1 RD \x0b NP dup 1 1 RD \x0b NP ND ",
@@ -174,18 +203,24 @@ fn comments_among_subrs(rt: HostRuntime) -> Result<(), Fail> {
             "before the close",
         ),
     ];
-    let plain = with_subrs(rt.alloc(), b"dup 0 1 RD \x0b NP dup 1 1 RD \x0b NP ND ")?;
     for &(table, at, name) in ROWS {
-        let file = with_subrs(rt.alloc(), table)?;
-        let fault = ReadFault::BadSubrs { at };
-        let right = is_mended_as(rt.alloc(), file.as_slice(), plain.as_slice(), fault);
-        assert!(rt; right, "{name}");
+        assert!(rt;
+            subrs_are_mended(rt.alloc(), table, at) == Ok(true),
+            "{name}"
+        );
     }
-    Ok(())
+}
+
+/// Why Tiny with these entries is refused where it is read widely, if it is.
+fn fault_of_entries(alloc: Global, entries: &[u8]) -> Option<ReadFault> {
+    match opened(alloc, entries) {
+        Ok(file) => read_wide(alloc, file.as_slice()).err(),
+        Err(_) => Some(ReadFault::Memory),
+    }
 }
 
 #[test]
-fn refused_widely(rt: HostRuntime) -> Result<(), Fail> {
+fn refused_widely(rt: HostRuntime) {
     const ROWS: &[(&[u8], usize, &str)] = &[
         (
             b"dup dup 250 7 getinterval 0 exch putinterval def",
@@ -215,16 +250,21 @@ fn refused_widely(rt: HostRuntime) -> Result<(), Fail> {
         (b"% dup 65 /X put def", 215, "a comment through the close"),
     ];
     for &(entries, at, name) in ROWS {
-        let text = joined(rt.alloc(), OPEN, entries)?;
-        let file = encoded(rt.alloc(), text.as_slice())?;
-        let fault = read_wide(rt.alloc(), file.as_slice()).err();
+        let fault = fault_of_entries(rt.alloc(), entries);
         assert!(rt; fault == Some(ReadFault::BadEncoding { at }), "{name}");
     }
-    Ok(())
+}
+
+/// Why a font with this private text is refused where it is read widely, if it is.
+fn fault_of_private(alloc: Global, private: &[u8]) -> Option<ReadFault> {
+    match file(alloc, CLEAR, private) {
+        Ok(file) => read_wide(alloc, file.as_slice()).err(),
+        Err(_) => Some(ReadFault::Memory),
+    }
 }
 
 #[test]
-fn comments_elsewhere_are_refused(rt: HostRuntime) -> Result<(), Fail> {
+fn comments_elsewhere_are_refused(rt: HostRuntime) {
     const ROWS: &[(&[u8], ReadFault, &str)] = &[
         (
             b"/lenIV 0 def /Subrs 1 array dup %\n0 1 RD \x0b NP ND /CharStrings 1 dict dup begin /.notdef 1 RD \x1b ND end closefile ",
@@ -243,11 +283,9 @@ fn comments_elsewhere_are_refused(rt: HostRuntime) -> Result<(), Fail> {
         ),
     ];
     for &(private, want, name) in ROWS {
-        let file = file(rt.alloc(), CLEAR, private)?;
         assert!(rt;
-            read_wide(rt.alloc(), file.as_slice()).err() == Some(want),
+            fault_of_private(rt.alloc(), private) == Some(want),
             "{name}"
         );
     }
-    Ok(())
 }

@@ -1,0 +1,5 @@
+//! The engines over documents, and the calls below them, with ample memory.
+
+mod documents;
+mod fonts;
+mod kept;

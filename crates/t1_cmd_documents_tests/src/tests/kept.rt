@@ -1,0 +1,82 @@
+//! Answers that only come in odd cases, or are long, with ample memory: names that keep their fonts, places deep inside, and long
+//! documents.
+use super::documents::{families_are, level_into, pool_into};
+use std::alloc::{AllocError, Global};
+use std::test::Fail;
+use t1_cmd::{extract_file, list_fonts};
+use t1_cmd_shared_tests::documents::{BEGIN, document, other, part, tagged, whole};
+use t1_cmd_shared_tests::texts::{is, joined};
+use t1_tiny::PFA;
+
+/// A document with a line in front of its font that would end the place.
+fn barred(alloc: Global, font: &[u8]) -> Result<Vec<u8>, AllocError> {
+    let text = joined(alloc, &[b"%!\n %%EndFont\n", font])?;
+    document(alloc, text.as_slice())
+}
+
+// meets run_pool Ok at 2 documents
+// meets run_level Ok at 2 documents
+#[test]
+fn a_joined_font_that_fits_no_place(rt: HostRuntime) -> Result<(), Fail> {
+    const BARRED: &[u8] = b"kept Tiny: the joined font does not fit a place\n";
+    let alloc = rt.alloc();
+    let cut = part(alloc);
+    let a = barred(alloc, cut.as_slice())?;
+    let b = barred(alloc, whole())?;
+    let (a, b) = (a.as_slice(), b.as_slice());
+    assert!(rt; pool_into(alloc, &[a, b], &[a, b"\n", b, BARRED]));
+    assert!(rt; level_into(alloc, &[a, b], &[b"|", a, b"|", b, BARRED]));
+    Ok(())
+}
+
+// meets run_fonts Ok at 1 documents
+// like run_fonts: list_fonts
+#[test]
+fn a_place_two_documents_deep(rt: HostRuntime) -> Result<(), Fail> {
+    let alloc = rt.alloc();
+    let deep = joined(
+        alloc,
+        &[
+            b"%%BeginDocument: a\n%%BeginDocument: b\n",
+            BEGIN,
+            PFA,
+            b"%%EndFont\n%%EndDocument\n%%EndDocument\n",
+        ],
+    )?;
+    let deep = deep.as_slice();
+    let want = b"a.ps: 61 Tiny 11 2 joined\n1 places, 1 names, 0 kept\n";
+    assert!(rt; is(list_fonts(alloc, &[b"a.ps"], &[deep]), want));
+    assert!(rt; is(extract_file(alloc, b"Tiny", &[deep]), PFA));
+    Ok(())
+}
+
+// meets run_pool Ok at 4 documents
+#[test]
+fn a_name_and_a_family_both_kept(rt: HostRuntime) -> Result<(), Fail> {
+    const BOTH: &[u8] =
+        b"kept GHIJKL+Tiny: shells differ in head\nkept ABCDEF+Tiny: shells differ in head\n";
+    let alloc = rt.alloc();
+    let cut = part(alloc);
+    let other = other(alloc)?;
+    let g = tagged(alloc, whole(), b"GHIJKL+")?;
+    let o = tagged(alloc, other.as_slice(), b"GHIJKL+")?;
+    let a = tagged(alloc, cut.as_slice(), b"ABCDEF+")?;
+    let q = tagged(alloc, other.as_slice(), b"MNOPQR+")?;
+    let (g, o, a, q) = (g.as_slice(), o.as_slice(), a.as_slice(), q.as_slice());
+    let want = &[g, b"\n", o, b"\n", a, b"\n", q, BOTH];
+    assert!(rt; families_are(alloc, &[g, o, a, q], want));
+    Ok(())
+}
+
+/// How many bytes stand behind the last place of a long document.
+const LONG: usize = 2_200_000;
+
+// meets run_pool Ok at 2200000 bytes
+#[test]
+fn a_long_document(rt: HostRuntime) -> Result<(), Fail> {
+    let alloc = rt.alloc();
+    let mut text = document(alloc, whole())?;
+    text.resize(LONG, b'x')?;
+    assert!(rt; pool_into(alloc, &[text.as_slice()], &[text.as_slice()]));
+    Ok(())
+}
