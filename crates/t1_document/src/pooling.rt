@@ -174,8 +174,8 @@ pub struct PooledText<'a> {
 /// a font text leaves the answer of its own test of `FontDirectory` on the operand stack, the line leaves `false` there. All other
 /// bytes stay.
 ///
-/// A key keeps its font texts where it has one place, where a text asks for `FontDirectory` otherwise than by that test, and where the
-/// new text or the line of a place can't stand there.
+/// A key keeps its font texts where it has one place, where a text asks for `FontDirectory` otherwise than by that test, where the new
+/// text or the line of a place can't stand there, and where a name begins as the pool's own do.
 ///
 /// # Errors
 ///

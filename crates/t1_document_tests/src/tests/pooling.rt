@@ -273,7 +273,7 @@ fn growths_of_pooling(rt: HostRuntime) -> Result<(), Fail> {
     Ok(())
 }
 
-/// Whether two subsets are pooled, and two texts that have a test.
+/// Whether two places of one text that has a test are pooled.
 fn is_pooled(alloc: Global) -> Result<bool, AllocError> {
     let with_test = tiny(alloc, TEST)?;
     let a = with_test.as_slice();
