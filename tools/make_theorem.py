@@ -27,10 +27,8 @@ CHAPTERS = {
     },
     "t1_char": {"Commands": "6", "Tokens": "6", "token": "6"},
     "t1_run": {"State": "6, 8", "Rules": "6, 8", "Run": "6, 8", "Standard": "6", "Drawings": "6", "answer": "6, 8"},
-    "t1_font": {
-        "Words": "2", "Markers": "2, 5", "Encoding": "2", "Entry": "2, 7", "Subrs": "2, 8", "Glyphs": "2, 6", "Charstrings": "7", "Pieces": "2, 5",
-        "Spelling": "2, 5",
-    },
+    "t1_text": {"Words": "2", "Markers": "2, 5", "Encoding": "2", "Entry": "2, 7", "Subrs": "2, 8", "Glyphs": "2, 6"},
+    "t1_font": {"Pieces": "2, 5", "Spelling": "2, 5"},
 }
 
 

@@ -146,6 +146,8 @@ FIXED = {
 }
 # The file limit is met by `t1_cmd`, whose readers need no file of that size.
 FIXED["t1_bytes"] += ["FILE_LIMIT"]
+# The crates that none but the crates of this repository call, by the one above whose calls meet their constants.
+WITHIN = {"t1_font": ["t1_text"]}
 
 
 def sources(crate, tests=False):
@@ -190,8 +192,8 @@ def variants():
 
 
 def constants(crate):
-    """The constants of a crate that are numbers, by name."""
-    for path in sources(crate):
+    """The constants of a crate that are numbers, by name, and those of the crates that only it and its neighbours call."""
+    for path in [path for name in [crate, *WITHIN.get(crate, [])] for path in sources(name)]:
         for name, value in re.findall(r"^ *(?:pub(?:\(crate\))? )?const (\w+): [iu]\w+ = ([\d_]+);", text_of(path), re.M):
             yield name, int(value.replace("_", ""))
 

@@ -119,7 +119,7 @@ def check_rows():
     for cell in re.findall(r"\| ([^|]*) \|$", text, re.M):
         for part in cell.split("; "):
             file, names = re.match(r"(?:`(Tiny\w+)::)?", part)[1], re.findall(r"`(?:\w+::)?(\w+)`", part)
-            rows = text_of(TOP, f"crates/t1_font/proofs/rows/{file}.antt") if file else ""
+            rows = text_of(TOP, f"crates/t1_font_laws/proofs/rows/{file}.antt") if file else ""
             missing = [name for name in names if file and not re.search(rf"^(?:pub )?{name} :", rows, re.M)]
             yield from (f"docs/THEOREM.md names {file}::{name}, which isn't there" for name in missing)
     for crate, path in re.findall(r"`(t1_\w+)::([\w:]+)`", text):

@@ -1,7 +1,9 @@
 -- A font without its test has the glyphs, Subrs and codes that it had, so it runs, draws, is cut and merges as before.
 use Rattle.std.proofs.Common.{arith, refl, ◌∙◌, ap}
 use Rattle.t1_join.specs.Groupings.{one, two}
-use Rattle.t1_font.{specs.{FontValue.{FontValue}, FontTest.{untested_shell, untested_font}}, proofs.Untested.{untested_fits}}
+use Rattle.t1_font.specs.FontValue.{FontValue}
+use Rattle.t1_font.specs.UntestedFonts.{untested_shell, untested_font}
+use Rattle.t1_text.proofs.Untested.{untested_fits}
 use Rattle.t1_algebra.{specs.{States.{Compatible, KeepsLimits, joined_font}, Untested.{UntestedDraws, UntestedSubsets, UntestedJoins, UntestedGroupings}}, proofs.Words.{Interpreter}}
 
 -- each glyph runs and draws as before

@@ -2,7 +2,8 @@
 use Rattle.std.specs.{Prelude.{◌≡◌, ℕ, ◌≤◌, ◌<◌, max, nat_lt, true, List, [], ◌∷◌, map, Option, Some, None, IsPermutation}, List.{AllByRecursion, list_all}, Option.{option_map}}
 use Rattle.t1_join.specs.Groupings.{Grouping, leaves, map_grouping}
 use Rattle.t1_font.specs.{FontValue.{FontValue, SubrsShell, declared_count}, IsFont.{IsFont}, NormalTexts.{normal_texts}, Normalizing.{each_normal, normalized_shells, normalized}}
-use Rattle.t1_font.specs.FontBoxes.{Box, joined_box, box_of, font_with, can_have, boxes_of}
+use Rattle.t1_font.specs.FontBoxes.{box_of, font_with, can_have, boxes_of}
+use Rattle.t1_text.specs.Boxes.{Box, joined_box}
 use Rattle.t1_algebra.specs.{Interpreter.{Names}, Keep.{keep, kept, subset, IsOf}, Profile.{profile}, Alike.{DrawsAlike}, Groupings.{union_all, Merges}, Lacks.{first_lack}, Merges.{MergesTo}}
 use Rattle.std.specs.FinMap as maps
 use Rattle.std.specs.FinSet as sets

@@ -1,7 +1,8 @@
 -- Fonts without the test whether they were loaded before: what their glyphs draw, their subsets and their merges.
 use Rattle.std.specs.Prelude.{◌≡◌, ℕ, List}
 use Rattle.t1_join.specs.Groupings.{Grouping, map_grouping}
-use Rattle.t1_font.specs.{FontValue.{FontValue}, FontTest.{untested_font}}
+use Rattle.t1_font.specs.FontValue.{FontValue}
+use Rattle.t1_font.specs.UntestedFonts.{untested_font}
 use Rattle.t1_algebra.specs.{Interpreter.{Interpreter, Names}, Keep.{subset}, States.{Join, joined_font}, Groupings.{Merges}, Laws.{AnswersAlike}, Alike.{DrawsAlike}}
 
 -- each glyph runs and draws the same in a font and in the font without its test, over the maps of both and as calls see them

@@ -4,7 +4,8 @@ use Rattle.std.proofs.lemmas.List.Sorted.{IsPermutation-refl}
 use Rattle.std.specs.{Prelude.{IfOk, IfErr, MatchResult, is_some}, List.{AllByRecursion}, Result.{result_ok}}
 use Rattle.t1_bytes.specs.declared.form.Form.{Form}
 use Rattle.t1_font.specs.{FontValue.{FontValue, CharStrings}, IsFont.{IsFont}, Canon.{canon}, Normalizing.{indices_of_all, normalized_shells, normalized}}
-use Rattle.t1_font.specs.{Filling.{AreLight}, FontBoxes.{Box}, Renewing.{Renewed}}
+use Rattle.t1_font.specs.{Filling.{AreLight}, Renewing.{Renewed}}
+use Rattle.t1_text.specs.Boxes.{Box}
 use Rattle.t1_join.{specs.Groupings.{one, from_left}, proofs.OrderLemmas.{leaves_from_left}}
 use Rattle.t1_algebra.specs.{Interpreter.{Names}, Profile.{profile}, Keep.{subset, IsOf}, Merges.{ComesTo}, Lacks.{first_lack}, Normalized.{EachBeside}}
 use Rattle.t1_algebra.specs.Rejoins.{cut_to, with_normal_texts, Truncated, IsTruncated, truncated_fonts, truncated_sets, largest, GetBox, boxed_as, shared_font, rejoined, Rejoins}

@@ -2,7 +2,8 @@
 use Rattle.std.proofs.{Common.{◌≡◌, ℕ, Bool, true, false, cond, List, [], ◌∷◌, ◌++◌, Some, None, Result, Ok, Err, refl, sym, ap, subst, ◌∙◌}, lemmas.Bool.{cond-false, le-ltb}}
 use Rattle.std.specs.{List.{find, AllByRecursion}, Str.{bytes_eq}, Prelude.{nat_lt, length}}
 use Rattle.t1_bytes.specs.{Limits.{file_limit}, declared.form.Form.TheVariants.{Pfa}}
-use Rattle.t1_font.specs.{declared.fault.ReadFault.{ReadFault}, FontValue.{FontValue}, ReadFont.{read_font_widely}, FontTest.{untested_font}}
+use Rattle.t1_font.specs.{declared.fault.ReadFault.{ReadFault}, FontValue.{FontValue}, ReadFont.{read_font_widely}}
+use Rattle.t1_font.specs.UntestedFonts.{untested_font}
 use Rattle.t1_document.{specs.{Documents.{Place, document_of}, Laws.{SpellsPlace}, Joins.{places_of_all}}, proofs.Spelled.{places_spell}}
 use Rattle.t1_cmd.specs.{declared.faults.Reason.{Reason}, Answers.{with_reason, if_there, MayRefuse}, Fonts.{font_reason, file_answer}, Extracts.{first_named, ExtractsTo, TakesOutMended}}
 use Rattle.t1_cmd.proofs.Refusals.{by_answer}

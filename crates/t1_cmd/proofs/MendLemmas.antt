@@ -2,9 +2,13 @@
 use Rattle.std.proofs.{Common.{◌≡◌, ◌∙◌, ap, subst, refl, ℕ, ◌+◌, Bool, true, false, nat_lt, if◌then◌else◌, List, [], ◌∷◌, ◌++◌, length, None, Result, Ok, Err}, lemmas.Bool.{le-ltb}}
 use Rattle.std.specs.{Prelude.{IfOk}, List.{flat_map}}
 use Rattle.t1_bytes.specs.{declared.form.Form.{Form}, Limits.{file_limit}, Laws.{AreBytes}}
-use Rattle.t1_font.specs.{declared.fault.ReadFault.{ReadFault}, FontValue.{FontValue}, FontTest.{untested_font, taken_test}, IsFont.{IsFont}, Canon.{canon, Fits}}
-use Rattle.t1_font.specs.{ReadFont.{read_font, read_font_widely}, Mends.{mends_in, mends_by_rules, mends_by_test}, Dialect.{strict, wide}}
-use Rattle.t1_font.proofs.{Spelled.{reads, reads_again}, Widely.{spells_widely}, Untested.{untested_twice, untested_is_font}, canonical.RoundTrip.{round_trip}, canonical.LengthLemmas.{canon_short}}
+use Rattle.t1_font.specs.{declared.fault.ReadFault.{ReadFault}, FontValue.{FontValue}, IsFont.{IsFont}, Canon.{canon, Fits}}
+use Rattle.t1_font.specs.UntestedFonts.{untested_font}
+use Rattle.t1_text.specs.{FontTest.{taken_test}, Dialect.{strict, wide}}
+use Rattle.t1_font.specs.{ReadFont.{read_font, read_font_widely}, Mends.{mends_in, mends_by_rules, mends_by_test}}
+use Rattle.t1_font.proofs.{Spelled.{reads, reads_again}, Widely.{spells_widely}, canonical.RoundTrip.{round_trip}, canonical.LengthLemmas.{canon_short}}
+use Rattle.t1_text.proofs.Untested.{untested_twice}
+use Rattle.t1_font.proofs.UntestedFonts.{untested_is_font}
 use Rattle.t1_font.proofs.{read_fonts.ReadFontLaws.{read_is_font}, Mended.{tells_the_test}}
 use Rattle.t1_cmd.specs.{declared.faults.Reason.{Reason}, declared.faults.Reason.TheVariants.{TooLong}, declared.faults.RunFault.TheVariants.{Refused}, Inputs.{Input, Holds}, Runs.{Stops}}
 use Rattle.t1_cmd.specs.{Answers.{with_reason, if_there, MayRefuse, Prints}, Fonts.{font_reason, font_input, mended_input, file_answer}, Files.{value_before, values_from}}

@@ -1,7 +1,8 @@
 -- What fonts rejoin to where their files, or the inputs of an engine, are cuts of one font, as other programs make them.
 use Rattle.std.specs.{Prelude.{◌≡◌, ℕ, true, List, [], ◌∷◌, Option, Some, Result, Ok}, List.{AllByRecursion}}
 use Rattle.t1_bytes.specs.declared.form.Form.{Form}
-use Rattle.t1_font.specs.{FontValue.{FontValue}, IsFont.{IsFont}, Canon.{canon}, FontBoxes.{Box}, Renewing.{Renewed}}
+use Rattle.t1_font.specs.{FontValue.{FontValue}, IsFont.{IsFont}, Canon.{canon}, Renewing.{Renewed}}
+use Rattle.t1_text.specs.Boxes.{Box}
 use Rattle.t1_algebra.specs.{Keep.{has}, Alike.{DrawsAlike}, Laws.{AnswersAlike}, Rejoins.{Truncated, IsTruncated, GetBox, rejoined}}
 use Rattle.t1_cmd.specs.{declared.counting.Counted.{Counted}, declared.faults.RunFault.{RunFault}, Inputs.{Input}, Fonts.{mended_input}, Rejoins.{RejoinsTo}, WrittenSubsets.{Writes}}
 

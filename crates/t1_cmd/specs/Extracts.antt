@@ -1,7 +1,8 @@
 -- The font of a name, taken out of documents.
 use Rattle.std.specs.{Prelude.{◌≡◌, ℕ, ◌≤◌, List, length, Option, Some, None, Result, Ok, Err}, List.{find}, Str.{bytes_eq}}
 use Rattle.t1_bytes.specs.{declared.form.Form.TheVariants.{Pfa}, Limits.{file_limit}}
-use Rattle.t1_font.specs.{FontValue.{FontValue}, ReadFont.{read_font_widely}, FontTest.{untested_font}, Canon.{canon}}
+use Rattle.t1_font.specs.{FontValue.{FontValue}, ReadFont.{read_font_widely}, Canon.{canon}}
+use Rattle.t1_font.specs.UntestedFonts.{untested_font}
 use Rattle.t1_document.specs.{Documents.{Place}, Joins.{places_of_all}}
 use Rattle.t1_cmd.specs.{declared.faults.Reason.{Reason}, declared.faults.Reason.TheVariants.{NoFont}, Fonts.{of_mended, file_answer}}
 

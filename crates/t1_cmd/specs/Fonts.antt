@@ -1,7 +1,8 @@
 -- What the engines over one font read and write.
 use Rattle.std.specs.Prelude.{ℕ, List, Result, Ok}
 use Rattle.t1_bytes.specs.declared.form.Form.{Form}
-use Rattle.t1_font.specs.{declared.fault.ReadFault.{ReadFault}, FontValue.{FontValue}, ReadFont.{read_font, read_font_widely}, FontTest.{untested_font}, Canon.{canon}}
+use Rattle.t1_font.specs.{declared.fault.ReadFault.{ReadFault}, FontValue.{FontValue}, ReadFont.{read_font, read_font_widely}, Canon.{canon}}
+use Rattle.t1_font.specs.UntestedFonts.{untested_font}
 use Rattle.t1_cmd.specs.{declared.font_commands.Taking.{Taking}, declared.font_commands.Taking.TheVariants.{Spelled, Mended}, declared.faults.Reason.{Reason}}
 use Rattle.t1_cmd.specs.{declared.faults.Reason.TheVariants.{TooLong, Memory, Font}, Answers.{with_reason, within_limit, if_there}}
 use Rattle.t1_font.specs.declared.fault.ReadFault.TheVariants as faults

@@ -1,7 +1,8 @@
 -- What mended files are mended to, and rejoin to, and what is told of mending.
 use Rattle.std.specs.{Prelude.{◌≡◌, ℕ, List, [], ◌∷◌, ◌++◌, Result, Ok, IfOk}, List.{flat_map}}
 use Rattle.t1_bytes.specs.{declared.form.Form.{Form}, Laws.{AreBytes}}
-use Rattle.t1_font.specs.{FontValue.{FontValue}, declared.mend.Mend.{Mend}, Mends.{mends_of, mend_text}, FontTest.{untested_font}, IsFont.{IsFont}, Canon.{canon, Fits}}
+use Rattle.t1_font.specs.{FontValue.{FontValue}, declared.mend.Mend.{Mend}, Mends.{mends_of, mend_text}, IsFont.{IsFont}, Canon.{canon, Fits}}
+use Rattle.t1_font.specs.UntestedFonts.{untested_font}
 use Rattle.t1_cmd.specs.{declared.faults.Reason.{Reason}, Answers.{with_reason, within_limit, if_there}, Fonts.{font_reason, font_input, mended_input, of_mended, file_answer}, Files.{values_from}}
 
 -- ---- what is told

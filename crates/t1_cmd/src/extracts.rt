@@ -1,7 +1,8 @@
 //! The command `extract`: the font of a name, taken out of documents.
 ghost use Rattle.std.specs.{Prelude.{◌≡◌, map, Ok, IfOk, IfErr}, Option.{option_map}};
 ghost use Rattle.t1_bytes.specs.declared.form.Form.TheVariants.{Pfa};
-ghost use Rattle.t1_font.specs.{Canon.{canon}, FontTest.{untested_font}, ReadFont.{read_font_widely}};
+ghost use Rattle.t1_font.specs.{Canon.{canon}, ReadFont.{read_font_widely}};
+ghost use Rattle.t1_font.specs.UntestedFonts.{untested_font};
 ghost use Rattle.t1_subset.specs.NameSets.{lent};
 ghost use Rattle.t1_document.specs.{Views.{place_view}, Joins.{places_of_all}};
 ghost use Rattle.t1_cmd.specs.{Answers.{MayRefuse, with_reason}, Files.{OfFiles, RefusesFiles}, Fonts.{font_reason}, Mergers.{inputs_of, InTurns}};

@@ -7,10 +7,12 @@ use Rattle.std.specs.FinMap.{get-from_entries, same_map, nat_cmp-IsAntisymmetric
 use Rattle.t1_bytes.specs.Laws.{AreBytes}
 use Rattle.t1_join.{specs.Groupings.{one, from_left, leaves}, proofs.OrderLemmas.{leaves_from_left}}
 use Rattle.t1_font.specs.{declared.fault.ReadFault.{ReadFault}, FontValue.{FontValue, declared_count}, IsFont.{IsFont}, Cut.{stub}, Maps.{merged}, ReadFont.{read_font_widely}}
-use Rattle.t1_font.specs.FontBoxes.{Box, box_of, joined_box, can_have, font_with, boxes_of, boxed_by, boxed}
+use Rattle.t1_font.specs.FontBoxes.{box_of, can_have, font_with, boxes_of, boxed_by, boxed}
+use Rattle.t1_text.specs.Boxes.{Box, joined_box}
 use Rattle.t1_font.specs.Normalizing.{normal, stubs_at, below_count, with_stubs, filled, largest_count, indices_of_all, each_normal, normalized_shells, filled_all}
 use Rattle.t1_font.specs.FontNames.{named, normalized_named}
-use Rattle.t1_font.proofs.{normal_fonts.BoxOrder.{in_any_order}, normal_fonts.Filled.{find_stub}}
+use Rattle.t1_font.proofs.normal_fonts.Filled.{find_stub}
+use Rattle.t1_text.proofs.BoxOrder.{in_any_order}
 use Rattle.t1_algebra.specs.{Profile.{profile}, Lacks.{Lack, first_below, user_of, is_had, lack_in, lack_among, first_lack}, Searches.{found}, Merges.{ComesTo}}
 use Rattle.t1_algebra.proofs.{Fonts.{any_order_of_fonts}, ManyMerges.{each_font}}
 use Rattle.t1_subset.specs.Rejoins.{Rejoin}

@@ -6,8 +6,9 @@ use Rattle.t1_grammar.{specs.{Grammar.{Grammar, ◌>>◌, that, fixed, first, fi
 use Rattle.t1_bytes.specs.{declared.form.Form.TheVariants.{Pfa}, Cipher.{private_cipher}, FlatText.{starts_segment}, Eexec.{eexec_marker, hex_text}, Texts.{hex_lines, zero_lines}, Limits.{file_limit}}
 use Rattle.t1_bytes.proofs.HexLines.{zeros, hex_run}
 use Rattle.t1_font.specs.{FontValue.{FontValue}, IsFont.{IsFont}, Canon.{encoding_pieces, canon_clear, canon_private, canon}, Writing.{encoding_text}, ReadFont.{read_font, read_font_widely}}
-use Rattle.t1_font.specs.{Tags.{name_in}, Dialect.{strict, wide}}
-use Rattle.t1_font.proofs.{Spelled.{reads, reads_again}, Widely.{spells_widely}, canonical.LengthLemmas.{canon_short}, canonical.SplitWritten.{free_none}, canonical.Moves.{past_none}}
+use Rattle.t1_text.specs.{Tags.{name_in}, Dialect.{strict, wide}}
+use Rattle.t1_font.proofs.{Spelled.{reads, reads_again}, Widely.{spells_widely}, canonical.LengthLemmas.{canon_short}, canonical.SplitWritten.{free_none}}
+use Rattle.t1_text.proofs.Moves.{past_none}
 use Rattle.t1_font.proofs.canonical.RoundTrip.{run_before, marker_ends, digits_behind, read_before}
 use Rattle.t1_document.specs.{Fonts.{ends_with_c, font_shape, if_any, name_read, spelled_name, FontText, if_font, font_in, canon_text}, Marks.{has_mark}, Documents.{Place}}
 use Rattle.t1_document.specs.{Rewriting.{is_font, can_stand}, Laws.{HasHead}}

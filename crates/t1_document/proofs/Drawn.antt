@@ -6,10 +6,12 @@ use Rattle.t1_grammar.specs.Grammar.{first}
 use Rattle.t1_bytes.specs.Laws.{AreBytes}
 use Rattle.t1_font.specs.FontValue.{FontValue, Shell, SubrsShell, SparseArray, Encoding, Word, Codes, declared_count, count_limit, weight, weight_limit}
 use Rattle.t1_font.specs.{IsFont.{IsFont, SubrsFit}, Renewing.{Renewed, RenewedAndNamed}}
-use Rattle.t1_font.specs.{Encodings.{SameKind, join_encodings}, Words.{is_regular}, Rewriting.{parted}, Tags.{name_marker, name_in}, NormalTexts.{both_fit}, FontBoxes.{Box, joined_box, font_with}}
+use Rattle.t1_font.specs.{Encodings.{SameKind, join_encodings}, NormalTexts.{both_fit}, FontBoxes.{font_with}}
+use Rattle.t1_text.specs.{Words.{is_regular}, Rewriting.{parted}, Tags.{name_marker, name_in}, Boxes.{Box, joined_box}}
 use Rattle.t1_font.specs.{Filling.{AreLight}, Normalizing.{normal, filled, largest_count, indices_of_all, each_normal, normalized_shells, filled_all}}
 use Rattle.t1_font.specs.FontNames.{name_between, text_named, clear_named, font_named, can_be_named, named, normalized_named}
-use Rattle.t1_font.proofs.{ByteLemmas.{AreBytes-append, has_bytes}, read_fonts.ReadBytes.{bytes_left, bytes_right}, normal_fonts.Normalized.{normal_is_font, filled_is_font}}
+use Rattle.t1_font.proofs.{ByteLemmas.{has_bytes}, normal_fonts.Normalized.{normal_is_font, filled_is_font}}
+use Rattle.t1_text.proofs.Bytes.{AreBytes-append, bytes_left, bytes_right}
 use Rattle.t1_font.proofs.{normal_fonts.Boxes.{by_cases, boxed_are_fonts}, normal_fonts.BoxFonts.{fitting_is_font}, normal_fonts.Renewed.{name_renews, stay_renewed}}
 use Rattle.t1_join.{specs.Groupings.{Grouping, one, two, from_left, leaves}, proofs.OrderLemmas.{leaves_from_left, each_leaf}}
 use Rattle.t1_algebra.specs.{Keep.{has}, Profile.{profile}, Alike.{DrawsAlike}, States.{code_state, Agree, joined_option, Compatible, joined_font}, Groupings.{Merges}, Merges.{ComesTo, DrawsAll}}

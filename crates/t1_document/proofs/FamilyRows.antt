@@ -1,6 +1,6 @@
 -- Worked rows of families, computed.
 use Rattle.std.{proofs.Common.{◌≡◌, ℕ, List, [], ◌∷◌, ◌++◌, map, Some, None, refl}, specs.{Prelude.{codes, if◌then◌else◌}, Str.{bytes_eq}}}
-use Rattle.t1_font.specs.Tags.{tag, behind_tags}
+use Rattle.t1_text.specs.Tags.{tag, behind_tags}
 use Rattle.t1_document.specs.{declared.marks.Kind.TheVariants.{Font}, Documents.{Place}, Rewriting.{NewTexts, fated_bytes}, Families.{family, led_from, with_leaders, family_members, led_fate}}
 
 -- ---- families

@@ -4,7 +4,8 @@ use Rattle.std.proofs.{lemmas.List.{length-append, take-append-drop, take_at, dr
 use Rattle.std.specs.{Prelude.{codes}, Option.{option_and_then, option_map}}
 use Rattle.t1_grammar.specs.Grammar.{fixed}
 use Rattle.t1_bytes.{specs.FlatText.{starts_segment}, proofs.FlatTexts.{said_flat}}
-use Rattle.t1_font.specs.{declared.fault.ReadFault.{ReadFault}, declared.fault.ReadFault.TheVariants.{Memory}, Answers.{Refused}, FontValue.{FontValue}, ReadFont.{read_font_widely}, Tags.{name_in}}
+use Rattle.t1_font.specs.{declared.fault.ReadFault.{ReadFault}, declared.fault.ReadFault.TheVariants.{Memory}, Answers.{Refused}, FontValue.{FontValue}, ReadFont.{read_font_widely}}
+use Rattle.t1_text.specs.Tags.{name_in}
 use Rattle.t1_font.specs.Spelling.{SpellsWidely}
 use Rattle.t1_document.specs.Fonts.{font_shape, parted_at, if_any, name_read, spelled_name, is_memory, name_within, if_font, font_in, FontText}
 use Rattle.t1_bytes.specs.FlatText as files

@@ -3,8 +3,10 @@ use Rattle.std.proofs.{Common.{◌≡◌, ℕ, Bool, true, false, cond, refl, sy
 use Rattle.std.proofs.{lemmas.Option.{none-some, same_Some}, lemmas.Slice.Eq.{bytes_eq-Decides}, lemmas.List.{append-nil}}
 use Rattle.std.specs.{Prelude.{◌&&◌, not}, List.{AllByRecursion, flat_map, list_all}, Option.{option_and_then}, Str.{bytes_eq}}
 use Rattle.t1_bytes.specs.{Laws.{AreBytes}, FlatText.{starts_segment}}
-use Rattle.t1_font.specs.{declared.fault.ReadFault.{ReadFault}, FontValue.{FontValue}, IsFont.{IsFont}, Dialect.{wide}, ReadFont.{read_font_widely}, FontNames.{normalized_named}}
-use Rattle.t1_font.proofs.{ByteLemmas.{has_bytes}, read_fonts.ReadBytes.{bytes_left, bytes_right}, read_fonts.ReadFontLaws.{read_is_font}}
+use Rattle.t1_font.specs.{declared.fault.ReadFault.{ReadFault}, FontValue.{FontValue}, IsFont.{IsFont}, ReadFont.{read_font_widely}, FontNames.{normalized_named}}
+use Rattle.t1_text.specs.Dialect.{wide}
+use Rattle.t1_font.proofs.{ByteLemmas.{has_bytes}, read_fonts.ReadFontLaws.{read_is_font}}
+use Rattle.t1_text.proofs.Bytes.{bytes_left, bytes_right}
 use Rattle.t1_document.specs.{declared.joins.Outcome.{Outcome}, declared.joins.Outcome.TheVariants.{Same, Joined, Stays}, Fonts.{FontText, font_in, canon_text}, Marks.{has_mark}}
 use Rattle.t1_document.specs.{Documents.{Place, place_bytes, document_of}, Rewriting.{is_font, can_stand}}
 use Rattle.t1_document.specs.{Joins.{places_of_all, places_under, fonts_of_places, with_font, text_for_places, ComeTo, OfPlaces, OfFonts, OfNormalized, IsSame}, Laws.{SpellsPlace}}

@@ -4,8 +4,10 @@ use Rattle.std.proofs.{lemmas.Bool.{cases_Bool, true≢false, or_parts}, lemmas.
 use Rattle.std.specs.{Prelude.{◌&&◌, ◌||◌, codes}, List.{AllByRecursion, list_all, list_any}, Option.{option_map, option_and_then}, Str.{bytes_eq}}
 use Rattle.t1_grammar.specs.{Grammar.{fixed}, Places.{occurs}}
 use Rattle.t1_bytes.specs.{White.{has_bytes}, Laws.{AreBytes}}
-use Rattle.t1_font.specs.{declared.fault.ReadFault.{ReadFault}, FontValue.{FontValue}, ReadFont.{read_font_widely}, Tags.{untagged}}
-use Rattle.t1_font.proofs.{read_fonts.ReadBytes.{bytes_right}, normal_fonts.TagLemmas.{ends_untagged}, canonical.EntriesWritten.{fixed_read}}
+use Rattle.t1_font.specs.{declared.fault.ReadFault.{ReadFault}, FontValue.{FontValue}, ReadFont.{read_font_widely}}
+use Rattle.t1_text.specs.Tags.{untagged}
+use Rattle.t1_font.proofs.canonical.EntriesWritten.{fixed_read}
+use Rattle.t1_text.proofs.{Bytes.{bytes_right}, TagLemmas.{ends_untagged}}
 use Rattle.t1_document.specs.{declared.pooling.Key.{Key}, declared.pooling.Key.TheVariants.{Name, Family}, Fonts.{font_in}, Marks.{has_mark}}
 use Rattle.t1_document.specs.{Documents.{Place, document_of}, Rewriting.{NewTexts, is_seen}, Joins.{Outcomes, AreOutcomes, names_from, new_texts, places_under}, JoinLaws.{FontStaysIn}}
 use Rattle.t1_document.specs.Pooling.{own_start, start_from, free_start, key_of, under_key, keyed, places_by, Entry, behind_text, leaves, is_so, clashes, named_by, if_clear, entry_name, takes_line}

@@ -1,7 +1,7 @@
 -- Worked rows of pooling, computed.
 use Rattle.std.{proofs.Common.{◌≡◌, ℕ, true, false, List, [], ◌∷◌, ◌++◌, Some, None, refl}, specs.{Prelude.{codes, if◌then◌else◌}, Str.{bytes_eq}}}
 use Rattle.t1_grammar.specs.Grammar.{first_at}
-use Rattle.t1_font.specs.Tags.{tag, behind_tags}
+use Rattle.t1_text.specs.Tags.{tag, behind_tags}
 use Rattle.t1_document.specs.{declared.marks.Kind.TheVariants.{Font}, declared.pooling.Key.TheVariants.{Family}, Documents.{Place}, Rewriting.{NewTexts, fated_bytes}}
 use Rattle.t1_document.specs.Pooling.{start_from, free_start, leaves, is_so, clashes, line_end, place_line, entry_bytes, prolog, line_fates}
 

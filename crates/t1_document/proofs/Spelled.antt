@@ -3,7 +3,8 @@ use Rattle.std.proofs.{Common.{◌≡◌, ℕ, true, List, [], ◌∷◌, ◌++�
 use Rattle.std.proofs.lemmas.Option.{none-some, option_and_then_some, cond_some}
 use Rattle.std.specs.List.{AllByRecursion}
 use Rattle.t1_bytes.specs.White.{has_bytes}
-use Rattle.t1_font.specs.{declared.fault.ReadFault.{ReadFault}, FontValue.{FontValue}, ReadFont.{read_font_widely}, Tags.{name_in}}
+use Rattle.t1_font.specs.{declared.fault.ReadFault.{ReadFault}, FontValue.{FontValue}, ReadFont.{read_font_widely}}
+use Rattle.t1_text.specs.Tags.{name_in}
 use Rattle.t1_document.specs.{declared.marks.Open.{Open}, declared.marks.Mark.{Mark}, Stretches.{Stretch, stretches}, Fonts.{if_any, name_read, spelled_name}}
 use Rattle.t1_document.specs.{Documents.{Place, Document, none_open, open_behind, next_mark, place_at, behind_bytes, at_stretch, document_from, document_of}, Laws.{SpellsPlace}}
 use Rattle.t1_document.proofs.{FontLemmas.{font_stands}, PlaceLemmas.{is_place}}

@@ -3,7 +3,7 @@
 use Rattle.std.specs.{Prelude.{ℕ, ◌==◌, ◌&&◌, ◌||◌, not, Bool, false, List, [], ◌∷◌, ◌++◌, map, codes, Option, Some, None, if◌then◌else◌}, List.{list_any, find}, Option.{option_and_then, option_map}}
 use Rattle.std.specs.Str.{bytes_eq}
 use Rattle.t1_bytes.specs.White.{has_bytes}
-use Rattle.t1_font.specs.Tags.{untagged}
+use Rattle.t1_text.specs.Tags.{untagged}
 use Rattle.t1_document.specs.{Documents.{Place, Document}, Rewriting.{NewTexts, is_seen, Fate, Stays, Becomes, Gives, fated}}
 
 -- a name without the tags that it begins with, or the name itself where nothing would be left

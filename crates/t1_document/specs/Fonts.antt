@@ -3,7 +3,7 @@ use Rattle.std.specs.{Prelude.{ℕ, ◌-◌, ◌==◌, Bool, true, false, List, 
 use Rattle.t1_grammar.specs.Grammar.{Grammar, ◌>>◌, that, fixed, first}
 use Rattle.t1_bytes.specs.{White.{has_bytes}, Cipher.{private_cipher}, Texts.{hex_lines, zero_lines}, Eexec.{eexec_marker, hex_text}}
 use Rattle.t1_font.specs.{declared.fault.ReadFault.{ReadFault}, declared.fault.ReadFault.TheVariants.{Memory}, FontValue.{FontValue}, Canon.{canon_clear, canon_private}, ReadFont.{read_font_widely}}
-use Rattle.t1_font.specs.Tags.{name_in}
+use Rattle.t1_text.specs.Tags.{name_in}
 
 -- ---- where it ends
 

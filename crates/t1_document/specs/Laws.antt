@@ -1,6 +1,7 @@
 -- The laws of documents, each the contract of a function in `laws`.
 use Rattle.std.specs.{Prelude.{◌≡◌, ◌⊎◌, ◌<◌, ℕ, List, [], ◌∷◌, ◌++◌, codes, not, length, map, true, false, Some, None, Ok}, List.{AllByRecursion}}
-use Rattle.t1_font.specs.{FontValue.{FontValue}, IsFont.{IsFont}, Canon.{canon}, ReadFont.{read_font_widely}, Tags.{name_in}}
+use Rattle.t1_font.specs.{FontValue.{FontValue}, IsFont.{IsFont}, Canon.{canon}, ReadFont.{read_font_widely}}
+use Rattle.t1_text.specs.Tags.{name_in}
 use Rattle.t1_bytes.specs.declared.form.Form.TheVariants.{Pfa}
 use Rattle.t1_document.specs.{declared.rewriting.Way.{Way}, declared.rewriting.Way.TheVariants.{Level, Pool}, Lines.{breaks}, Stretches.{Stretches, stretches, stretches_text, mark_lines, AreThose}}
 use Rattle.t1_document.specs.{Marks.{has_mark}, Fonts.{font_in, canon_text}, Documents.{Place, Document, document_bytes, document_of, IsClosed, followed}}

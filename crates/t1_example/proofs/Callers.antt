@@ -4,7 +4,7 @@ use Rattle.std.proofs.lemmas.Bool.{or_left, or_right, not_from_true}
 use Rattle.std.specs.{Cmp.Lexicographic.{nat_list_cmp_total}, List.{list_any, find}, Ordering.{eq_by_cmp}}
 use Rattle.t1_bytes.specs.{declared.form.Form.{Form}, declared.form.Form.TheVariants.{Pfa, Pfb}}
 use Rattle.t1_font.specs.{declared.fault.ReadFault.{ReadFault}, Answers.{Refused}, Canon.{canon, Fits}, FontValue.{FontValue, name_cmp}, IsFont.{IsFont}, ReadFont.{read_font}, Spelling.{Spells}}
-use Rattle.t1_font.specs.Dialect.{strict}
+use Rattle.t1_text.specs.Dialect.{strict}
 use Rattle.t1_font.proofs.{Spelled.{reads_again, one_font}, canonical.RoundTrip.{round_trip}}
 use Rattle.t1_subset.specs.{declared.fault.SubsetFault.{SubsetFault}, Refusals.{Absent}, declared.conflict.Conflict.{Conflict}, Merger.{MergesSubsets}}
 use Rattle.t1_algebra.specs.{Interpreter.{Names}, Keep.{has, keep, subset, IsOf}, Laws.{AnswersAlike}, Profile.{profile}}

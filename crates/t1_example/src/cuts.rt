@@ -1,7 +1,8 @@
 //! The work of a tool that joins documents whose fonts other programs cut.
 
 ghost use Rattle.std.specs.Prelude.{◌≡◌, ◌∷◌, [], Option, None, Ok, IfOk, MatchResult};
-ghost use Rattle.t1_font.specs.{Canon.{canon}, FontValue.{FontValue}, IsFont.{IsFont}, FontBoxes.{Box}};
+ghost use Rattle.t1_font.specs.{Canon.{canon}, FontValue.{FontValue}, IsFont.{IsFont}};
+ghost use Rattle.t1_text.specs.Boxes.{Box};
 ghost use Rattle.t1_algebra.specs.Rejoins.{Truncated, GetBox, rejoined};
 ghost use Rattle.t1_cmd.specs.{Fonts.{mended_input}, Cuts.{IsCutFile, AllDrawIn}};
 

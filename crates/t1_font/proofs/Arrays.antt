@@ -2,7 +2,8 @@
 use Rattle.std.proofs.{Common.{◌≡◌, ℕ, zero, suc, ◌+◌, ◌-◌, ◌<◌, ◌≤◌, List, [], ◌∷◌, ◌++◌, length, Some, None, Ok, Err, sym, ap, subst, ◌∙◌, arith}, lemmas.List.{length-append}}
 use Rattle.std.specs.{FinMap.{insert}, Ordering.{nat_cmp}}
 use Rattle.t1_grammar.specs.{Tables.{with_front, counted_at}, CountedLaws.{counted_turn, counted_stops, counted_closes, counted_unclosed}}
-use Rattle.t1_font.specs.{declared.dialect.Spacing.{Spacing}, Words.{next_name}, Encoding.{code_count, array_end, from_code}, Entries.{map_of}, FontValue.{SparseArray}}
+use Rattle.t1_font.specs.FontValue.{SparseArray}
+use Rattle.t1_text.specs.{declared.dialect.Spacing.{Spacing}, Words.{next_name}, Encoding.{code_count, array_end, from_code}, Entries.{map_of}}
 use Rattle.t1_font.proofs.HeldLemmas.{one_code_more}
 
 -- the names of the codes below this one are held, before those that are left

@@ -5,9 +5,10 @@ use Rattle.std.proofs.{lemmas.Slice.{drop-append-drop}, lemmas.List.Elements.{Al
 use Rattle.std.specs.{declared.cmp.Ordering.{Ordering}, Cmp.{IsTotalOrder}, FinMap.{IsAntisymmetric}}
 use Rattle.t1_bytes.{specs.Cipher.{decrypted, plain_of}, proofs.Ciphers.{length-decrypted}}
 use Rattle.t1_join.specs.Entries.{entries_by}
-use Rattle.t1_font.specs.{declared.ranges.Range.{Range}, declared.places.Place.{Place}, Places.{ending, bytes_at_place}, Entries.{map_of}}
+use Rattle.t1_font.specs.declared.ranges.Range.{Range}
+use Rattle.t1_text.specs.{declared.places.Place.{Place}, Places.{ending, bytes_at_place}, Entries.{map_of}}
 use Rattle.t1_font.specs.Ranges.{bytes_at, IsInside, AllInside, NamesInside, named_at}
-use Rattle.t1_font.proofs.MapLaws.{map_of-append}
+use Rattle.t1_text.proofs.MapLaws.{map_of-append}
 use Rattle.std.specs.FinMap as fin
 
 -- a longer buffer has the same bytes in the same ranges

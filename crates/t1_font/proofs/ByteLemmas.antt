@@ -5,15 +5,13 @@ use Rattle.std.specs.{Prelude.{codes, ◌==◌}, Ordering.{nat_cmp}, Fmt.{decima
 use Rattle.std.specs.{Cmp.{nat_cmp_total}, Cmp.Lexicographic.{nat_list_cmp_total}, FinMap.{get, find, entries, get-entries, nat_cmp-IsAntisymmetric}}
 use Rattle.t1_bytes.specs.{declared.form.Form.{Form}, declared.form.Form.TheVariants.{Pfa, Pfb}, Cipher.{private_cipher}, Texts.{segment_text, hex_byte, hex_rest, hex_lines, trailer}, Laws.{AreBytes}}
 use Rattle.t1_bytes.proofs.Ciphers.{sealed_bytes}
-use Rattle.t1_font.specs.{FontValue.{FontValue, Shell, SubrsShell, Encoding, Word, Codes, SparseArray}, Entry.{Body}}
+use Rattle.t1_font.specs.FontValue.{FontValue, Shell, SubrsShell, Encoding, Word, Codes, SparseArray}
+use Rattle.t1_text.specs.Entry.{Body}
 use Rattle.t1_font.specs.Canon.{sealed_body, sealed_entry, subr_entry, glyph_entry, subrs_pieces, encoding_pieces, canon_clear, canon_private, canon}
 use Rattle.t1_font.specs.Writing.{body_text, entry_text, entries_text, index_text, subrs_text, subrs_part, name_text, glyphs_text, glyphs_part, puts_text, encoding_text}
 use Rattle.t1_font.specs.IsFont.{IsFont, IsEncoding, SubrsFit, SubrWords, EncodingBytes, SubrsBytes, HasBytes}
 use Rattle.t1_font.proofs.{MapLemmas.{Some_None, entries_all}, canonical.FontAgain.{name_same}}
-
-pub AreBytes-append : (a b : List ℕ) → AreBytes a → AreBytes b → AreBytes (a ++ b)
-AreBytes-append [] b h k = k
-AreBytes-append (x ∷ a) b h k = (h.0, AreBytes-append a b h.1 k)
+use Rattle.t1_text.proofs.Bytes.{AreBytes-append}
 
 -- each of these is below 256
 abbrev pub are_small : List ℕ → Bool

@@ -1,9 +1,11 @@
 -- What the entries of an Encoding put, copies among them.
 use Rattle.std.proofs.{Common.{◌≡◌, ℕ, zero, suc, List, [], ◌∷◌, ◌++◌, refl, sym, ap, ◌∙◌, append_assoc}, lemmas.List.{append-nil}}
 use Rattle.std.specs.{Prelude.{map, unwrap_or}, Ordering.{nat_cmp}, Cmp.{nat_cmp_total}, FinSet.{nat_cmp-IsAntisymmetric}, FinMap.{insert}}
-use Rattle.t1_font.specs.{FontValue.{SparseArray, notdef}, Encoding.{CodeEntry, Put, Copy, name_after, copied, put_by, puts_after, puts_of}, Entries.{map_of}}
+use Rattle.t1_font.specs.FontValue.{SparseArray, notdef}
+use Rattle.t1_text.specs.{Encoding.{CodeEntry, Put, Copy, name_after, copied, put_by, puts_after, puts_of}, Entries.{map_of}}
 use Rattle.t1_font.specs.Gathering.{gathered_name, copied_names, named_from, kept_by}
-use Rattle.t1_font.proofs.{MapLaws.{get-map_of}, HeldLemmas.{one_code_more}}
+use Rattle.t1_font.proofs.HeldLemmas.{one_code_more}
+use Rattle.t1_text.proofs.MapLaws.{get-map_of}
 
 -- ---- entries in turn
 

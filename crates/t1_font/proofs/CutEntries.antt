@@ -3,8 +3,10 @@ use Rattle.std.proofs.Common.{◌≡◌, ℕ, Ordering, Bool, cond, List, [], �
 use Rattle.std.specs.{Prelude.{filter}, List.{AllByRecursion}, Ordering.{is_eq}, Cmp.{IsTotalOrder}, FinSet.{IsAntisymmetric}}
 use Rattle.std.specs.{FinMap.{FinMap, get, entries, entries_sorted, retain_keys, get-entries, same_map}, FinMap.Entries.{same_entries, is_sorted-where_key, find-where_key}}
 use Rattle.t1_grammar.specs.Grammar.{choice}
-use Rattle.t1_font.specs.{Entries.{last_entries, last_value, map_of}, Maps.{merged}}
-use Rattle.t1_font.proofs.{MapLaws.{get-map_of, entries-map_of}, MapLemmas.{joined, get-merged, get-retain, entries_all}, canonical.FontAgain.{last_again}}
+use Rattle.t1_font.specs.Maps.{merged}
+use Rattle.t1_text.specs.Entries.{last_entries, last_value, map_of}
+use Rattle.t1_font.proofs.{MapLemmas.{joined, get-merged, get-retain, entries_all}, canonical.FontAgain.{last_again}}
+use Rattle.t1_text.proofs.MapLaws.{get-map_of, entries-map_of}
 
 module _ {K : Type 0} {R : K → K → Ordering} (o : IsTotalOrder R) (same : IsAntisymmetric R) where
   module _ {X : Type 0} where

@@ -3,8 +3,10 @@ use Rattle.std.proofs.{Common.{◌≡◌, ℕ, Ordering, Bool, true, false, cond
 use Rattle.std.specs.{List.{list_any}, Ordering.{is_eq, eq_by_cmp}, Cmp.{IsTotalOrder, Equal-is}, Cmp.Lexicographic.{nat_list_cmp_total}, FinSet.{IsAntisymmetric}}
 use Rattle.std.specs.FinMap.{FinMap, get, empty, contains_key, same_map, retain_keys}
 use Rattle.t1_grammar.specs.Grammar.{choice}
-use Rattle.t1_font.specs.{Entries.{map_of, last_value}, FontValue.{FontValue}, Cut.{stub, restrict_encoding, restrict}, Maps.{put_all_into, entry_of, map_values}}
-use Rattle.t1_font.proofs.{MapLaws.{map_of-append, map_of-nil, get-map_of}, MapLemmas.{is_or_not, get-retain}, canonical.FontAgain.{name_same}}
+use Rattle.t1_font.specs.{FontValue.{FontValue}, Cut.{stub, restrict_encoding, restrict}, Maps.{put_all_into, entry_of, map_values}}
+use Rattle.t1_text.specs.Entries.{map_of, last_value}
+use Rattle.t1_font.proofs.{MapLemmas.{is_or_not, get-retain}, canonical.FontAgain.{name_same}}
+use Rattle.t1_text.proofs.MapLaws.{map_of-append, map_of-nil, get-map_of}
 use Rattle.std.specs.FinSet as sets
 
 -- the entries of these keys in a map

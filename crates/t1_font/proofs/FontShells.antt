@@ -7,8 +7,9 @@ use Rattle.std.specs.FinMap.{nat_cmp-IsAntisymmetric, slice_cmp-IsAntisymmetric,
 use Rattle.t1_bytes.specs.Laws.{AreBytes}
 use Rattle.t1_font.specs.FontValue.{FontValue, Shell, SubrsShell, SparseArray, Encoding, Word, Codes, declared_count, notdef, count_limit, weight, weight_limit}
 use Rattle.t1_font.specs.FontModel.{word_of, encoding_by, of_subrs}
-use Rattle.t1_font.specs.IsFont.{IsFont, IsWord, IsPhrase, IsCharstring, IsClearShell, IsPrivateShell, AreTexts, IsEncoding, IsCode, SubrWords, SubrsFit}
-use Rattle.t1_font.specs.{FontShells.{IsShellOfFont, CodesFit}, Joins.{IsOverLimits}, Filling.{has_none}, Words.{is_regular, word_limit, name_limit}}
+use Rattle.t1_font.specs.IsFont.{IsFont, IsClearShell, IsPrivateShell, AreTexts, IsEncoding, IsCode, SubrWords, SubrsFit}
+use Rattle.t1_text.specs.{FontWords.{IsWord, IsPhrase, IsCharstring}, Words.{is_regular, word_limit, name_limit}}
+use Rattle.t1_font.specs.{FontShells.{IsShellOfFont, CodesFit}, Joins.{IsOverLimits}, Filling.{has_none}}
 use Rattle.t1_font.proofs.{MapLemmas.{is_or_not, Some_same, Some_None, entries_all}, EachEntry.{each_value}}
 
 -- ---- names

@@ -1,7 +1,8 @@
 -- The font of the pieces that were read, and why there is none.
 use Rattle.std.{proofs.Common.{◌≡◌, ℕ, ◌≤◌, ◌<◌, Bool, true, false, Option, Some, None, Ok, Err, refl, sym, ap, subst, ◌∙◌, arith}, specs.{Ordering.{nat_cmp}, FinMap.{len}, Option.{option_map}}}
 use Rattle.t1_font.specs.{declared.subrs.SubrsParts.{SubrsParts}, declared.private.PrivateParts.{PrivateParts}, declared.fault.ReadFault.TheVariants.{NoNotdef, Limit}}
-use Rattle.t1_font.specs.{FontValue.{FontValue, name_cmp, FitsLimits, weight, declared_count, count_limit, weight_limit}, FontModel.{clamp}, Entries.{last_entries}, Gathering.{Entries}}
+use Rattle.t1_font.specs.{FontValue.{FontValue, name_cmp, FitsLimits, weight, declared_count, count_limit, weight_limit}, FontModel.{clamp}, Gathering.{Entries}}
+use Rattle.t1_text.specs.Entries.{last_entries}
 use Rattle.t1_font.specs.{Pieces.{ClearPieces, SubrsPieces, PrivatePieces}, ReadFont.{subrs_shell, shell_of, font_of, subr_entries, glyph_entries, is_within, font_from}}
 use Rattle.t1_font.specs.Answers.{ShowsSubrs, ShowsPrivate, declared_in}
 use Rattle.t1_font.proofs.ValueLaws.{within_of, within_again}

@@ -4,9 +4,9 @@ use Rattle.std.specs.{Prelude.{unwrap_or, filter}, Str.{bytes_eq}, Ordering.{nat
 use Rattle.std.specs.{FinSet.{IsAntisymmetric, slice_cmp-IsAntisymmetric, nat_cmp-IsAntisymmetric}, FinMap.{FinMap, insert, empty, from_sorted}}
 use Rattle.t1_bytes.specs.Cipher.{plain_of}
 use Rattle.t1_font.specs.FontValue.{SparseArray, CharStrings, name_cmp, notdef}
-use Rattle.t1_font.specs.{Entries.{map_of, names_of, has_name}, Entry.{Entry, plain_entries}, Subrs.{Subr}, Glyphs.{Glyph}}
+use Rattle.t1_text.specs.{Entries.{map_of, names_of, has_name}, Entry.{Entry, plain_entries}, Subrs.{Subr}, Glyphs.{Glyph}}
 use Rattle.t1_font.specs.{Held.{first_words, HoldsSubrs, HoldsGlyphs, names_notdef}, Gathering.{without_notdef}}
-use Rattle.t1_font.proofs.MapLaws.{map_of-append, map_of-nil, entries-map_of}
+use Rattle.t1_text.proofs.MapLaws.{map_of-append, map_of-nil, entries-map_of}
 
 -- no Subrs are held at first
 pub none_numbered : empty ≡ map_of {R = nat_cmp} []

@@ -3,9 +3,10 @@ use Rattle.std.proofs.Common.{◌≡◌, ℕ, ◌≤◌, Ordering, Bool, true, f
 use Rattle.std.proofs.{lemmas.Slice.Eq.{bytes_eq-Decides}, lemmas.Bool.{leb-true}}
 use Rattle.std.specs.{Option.{option_map}, Str.{bytes_eq}, Ordering.{nat_cmp}, Cmp.{IsTotalOrder, nat_cmp_total}}
 use Rattle.std.specs.{FinMap.{FinMap, find, get, get-entries, entries, len, len-entries, retain_keys, IsAntisymmetric, nat_cmp-IsAntisymmetric}, Cmp.Lexicographic.{nat_list_cmp_total}}
-use Rattle.t1_font.specs.{FontValue.{FontValue, Shell, SubrsShell, Encoding, Word, Codes, SparseArray, notdef, total, subr_weight, glyph_weight, weight, count_limit, weight_limit}, Markers.{len_iv}}
+use Rattle.t1_font.specs.FontValue.{FontValue, Shell, SubrsShell, Encoding, Word, Codes, SparseArray, notdef, total, subr_weight, glyph_weight, weight, count_limit, weight_limit}
+use Rattle.t1_text.specs.{Markers.{len_iv}, FontWords.{IsWord, IsCharstring}}
 use Rattle.t1_font.specs.{Pieces.{iv_of}, Spelling.{IsLenIV, said, unsaid}, Cut.{stub, restrict, restrict_encoding}, Maps.{map_values, merged}, Joins.{joined_subr, join_parts}}
-use Rattle.t1_font.specs.{Encodings.{join_encodings, SameKind}, IsFont.{IsFont, IsWord, IsCharstring, SubrsFit, SubrWords, AreGlyphs, IsCode, IsEncoding}}
+use Rattle.t1_font.specs.{Encodings.{join_encodings, SameKind}, IsFont.{IsFont, SubrsFit, SubrWords, AreGlyphs, IsCode, IsEncoding}}
 use Rattle.t1_font.proofs.{MapLemmas.{get-map_values, entries-map_values, get-retain, get-merged, total-le, length_total, joined, Some_same, Some_None}, Spelled.{iv_is}}
 use Rattle.t1_font.proofs.canonical.FontAgain.{name_same}
 

@@ -8,7 +8,9 @@ use Rattle.std.specs.{declared.cmp.Ordering.TheVariants.{Less, Equal, Greater}, 
 use Rattle.std.specs.Map.{keys_of}
 use Rattle.t1_grammar.specs.Grammar.{choice}
 use Rattle.t1_join.{specs.{Entries.{entries_by}, TableMeaning.{Rises}}, proofs.TreeEntries.{sorted_entries}}
-use Rattle.t1_font.{specs.Entries.{comes_again, run_end, run_ends, KeysRise, AreLast, AreSettled, last_value, map_of}, proofs.{MapLaws.{get-map_of, choice-none}, canonical.FontAgain.{map_again}}}
+use Rattle.t1_font.proofs.canonical.FontAgain.{map_again}
+use Rattle.t1_text.specs.Entries.{comes_again, run_end, run_ends, KeysRise, AreLast, AreSettled, last_value, map_of}
+use Rattle.t1_text.proofs.MapLaws.{get-map_of, choice-none}
 use Rattle.std.specs.FinMap as fin
 
 -- ---- the last of a list

@@ -1,12 +1,8 @@
 mod Sealings
-pub mod WordLemmas
-pub mod MarkerLemmas
 pub mod Lasts
 pub mod PartsOfOne
-pub mod MapLaws
 pub mod Buffers
 pub mod Drains
-pub mod TableLoops
 pub mod HeldLemmas
 pub mod Copies
 pub mod CodeTables
@@ -25,20 +21,17 @@ pub mod canonical
 pub mod ValueLaws
 pub mod Spelled
 pub mod Reasoned
-pub mod PlaceLemmas
 pub mod MapLemmas
 pub mod ByteLemmas
 pub mod Kept
 pub mod read_fonts
 pub mod Widely
 pub mod Mended
-pub mod rows
 pub mod CutEntries
 pub mod CutLoops
 pub mod LentTables
 pub mod FilledTables
 pub mod normal_fonts
-pub mod Untested
-pub mod FontTests
-pub mod Differing
+pub mod UntestedFonts
 mod Presorted
+mod NormalRows

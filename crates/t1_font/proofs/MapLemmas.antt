@@ -4,7 +4,8 @@ use Rattle.std.proofs.Common.{option_map, Ordering, Less, Equal, Greater, is_eq,
 use Rattle.std.specs.{Ordering.{eq_by_cmp, ordering_reverse}, Cmp.{IsTotalOrder, first_so, second_so, tied_itself, Equal-is}}
 use Rattle.std.specs.{FinMap.{FinMap, get, entries, entries_sorted, retain_keys, find, is_sorted, get-from_entries, entries-from_sorted, get-entries, get-retain_keys}, FinSet.{IsAntisymmetric}}
 use Rattle.std.specs.{FinMap.Entries.{below_all}, List.{AllByRecursion}}
-use Rattle.t1_font.specs.{Maps.{map_values, merged}, FontValue.{total}, Entries.{last_value}}
+use Rattle.t1_font.specs.{Maps.{map_values, merged}, FontValue.{total}}
+use Rattle.t1_text.specs.Entries.{last_value}
 use Rattle.t1_grammar.specs.Grammar.{choice}
 
 and_so : (a b : Bool) → a ≡ true → b ≡ true → (a && b) ≡ true

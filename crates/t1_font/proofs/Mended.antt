@@ -1,11 +1,14 @@
 -- Which rules a file needs that spells a font widely.
 use Rattle.std.proofs.Common.{◌≡◌, ℕ, ◌<◌, arith, Bool, true, false, cond, if◌then◌else◌, List, [], ◌∷◌, ◌++◌, length, Option, Some, None, Result, Ok, Err, refl, sym, ap, subst, ◌∙◌}
 use Rattle.std.proofs.lemmas.List.{append-nil, length-append, length-drop}
-use Rattle.t1_font.specs.{declared.fault.ReadFault.{ReadFault}, declared.dialect.Dialect.{Dialect}, declared.dialect.Rule.{Rule}}
-use Rattle.t1_font.specs.{declared.dialect.Rule.TheVariants.{EncodingComments, CopiedCodes, ReadonlyWord, SubrsComments}, declared.mend.Mend.{Mend}, Dialect.{strict, wide, without}}
+use Rattle.t1_font.specs.declared.fault.ReadFault.{ReadFault}
+use Rattle.t1_text.specs.{declared.dialect.Dialect.{Dialect}, declared.dialect.Rule.{Rule}, declared.dialect.Rule.TheVariants.{EncodingComments, CopiedCodes, ReadonlyWord, SubrsComments}}
+use Rattle.t1_text.specs.{Dialect.{strict, wide, without}, FontTest.{found_test, around, is_untested, tested_head, untested, place_taken, taken_test}}
+use Rattle.t1_font.specs.declared.mend.Mend.{Mend}
 use Rattle.t1_font.specs.{FontValue.{FontValue}, ReadFont.{font_file, read_font}, Spelling.{Spells, SpellsWidely}}
-use Rattle.t1_font.specs.{FontTest.{found_test, around, is_untested, tested_head, untested, place_taken, taken_test}, Mends.{place_of, mend_by, by_reading, needed, all_rules, mends_by_rules}}
-use Rattle.t1_font.proofs.{Spelled.{reads, reads_again, one_font}, Widely.{spells_widely}, MapLemmas.{Some_None}, Untested.{Around, around_found, begins_test}}
+use Rattle.t1_font.specs.Mends.{place_of, mend_by, by_reading, needed, all_rules, mends_by_rules}
+use Rattle.t1_font.proofs.{Spelled.{reads, reads_again, one_font}, Widely.{spells_widely}, MapLemmas.{Some_None}}
+use Rattle.t1_text.proofs.Untested.{Around, around_found, begins_test}
 
 module _ (file : List ℕ) (d : Dialect) (r : Rule) where
   -- a rule that isn't needed has no mend

@@ -4,11 +4,11 @@ use Rattle.std.proofs.lemmas.{Bool.{cases_Bool, ltb-true, ltb-false, lt-ltb, le-
 use Rattle.t1_grammar.specs.{Grammar.{first, first_at, AtFront, Has, Lacks, front_again}, Places.{lacks_unread, occurs, occurs_has, absent_lacks}, Formats.{MayOccur, occurs_takes}}
 use Rattle.t1_bytes.specs.{declared.fault.BytesFault.{BytesFault}, Cipher.{private_text}, Limits.{file_limit}, FlatText.{IsFlat, IsBad}, Split.{SplitFails}}
 use Rattle.t1_bytes.proofs.{FlatTexts.{flat_said, said_flat, bad_said, said_bad}, Splits.{said_split, fails_said, said_fails}}
-use Rattle.t1_font.specs.{declared.dialect.Spacing.{Spacing}, declared.dialect.Spacing.TheVariants.{White, Comments}, declared.dialect.Dialect.{Dialect}, Dialect.{white_in, white_and_comments}}
-use Rattle.t1_font.specs.{declared.fault.ReadFault.{ReadFault}, Faults.{left_after_white, behind}, Glyphs.{Glyph}}
+use Rattle.t1_text.specs.{declared.dialect.Spacing.{Spacing}, declared.dialect.Spacing.TheVariants.{White, Comments}, declared.dialect.Dialect.{Dialect}, Dialect.{white_in, white_and_comments}}
+use Rattle.t1_text.specs.{Glyphs.{Glyph}, Encoding.{Whole, OpensPuts, OpensNames}, Markers.{encoding_marker, subrs_marker, chars_marker, closefile}}
+use Rattle.t1_font.specs.{declared.fault.ReadFault.{ReadFault}, Faults.{left_after_white, behind}}
 use Rattle.t1_font.specs.declared.fault.ReadFault.TheVariants.{TooLong, BadSegment, NoEexec, ShortCipher, NoEncoding, BadEncoding, NoCharStrings, BadLenIV, BadSubrs, BadGlyphs, Hybrid, NoClosefile}
-use Rattle.t1_font.specs.{declared.fault.ReadFault.TheVariants.{NoNotdef, Limit, Memory}, Encoding.{Whole, OpensPuts, OpensNames}}
-use Rattle.t1_font.specs.Markers.{encoding_marker, subrs_marker, chars_marker, closefile}
+use Rattle.t1_font.specs.declared.fault.ReadFault.TheVariants.{NoNotdef, Limit, Memory}
 use Rattle.t1_font.specs.Pieces.{FlatPieces, ClearPieces, SubrsPieces, PrivatePieces, flat_pieces, encoding_from, clear_pieces, iv_at, iv_of, through, tail_after, glyphs_from}
 use Rattle.t1_font.specs.{Pieces.{tables_from, private_pieces}, FontValue.{notdef, FitsLimits}, ReadFont.{font_of, flat_reading, font_from, font_texts, font_file}}
 use Rattle.t1_font.specs.Spelling.{IsClear, IsLenIV, nowhere, later, Start, SpellsTables, HasTables, HasGlyphs, HasTexts, HasPieces}

@@ -4,8 +4,8 @@ use Rattle.std.proofs.lemmas.Bool.{cases_Bool, ltb-true, ltb-false, lt-ltb, le-l
 use Rattle.t1_grammar.specs.{Grammar.{first, AtFront, Lacks, front_again}, Tables.{TableAt}, Formats.{MayOccur, occurs_again, one_value}}
 use Rattle.t1_bytes.specs.{Cipher.{decrypted, private_text}, Limits.{file_limit}, FlatText.{IsFlat}}
 use Rattle.t1_bytes.proofs.{FlatTexts.{flat_said, said_flat}, Splits.{split_said, said_split}}
-use Rattle.t1_font.specs.{declared.dialect.Spacing.{Spacing}, declared.dialect.Dialect.{Dialect}, Glyphs.{Glyph, glyph, glyphs_end}}
-use Rattle.t1_font.specs.{Encoding.{Opening, Whole, OpensPuts, OpensNames, encoding_start}, Markers.{subrs_marker, closefile, len_iv_marker}}
+use Rattle.t1_text.specs.{declared.dialect.Spacing.{Spacing}, declared.dialect.Dialect.{Dialect}, Glyphs.{Glyph, glyph, glyphs_end}, Encoding.{Opening, Whole, OpensPuts, OpensNames, encoding_start}}
+use Rattle.t1_text.specs.Markers.{subrs_marker, closefile, len_iv_marker}
 use Rattle.t1_font.specs.Pieces.{FlatPieces, EncodingText, OneWord, Puts, ClearPieces, SubrsPieces, PrivatePieces, flat_pieces, encoding_from, clear_pieces, iv_at, iv_of, through, tail_after}
 use Rattle.t1_font.specs.{Pieces.{glyphs_from, before_place, tables_from, private_pieces}, FontValue.{FontValue, notdef, FitsLimits}}
 use Rattle.t1_font.specs.ReadFont.{font_of, flat_reading, font_from, font_texts, font_file}

@@ -5,10 +5,11 @@ use Rattle.std.specs.{Prelude.{is_some}, List.{list_any}, Str.{bytes_eq}, FinSet
 use Rattle.std.specs.Cmp.Lexicographic.{nat_list_cmp_total}
 use Rattle.t1_bytes.{specs.Cipher.{Enciphers, decrypted, private_text, plain_of}, proofs.Ciphers.{Enciphers-decrypted, decrypted-is, length-decrypted}}
 use Rattle.t1_grammar.specs.Grammar.{choice}
-use Rattle.t1_font.specs.{Entry.{plain_entries}, Glyphs.{Glyph}, Pieces.{ClearPieces, PrivatePieces}}
-use Rattle.t1_font.specs.{FontValue.{name_cmp, notdef, weight_of, FitsLimits, declared_count, count_limit, weight_limit}, Entries.{last_entries, last_value}}
+use Rattle.t1_font.specs.Pieces.{ClearPieces, PrivatePieces}
+use Rattle.t1_text.specs.{Entry.{plain_entries}, Glyphs.{Glyph}, Entries.{last_entries, last_value}}
+use Rattle.t1_font.specs.FontValue.{name_cmp, notdef, weight_of, FitsLimits, declared_count, count_limit, weight_limit}
 use Rattle.t1_font.specs.ReadFont.{subr_entries, glyph_entries, shell_of, font_of, has_notdef, is_within}
-use Rattle.t1_font.proofs.MapLaws.{get-map_of, entries-map_of, len-map_of}
+use Rattle.t1_text.proofs.MapLaws.{get-map_of, entries-map_of, len-map_of}
 use Rattle.std.specs.FinMap as maps
 
 name_same : IsAntisymmetric name_cmp

@@ -4,10 +4,10 @@ use Rattle.std.proofs.{lemmas.Option.{cond_some}, lemmas.Bool.{eqb-true, cases_B
 use Rattle.std.specs.{Prelude.{codes}, List.{AllByRecursion, prefix_len}, Str.{bytes_eq}}
 use Rattle.t1_grammar.specs.{Grammar.{Grammar, pure, ◌>>=◌, ◌>>◌, that, may_be, Stops, fixed, AtFront, NotAtFront, unspelled}, Tables.{Entries, IsTable}, Scans.{GoesOn}}
 use Rattle.t1_bytes.specs.White.{is_white, white, gap}
-use Rattle.t1_font.specs.{declared.dialect.Spacing.TheVariants.{White, Comments}, Dialect.{Blank, spacing, white_and_comments, white_in, gap_in, strict, wide}}
-use Rattle.t1_font.specs.{Words.{is_regular, is_word, is_decimal, word, keyword, decimal, name, next_name, phrase_of, passes}, Entry.{entry}, Subrs.{Subr, subr_key, subr, subrs_end}}
-use Rattle.t1_font.specs.Encoding.{octal, code, CodeEntry, put_entry, code_entry, Opening, Whole, OpensPuts, OpensNames, encoding_start, readonly, encoding_end, array_start, array_end}
-use Rattle.t1_font.specs.{Encoding.{encoding_word, encoding_table, loop_range, loop_body, encoding_loop}, EntryLaws.{keyword_text}}
+use Rattle.t1_text.specs.{declared.dialect.Spacing.TheVariants.{White, Comments}, Dialect.{Blank, spacing, white_and_comments, white_in, gap_in, strict, wide}}
+use Rattle.t1_text.specs.{Words.{is_regular, is_word, is_decimal, word, keyword, decimal, name, next_name, phrase_of, passes}, Entry.{entry}, Subrs.{Subr, subr_key, subr, subrs_end}}
+use Rattle.t1_text.specs.Encoding.{octal, code, CodeEntry, put_entry, code_entry, Opening, Whole, OpensPuts, OpensNames, encoding_start, readonly, encoding_end, array_start, array_end}
+use Rattle.t1_text.specs.{Encoding.{encoding_word, encoding_table, loop_range, loop_body, encoding_loop}, EntryLaws.{keyword_text}}
 use Rattle.t1_font.specs.{Pieces.{EncodingText, OneWord, Puts, ClearPieces, SubrsPieces, PrivatePieces}, FontValue.{FontValue}}
 use Rattle.t1_font.specs.Spelling.{SpellsEncoding, IsClear, SpellsTables, HasTables, HasGlyphs, IsPrivate, HasPieces, Spells, SpellsWidely}
 use Rattle.t1_font.proofs.read_fonts.ReadClear.{word_start}

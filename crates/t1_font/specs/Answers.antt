@@ -2,8 +2,9 @@
 use Rattle.std.specs.{Prelude.{◌≡◌, ℕ, List, Option, Some, None, Result, Ok, Err}, Option.{option_map}}
 use Rattle.t1_font.specs.{declared.fault.ReadFault.{ReadFault}, declared.fault.ReadFault.TheVariants.{Memory}, declared.encoding.EncodingParts.{EncodingParts}}
 use Rattle.t1_font.specs.{declared.encoding.ClearParts.{ClearParts}, declared.subrs.SubrsParts.{SubrsParts}, declared.glyphs.GlyphsParts.{GlyphsParts}, declared.private.Before.{Before}}
-use Rattle.t1_font.specs.{declared.private.PrivateParts.{PrivateParts}, FontValue.{SparseArray, Encoding, Word, Codes}, Pieces.{ClearPieces, SubrsPieces, PrivatePieces}, Glyphs.{Glyph}}
-use Rattle.t1_font.specs.{ReadFont.{encoding_value, subrs_of}, Views.{words_view}, Gathering.{Entries, without_notdef}, Held.{first_words, names_notdef, HoldsSubrs, HoldsGlyphs}}
+use Rattle.t1_font.specs.{declared.private.PrivateParts.{PrivateParts}, FontValue.{SparseArray, Encoding, Word, Codes}, Pieces.{ClearPieces, SubrsPieces, PrivatePieces}}
+use Rattle.t1_text.specs.{Glyphs.{Glyph}, Views.{words_view}}
+use Rattle.t1_font.specs.{ReadFont.{encoding_value, subrs_of}, Gathering.{Entries, without_notdef}, Held.{first_words, names_notdef, HoldsSubrs, HoldsGlyphs}}
 use Rattle.t1_font.specs.declared.encoding.EncodingParts.TheVariants as parts
 
 -- want of memory may come in place of each answer

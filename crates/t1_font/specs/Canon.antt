@@ -1,7 +1,8 @@
 -- The canonical file of a font: a function of the font value alone.
 use Rattle.std.specs.{Prelude.{◌≡◌, ℕ, false, List, map}, Option.{option_map}, FinMap.{entries}}
 use Rattle.t1_bytes.specs.{declared.form.Form.{Form}, declared.form.Form.TheVariants.{Pfa, Pfb}, Cipher.{sealed, private_cipher}, Texts.{file_text}, FlatText.{starts_segment}}
-use Rattle.t1_font.specs.{Entry.{Entry}, Subrs.{Subr}, Glyphs.{Glyph}, Pieces.{EncodingText, OneWord, Puts, ClearPieces, SubrsPieces, PrivatePieces}}
+use Rattle.t1_font.specs.Pieces.{EncodingText, OneWord, Puts, ClearPieces, SubrsPieces, PrivatePieces}
+use Rattle.t1_text.specs.{Entry.{Entry}, Subrs.{Subr}, Glyphs.{Glyph}}
 use Rattle.t1_font.specs.{FontValue.{FontValue, Shell, SubrsShell, Encoding, Word, Codes}, Writing.{private_written, clear_written}}
 
 -- a charstring as it stands in a file: behind lenIV zeros, encrypted

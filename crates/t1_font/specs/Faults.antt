@@ -2,7 +2,8 @@
 use Rattle.std.specs.Prelude.{◌≡◌, ℕ, ◌-◌, List, length, Option, Some, None, Err}
 use Rattle.t1_bytes.specs.declared.fault.BytesFault.{BytesFault}
 use Rattle.t1_grammar.specs.Tables.{Table}
-use Rattle.t1_font.specs.{declared.dialect.Spacing.{Spacing}, Dialect.{white_in}, declared.fault.ReadFault.{ReadFault}, declared.fault.TableError.{TableError}}
+use Rattle.t1_font.specs.{declared.fault.ReadFault.{ReadFault}, declared.fault.TableError.{TableError}}
+use Rattle.t1_text.specs.{declared.dialect.Spacing.{Spacing}, Dialect.{white_in}}
 use Rattle.t1_font.specs.declared.fault.TableError.TheVariants.{Memory, Left}
 use Rattle.t1_bytes.specs.declared.fault.BytesFault.TheVariants as bytes
 use Rattle.t1_font.specs.declared.fault.ReadFault.TheVariants as faults

@@ -1,13 +1,9 @@
 -- Fonts under another name: what stands behind the first `/FontName`, white space and a slash of the head (Adobe Type 1 Font Format 1.1, chapter 2). It is
 -- the key by which a document finds the font.
-use Rattle.std.specs.{Prelude.{ℕ, ◌-◌, ◌&&◌, nat_le, Bool, List, ◌++◌, length, take, map, Option, Some, None, if◌then◌else◌}, Option.{option_map}}
-use Rattle.t1_grammar.specs.Grammar.{first}
-use Rattle.t1_font.specs.{Words.{is_regular}, Rewriting.{parted}, Tags.{name_marker}, FontValue.{FontValue, Shell, weight, weight_limit}, NormalTexts.{both_fit}, FontBoxes.{with_texts}}
+use Rattle.std.specs.Prelude.{ℕ, ◌&&◌, nat_le, Bool, List, ◌++◌, map, Option, Some, None, if◌then◌else◌}
+use Rattle.t1_font.specs.{FontValue.{FontValue, Shell, weight, weight_limit}, NormalTexts.{both_fit}, FontBoxes.{with_texts}}
 use Rattle.t1_font.specs.Normalizing.{normalized_shells}
-
--- the bytes of a text before its name, and those behind the name
-abbrev pub around_name : List ℕ → Option (List ℕ × List ℕ)
-around_name text = option_map (λ x. (take (length text - length x.1) text, (parted is_regular x.1).1)) ((first name_marker).read text)
+use Rattle.t1_text.specs.Tags.{around_name}
 
 -- these with a name between them; where there are none, the text stays
 abbrev pub name_between : List ℕ → List ℕ → Option (List ℕ × List ℕ) → List ℕ

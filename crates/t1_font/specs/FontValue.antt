@@ -1,10 +1,7 @@
 -- The value of a font, its weight and its limits.
-use Rattle.std.specs.{Prelude.{ℕ, ◌+◌, ◌≤◌, max, List, [], ◌∷◌, length, codes, map, Option, Some, None}, declared.cmp.Ordering.{Ordering}, Ordering.{nat_cmp}, Cmp.Lexicographic.{slice_cmp}}
+use Rattle.std.specs.{Prelude.{ℕ, ◌+◌, ◌≤◌, max, List, [], ◌∷◌, length, map, Option, Some, None}, Ordering.{nat_cmp}}
 use Rattle.std.specs.FinMap.{FinMap, entries, len}
-
--- names are in the order of their bytes
-abbrev pub name_cmp : List ℕ → List ℕ → Ordering
-name_cmp = slice_cmp nat_cmp
+pub use Rattle.t1_text.specs.Names.{name_cmp, notdef}
 
 -- what stands at each index or code
 abbrev pub SparseArray : Type 0
@@ -49,10 +46,6 @@ pub record FontValue : Type 0 where
   pub encoding : Encoding
   pub subrs : SparseArray
   pub glyphs : CharStrings
-
--- the name that each font has
-abbrev pub notdef : List ℕ
-notdef = codes ".notdef"
 
 -- ---- limits
 

@@ -3,8 +3,9 @@ use Rattle.std.specs.{Prelude.{◌≡◌, ℕ, zero, suc, ◌≤◌, List, [], �
 use Rattle.std.proofs.Common.{refl}
 use Rattle.t1_bytes.specs.Limits.{file_limit}
 use Rattle.t1_join.specs.Entries.{entries_by}
-use Rattle.t1_font.specs.{declared.gathered.Gathered.TheInside.{Inside}, declared.ranges.Range.{Range}, FontValue.{SparseArray, CharStrings, notdef}, Encoding.{CodeEntry, Put, Copy}}
-use Rattle.t1_font.specs.{Entries.{has_name, map_of}, Codes.{bytes_code, numbered_code, named_code}, Ranges.{bytes_at, AllInside, NamesInside, named_at}}
+use Rattle.t1_font.specs.{declared.gathered.Gathered.TheInside.{Inside}, declared.ranges.Range.{Range}, FontValue.{SparseArray, CharStrings, notdef}}
+use Rattle.t1_text.specs.{Encoding.{CodeEntry, Put, Copy}, Entries.{has_name, map_of}}
+use Rattle.t1_font.specs.{Codes.{bytes_code, numbered_code, named_code}, Ranges.{bytes_at, AllInside, NamesInside, named_at}}
 
 -- what is left of the private text; the last name of each code, `.notdef` among them, and the last plain charstring of
 -- each Subr and of each glyph

@@ -2,8 +2,8 @@
 use Rattle.std.specs.{Prelude.{◌≡◌, ℕ, ◌≤◌, Bool, List, [], ◌∷◌, Option, Some, None, Result, Ok, Err}, List.{list_any}, Str.{bytes_eq}}
 use Rattle.t1_grammar.specs.Tables.{Table}
 use Rattle.t1_font.specs.{declared.fault.TableError.{TableError}, FontValue.{SparseArray, CharStrings, notdef, count_limit}}
-use Rattle.t1_font.specs.{Entries.{map_of}, Entry.{Entry, plain_entries}, Subrs.{Subr}, Glyphs.{Glyph}}
-use Rattle.t1_font.specs.{declared.dialect.Spacing.{Spacing}, Faults.{TableFails}}
+use Rattle.t1_text.specs.{Entries.{map_of}, Entry.{Entry, plain_entries}, Subrs.{Subr}, Glyphs.{Glyph}, declared.dialect.Spacing.{Spacing}}
+use Rattle.t1_font.specs.Faults.{TableFails}
 
 -- the words of the first entry, where there is one
 abbrev pub first_words : {K : Type 0} → List (Entry K) → Option (List ℕ × List ℕ)

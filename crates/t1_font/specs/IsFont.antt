@@ -1,35 +1,14 @@
 -- What makes a value a font: its canonical file is read as itself. A cut of a font and a join of two keep it.
-use Rattle.std.specs.{Prelude.{◌≡◌, ℕ, ◌+◌, ◌≤◌, ◌<◌, Bool, true, false, List, [], ◌∷◌, ◌++◌, length, Option, Some, None, Ok}, List.{AllByRecursion}, Option.{option_map}, Str.{bytes_eq}}
+use Rattle.std.specs.{Prelude.{◌≡◌, ℕ, ◌+◌, ◌≤◌, ◌<◌, true, false, List, [], ◌∷◌, ◌++◌, Option, Some, None, Ok}, Option.{option_map}, Str.{bytes_eq}}
 use Rattle.std.specs.FinMap.{get, contains_key, len, entries}
 use Rattle.t1_bytes.specs.{Laws.{AreBytes}, Eexec.{eexec_marker}}
-use Rattle.t1_grammar.specs.Grammar.{Grammar, first, NoneIn, Stops, Lacks}
-use Rattle.t1_font.specs.{Words.{word_limit, name_limit, is_regular, phrase_of, passes}, Entry.{charstring_limit}, Markers.{encoding_marker, subrs_marker, chars_marker, closefile}, Pieces.{iv_of}}
+use Rattle.t1_grammar.specs.Grammar.{first, Stops, Lacks}
+use Rattle.t1_font.specs.Pieces.{iv_of}
+use Rattle.t1_text.specs.{Words.{word_limit, name_limit, is_regular}, Markers.{encoding_marker, subrs_marker, chars_marker, closefile}}
 use Rattle.t1_font.specs.FontValue.{FontValue, Shell, SubrsShell, Encoding, Word, Codes, SparseArray, CharStrings, notdef, count_limit, weight_limit, weight}
-
--- ---- words
-
--- one word of 1 to `most` bytes
-pub record IsWord (most : ℕ) (w : List ℕ) : Type 0 where
-  pub regular : AllByRecursion (λ b. is_regular b ≡ true) w
-  pub some : 1 ≤ length w
-  pub few : length w ≤ most
-  pub bytes : AreBytes w
-
--- a whole phrase, of whose words none may be `dup` where that is barred
-pub record IsPhrase (may_be_dup : Bool) (p : List ℕ) : Type 0 where
-  pub whole : (phrase_of (passes may_be_dup)).read p ≡ Some (p, [])
-  pub bytes : AreBytes p
-
--- a charstring that has room for its lead bytes
-pub record IsCharstring (iv : ℕ) (c : List ℕ) : Type 0 where
-  pub short : iv + length c ≤ charstring_limit
-  pub bytes : AreBytes c
+use Rattle.t1_text.specs.FontWords.{IsWord, IsPhrase, IsCharstring, NoMarker}
 
 -- ---- the shell
-
--- the marker g stands at no place of the text, where a slash stands behind it
-abbrev pub NoMarker : {A : Type 0} → Grammar A → List ℕ → Type 0
-NoMarker g text = NoneIn g text (47 ∷ [])
 
 -- the clear text around the Encoding: neither an Encoding marker nor `currentfile eexec` in `head`; the first `currentfile eexec` of `clear_tail` ends it
 pub record IsClearShell (s : Shell) : Type 0 where

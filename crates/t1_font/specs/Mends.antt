@@ -1,9 +1,10 @@
 -- What is mended of a file that spells a font widely: the rules by which alone it can be read, and the test that its head loses.
 use Rattle.std.specs.{Prelude.{◌≡◌, ◌↔◌, ℕ, List, [], ◌∷◌, ◌++◌, codes, Option, Some, None, Result, Ok, Err}, Fmt.{decimal}}
-use Rattle.t1_font.specs.{declared.fault.ReadFault.{ReadFault}, declared.fault.ReadFault.TheVariants.{BadSegment, BadEncoding, BadSubrs, BadGlyphs}, declared.dialect.Dialect.{Dialect}}
-use Rattle.t1_font.specs.{declared.dialect.Rule.{Rule}, declared.mend.Mend.{Mend}, declared.mend.Mend.TheVariants.{CommentInEncoding, CodeCopied, ReadonlyEncoding, CommentInSubrs, TestTakenOut}}
-use Rattle.t1_font.specs.{Dialect.{wide, without}, FontTest.{taken_test, untested}, FontValue.{FontValue}, ReadFont.{font_file, read_font, read_font_widely}, Spelling.{Spells, SpellsWidely}}
-use Rattle.t1_font.specs.declared.dialect.Rule.TheVariants as rules
+use Rattle.t1_font.specs.{declared.fault.ReadFault.{ReadFault}, declared.fault.ReadFault.TheVariants.{BadSegment, BadEncoding, BadSubrs, BadGlyphs}}
+use Rattle.t1_text.specs.{declared.dialect.Dialect.{Dialect}, declared.dialect.Rule.{Rule}, Dialect.{wide, without}, FontTest.{taken_test, untested}}
+use Rattle.t1_font.specs.{declared.mend.Mend.{Mend}, declared.mend.Mend.TheVariants.{CommentInEncoding, CodeCopied, ReadonlyEncoding, CommentInSubrs, TestTakenOut}}
+use Rattle.t1_font.specs.{FontValue.{FontValue}, ReadFont.{font_file, read_font, read_font_widely}, Spelling.{Spells, SpellsWidely}}
+use Rattle.t1_text.specs.declared.dialect.Rule.TheVariants as rules
 
 -- ---- rules
 

@@ -3,8 +3,9 @@
 use Rattle.std.specs.{Prelude.{ℕ, ◌==◌, ◌&&◌, not, Bool, true, false, List, [], ◌∷◌, ◌++◌, Option, Some, None, Result, Ok, Err, if◌then◌else◌}, Str.{bytes_eq}}
 use Rattle.t1_grammar.specs.{Grammar.{Grammar, first}, Places.{occurs}}
 use Rattle.t1_font.specs.{declared.normal_texts.KeptText.{KeptText}, declared.normal_texts.KeptText.TheVariants.{Head, ClearTail, Private, Middle, Tail}, declared.fault.ReadFault.{ReadFault}}
-use Rattle.t1_font.specs.{Words.{regular_comes}, Markers.{subrs_marker, chars_marker, closefile}, Pieces.{iv_of}, FontTest.{eexec_there, has_marker}, FontValue.{Shell}, Squeezing.{squeezed}}
-use Rattle.t1_font.specs.{Identity.{unnumbered}, Tags.{tagged_name, both_untagged}}
+use Rattle.t1_font.specs.{Pieces.{iv_of}, FontValue.{Shell}}
+use Rattle.t1_text.specs.{Words.{regular_comes}, Markers.{subrs_marker, chars_marker, closefile}, FontTest.{eexec_there, has_marker}, Squeezing.{squeezed}, Identity.{unnumbered}}
+use Rattle.t1_text.specs.Tags.{tagged_name, both_untagged}
 
 -- ---- texts of a font
 

@@ -1,7 +1,8 @@
--- The laws of normalized fonts, each the contract of a function in `laws`.
-use Rattle.std.specs.{Prelude.{◌≡◌, ℕ, ◌≤◌, true, false, List, [], ◌∷◌, map}, Ordering.{is_gt}, List.{AllByRecursion, list_any}, List.Sorted.{IsPermutation}, FinMap.{keys, contains_key}}
-use Rattle.t1_font.specs.{FontValue.{FontValue, Shell, declared_count}, NormalTexts.{normal_texts}, Normalizing.{normal, filled, normalized}, IsFont.{IsFont}, Numbers.{value_cmp}}
-use Rattle.t1_font.specs.FontBoxes.{Box, box_of, says_nothing, joined_box, with_box, box_stays, with_texts, boxed}
+-- The laws of normalized fonts, each the contract of a function in `laws` of t1_font_laws.
+use Rattle.std.specs.{Prelude.{◌≡◌, ℕ, ◌≤◌, true, List, [], map}, List.{AllByRecursion}, FinMap.{keys, contains_key}}
+use Rattle.t1_font.specs.{FontValue.{FontValue, Shell, declared_count}, NormalTexts.{normal_texts}, Normalizing.{normal, filled, normalized}, IsFont.{IsFont}}
+use Rattle.t1_text.specs.Boxes.{Box}
+use Rattle.t1_font.specs.FontBoxes.{box_of, with_box, box_stays, with_texts, boxed}
 
 -- a font of normalized texts that declares so many Subrs stays
 abbrev pub NormalStays : Type 0
@@ -60,23 +61,3 @@ BoxedAreNormal =
 -- fonts of one shell stay
 abbrev pub OneShellStays : Type 0
 OneShellStays = (s : Shell) (fs : List FontValue) → AllByRecursion (λ f. f.shell ≡ s) fs → boxed fs ≡ fs
-
--- the one box for some boxes is the same in any order
-abbrev pub BoxInAnyOrder : Type 0
-BoxInAnyOrder = (bs cs : List Box) → IsPermutation bs cs → joined_box bs ≡ joined_box cs
-
--- a box holds another: its lower numbers are no greater, and its upper ones no less
-pub record HoldsBox (b c : Box) : Type 0 where
-  pub llx : is_gt (value_cmp b.llx c.llx) ≡ false
-  pub lly : is_gt (value_cmp b.lly c.lly) ≡ false
-  pub urx : is_gt (value_cmp c.urx b.urx) ≡ false
-  pub ury : is_gt (value_cmp c.ury b.ury) ≡ false
-
--- the one box for some boxes, none of which says nothing, holds each of them
-abbrev pub HoldsEach : Type 0
-HoldsEach = (bs : List Box) → list_any says_nothing bs ≡ false → AllByRecursion (HoldsBox (joined_box bs)) bs
-
--- and a box that holds each of them holds it
-abbrev pub HeldByAll : Type 0
-HeldByAll =
-    (u b : Box) (bs : List Box) → list_any says_nothing (b ∷ bs) ≡ false → AllByRecursion (HoldsBox u) (b ∷ bs) → HoldsBox u (joined_box (b ∷ bs))

@@ -1,11 +1,12 @@
 -- The pieces of a font's two texts.
 use Rattle.std.specs.Prelude.{ℕ, ◌-◌, nat_lt, List, [], ◌++◌, length, take, Option, Some, None, if◌then◌else◌}
 use Rattle.t1_bytes.specs.Split.{split}
-use Rattle.t1_font.specs.{declared.fault.ReadFault.TheVariants.{NoEncoding, BadEncoding, NoCharStrings, BadLenIV, BadSubrs, BadGlyphs, Hybrid, NoClosefile}, declared.dialect.Spacing.{Spacing}}
-use Rattle.t1_font.specs.{declared.dialect.Dialect.{Dialect}, declared.dialect.Spacing.TheVariants.{White}, Faults.{read_fault}, Subrs.{Subr, subr, subrs_end}}
-use Rattle.t1_font.specs.{Markers.{encoding_marker, subrs_marker, chars_marker, len_iv_marker, len_iv, closefile}, Words.{next_name}}
-use Rattle.t1_font.specs.{Encoding.{Opening, Whole, OpensPuts, OpensNames, encoding_start, code_entry, encoding_end, puts_of, code_count, array_end, from_code}, Glyphs.{Glyph, glyph, glyphs_end}}
-use Rattle.t1_font.specs.EntryLaws.{code_entry_eats, code_entry_apart, subr_eats, subr_apart, glyph_eats, glyph_apart}
+use Rattle.t1_font.specs.declared.fault.ReadFault.TheVariants.{NoEncoding, BadEncoding, NoCharStrings, BadLenIV, BadSubrs, BadGlyphs, Hybrid, NoClosefile}
+use Rattle.t1_text.specs.{declared.dialect.Spacing.{Spacing}, declared.dialect.Dialect.{Dialect}, declared.dialect.Spacing.TheVariants.{White}, Subrs.{Subr, subr, subrs_end}}
+use Rattle.t1_text.specs.{Markers.{encoding_marker, subrs_marker, chars_marker, len_iv_marker, len_iv, closefile}, Words.{next_name}}
+use Rattle.t1_text.specs.{Encoding.{Opening, Whole, OpensPuts, OpensNames, encoding_start, code_entry, encoding_end, puts_of, code_count, array_end, from_code}, Glyphs.{Glyph, glyph, glyphs_end}}
+use Rattle.t1_text.specs.EntryLaws.{code_entry_eats, code_entry_apart, subr_eats, subr_apart, glyph_eats, glyph_apart}
+use Rattle.t1_font.specs.Faults.{read_fault}
 use Rattle.t1_font.specs.Reading.{Reading, give, ◌>>=◌, ◌>>◌, faulted, wanted, sought, if_sought, lacking, table, counted}
 
 -- ---- the flat text

@@ -3,7 +3,7 @@ use Rattle.std.specs.{Prelude.{ℕ, ◌&&◌, nat_le, Bool, List, [], ◌∷◌,
 use Rattle.t1_bytes.specs.{Cipher.{private_text}, Limits.{file_limit}}
 use Rattle.t1_font.specs.{declared.fault.ReadFault.{ReadFault}, declared.fault.ReadFault.TheVariants.{TooLong, BadSegment, NoNotdef, Limit}}
 use Rattle.t1_font.specs.FontValue.{SubrsShell, Shell, Encoding, Word, Codes, FontValue, name_cmp, notdef, count_limit, weight_limit, weight_of, declared_count}
-use Rattle.t1_font.specs.{Entries.{last_entries, map_of, names_of}, declared.dialect.Dialect.{Dialect}, Dialect.{strict, wide}, Entry.{plain_entries}, Subrs.{Subr}}
+use Rattle.t1_text.specs.{Entries.{last_entries, map_of, names_of}, declared.dialect.Dialect.{Dialect}, Dialect.{strict, wide}, Entry.{plain_entries}, Subrs.{Subr}}
 use Rattle.t1_font.specs.Pieces.{FlatPieces, EncodingText, OneWord, Puts, ClearPieces, SubrsPieces, PrivatePieces, flat_pieces, clear_pieces, private_pieces}
 use Rattle.t1_font.specs.Reading.{Reading, give, ◌>>=◌, ◌>>◌, faulted, must}
 use Rattle.t1_bytes.specs.FlatText as files

@@ -2,7 +2,8 @@
 -- the faults.
 use Rattle.std.specs.Prelude.{ℕ, ◌-◌, List}
 use Rattle.t1_grammar.specs.{Grammar.{Grammar}, TableLaws.{Eats, Apart}}
-use Rattle.t1_font.specs.{declared.fault.ReadFault.{ReadFault}, declared.dialect.Spacing.{Spacing}, Faults.{left_after_white}}
+use Rattle.t1_font.specs.{declared.fault.ReadFault.{ReadFault}, Faults.{left_after_white}}
+use Rattle.t1_text.specs.declared.dialect.Spacing.{Spacing}
 use Rattle.t1_grammar.specs.Formats as formats
 pub use Rattle.t1_grammar.specs.Formats.{Format, give, ◌>>=◌, ◌>>◌, faulted, must, wanted, sought, if_sought, lacking}
 

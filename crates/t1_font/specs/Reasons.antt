@@ -2,11 +2,12 @@
 use Rattle.std.specs.Prelude.{◌≡◌, ◌≤◌, ◌<◌, ◌-◌, ℕ, true, false, List, ◌++◌, length, Option, Some}
 use Rattle.t1_grammar.specs.{Grammar.{first, AtFront, NotAtFront, Has, Lacks}, Tables.{TableAt, BreaksOff, CountBreaksOff}}
 use Rattle.t1_bytes.specs.{Limits.{file_limit}, FlatText.{IsFlat, IsBad}, Split.{SplitFails}}
-use Rattle.t1_font.specs.{declared.dialect.Spacing.{Spacing}, declared.dialect.Spacing.TheVariants.{White}, declared.dialect.Dialect.{Dialect}, Dialect.{white_in, strict, wide}}
-use Rattle.t1_font.specs.{declared.fault.ReadFault.{ReadFault}, Markers.{encoding_marker, subrs_marker, chars_marker, len_iv_marker, len_iv, closefile}, Words.{next_name}}
+use Rattle.t1_text.specs.{declared.dialect.Spacing.{Spacing}, declared.dialect.Spacing.TheVariants.{White}, declared.dialect.Dialect.{Dialect}, Dialect.{white_in, strict, wide}}
+use Rattle.t1_text.specs.{Markers.{encoding_marker, subrs_marker, chars_marker, len_iv_marker, len_iv, closefile}, Words.{next_name}, Subrs.{Subr, subr, subrs_end}, Glyphs.{glyph, glyphs_end}}
+use Rattle.t1_text.specs.Encoding.{OpensPuts, OpensNames, encoding_start, code_entry, encoding_end, code_count, array_end}
+use Rattle.t1_font.specs.declared.fault.ReadFault.{ReadFault}
 use Rattle.t1_font.specs.declared.fault.ReadFault.TheVariants.{TooLong, BadSegment, NoEexec, ShortCipher, NoEncoding, BadEncoding, NoCharStrings, BadLenIV, BadSubrs, BadGlyphs, Hybrid, NoClosefile}
-use Rattle.t1_font.specs.{declared.fault.ReadFault.TheVariants.{NoNotdef, Limit, Memory}, Subrs.{Subr, subr, subrs_end}, Glyphs.{glyph, glyphs_end}}
-use Rattle.t1_font.specs.Encoding.{OpensPuts, OpensNames, encoding_start, code_entry, encoding_end, code_count, array_end}
+use Rattle.t1_font.specs.declared.fault.ReadFault.TheVariants.{NoNotdef, Limit, Memory}
 use Rattle.t1_font.specs.{Pieces.{ClearPieces, PrivatePieces}, FontValue.{FontValue, notdef, FitsLimits}, ReadFont.{font_of}}
 use Rattle.t1_font.specs.Spelling.{IsClear, IsLenIV, Start, HasTables, HasGlyphs, HasTexts, HasPieces}
 use Rattle.t1_bytes.specs.declared.fault.BytesFault.TheVariants as containers

@@ -2,9 +2,9 @@
 use Rattle.std.specs.Prelude.{◌≡◌, ◌⊎◌, ℕ, ◌≤◌, ◌<◌, true, List, [], ◌++◌, length, take, Option, Some, None}
 use Rattle.t1_bytes.specs.{Cipher.{Enciphers}, FlatText.{IsFlat}, Split.{IsSplit}, Limits.{file_limit}}
 use Rattle.t1_grammar.specs.{Grammar.{first, AtFront, Lacks}, Tables.{TableAt, CountedAt}}
-use Rattle.t1_font.specs.{declared.dialect.Spacing.{Spacing}, declared.dialect.Dialect.{Dialect}, Dialect.{strict, wide}, Subrs.{subr, subrs_end}}
-use Rattle.t1_font.specs.{Markers.{encoding_marker, subrs_marker, chars_marker, len_iv_marker, len_iv, closefile}, Words.{next_name}}
-use Rattle.t1_font.specs.{Encoding.{Whole, OpensPuts, OpensNames, encoding_start, CodeEntry, code_entry, encoding_end, puts_of, code_count, array_end, from_code}, Glyphs.{glyph, glyphs_end}}
+use Rattle.t1_text.specs.{declared.dialect.Spacing.{Spacing}, declared.dialect.Dialect.{Dialect}, Dialect.{strict, wide}, Subrs.{subr, subrs_end}}
+use Rattle.t1_text.specs.{Markers.{encoding_marker, subrs_marker, chars_marker, len_iv_marker, len_iv, closefile}, Words.{next_name}}
+use Rattle.t1_text.specs.{Encoding.{Whole, OpensPuts, OpensNames, encoding_start, CodeEntry, code_entry, encoding_end, puts_of, code_count, array_end, from_code}, Glyphs.{glyph, glyphs_end}}
 use Rattle.t1_font.specs.{Pieces.{EncodingText, OneWord, Puts, ClearPieces, SubrsPieces, PrivatePieces}, FontValue.{FontValue, notdef, FitsLimits}, ReadFont.{font_of}}
 use Rattle.std.specs.FinMap as maps
 

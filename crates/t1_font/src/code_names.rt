@@ -1,7 +1,8 @@
 //! The names of an Encoding's codes, while its table is read.
 
-ghost use Rattle.std.specs.{Prelude.{◌≡◌, ◌≤◌, ◌+◌, map, filter, IfOk}};
-ghost use Rattle.t1_font.specs.{Encoding.{Copy}, Entries.{has_name}, Gathering.{gathered_name, kept_by}, Sources.{kept_name}};
+ghost use Rattle.std.specs.{Prelude.{◌≡◌, ◌≤◌, ◌+◌, length, map, filter, IfOk}};
+ghost use Rattle.t1_font.specs.{Gathering.{kept_by}, Sources.{kept_name}, CodeNames.{Marked}};
+ghost use Rattle.t1_text.specs.{Encoding.{Copy}, Entries.{has_name}};
 ghost use Rattle.std.specs.FinMap as fin;
 
 use crate::glyphs::is_notdef;
@@ -11,23 +12,36 @@ use std::marker::Model;
 /// How many codes there are.
 pub(crate) const CODES: usize = 256;
 
-/// The last name of each code that was given one, `.notdef` among them, each at the place of its code.
+/// The last name of each code that was given one, `.notdef` among them, each at the place of its code. A code without a name
+/// has `.notdef` there, too, so that names are copied without a look at each.
 #[derive(Drop)]
 pub(crate) struct CodeNames<'a> {
-    names: [Option<&'a [u8]>; CODES],
+    names: [&'a [u8]; CODES],
+    named: [bool; CODES],
 }
 
 impl<'a> Model for CodeNames<'a> {
-    ghost use Rattle.std.specs.{Prelude.{◌≡◌, length}, FinMap.{from_sorted}};
-    ghost use Rattle.t1_font.specs.{FontValue.{SparseArray}, Codes.{numbered_code}, CodeNames.{codes_named}};
+    ghost use Rattle.std.specs.FinMap.{from_sorted};
+    ghost use Rattle.t1_font.specs.{FontValue.{SparseArray}, Codes.{numbered_code}, CodeNames.{codes_named, AreNames}};
 
     ghost Value = { SparseArray };
 
     ghost coded = { numbered_code };
 
-    ghost view = { λ t. from_sorted (codes_named 0 t.names) };
+    ghost view = { λ t. from_sorted (codes_named 0 t.names t.named) };
 
-    ghost invariant = { λ t. length t.names ≡ 256 };
+    ghost invariant = { λ t. AreNames t.names t.named };
+}
+
+/// Marks the codes from one up to another.
+fn mark(named: &mut [bool], from: usize, to: usize)
+    requires ordered { from ≤ to }
+    requires within { to ≤ length named.old }
+    ensures { Marked named.old named.new from to }
+{
+    'codes: for code in from..to {
+        named[code] = true;
+    }
 }
 
 impl<'a> CodeNames<'a> {
@@ -36,7 +50,8 @@ impl<'a> CodeNames<'a> {
         ensures { result ≡ fin.empty }
     {
         CodeNames {
-            names: [None; CODES],
+            names: [b".notdef".as_slice(); CODES],
+            named: [false; CODES],
         }
     }
 
@@ -44,21 +59,8 @@ impl<'a> CodeNames<'a> {
     pub(crate) fn put(&mut self, code: u8, name: &'a [u8])
         ensures { self.new ≡ fin.insert self.old code name.now }
     {
-        self.names[code as usize] = Some(name);
-    }
-
-    /// The name of a code: `.notdef` where it has none.
-    pub(crate) fn name(&self, code: u8) -> &'a [u8]
-        ensures { result.now ≡ gathered_name self.now code }
-    {
-        self.names[code as usize].unwrap_or(b".notdef".as_slice())
-    }
-
-    /// The same names.
-    fn again(&self) -> Self
-        ensures { result ≡ self.now }
-    {
-        CodeNames { names: self.names }
+        self.names[code as usize] = name;
+        self.named[code as usize] = true;
     }
 
     /// Puts the names of so many codes from one on at the codes from another one on.
@@ -67,10 +69,11 @@ impl<'a> CodeNames<'a> {
         requires to { to + count ≤ 256 }
         ensures { self.new ≡ kept_by self.old (Copy from count to) }
     {
-        let before = self.again();
-        'codes: for i in 0..count {
-            self.put((to + i) as u8, before.name((from + i) as u8));
-        }
+        let (from, count, to) = (from as usize, count as usize, to as usize);
+        self.names
+            .as_mut_slice()
+            .copy_within(from..from + count, to);
+        mark(self.named.as_mut_slice(), to, to + count);
     }
 
     /// The names, in a vector of their own; `.notdef` counts as no name.
@@ -79,7 +82,8 @@ impl<'a> CodeNames<'a> {
     {
         let mut kept = Vec::new(alloc);
         'codes: for code in 0..CODES {
-            if let Some(name) = self.names[code] {
+            if self.named[code] {
+                let name = self.names[code];
                 if !is_notdef(name) {
                     kept.push((code as u16, Vec::from_slice(alloc, name)?))?;
                 }

@@ -9,7 +9,6 @@ ghost use Rattle.t1_font.specs.{Answers.{Answers, Shown, ShowsClear, ShowsPrivat
 ghost use Rattle.t1_font.specs.{Spelling.{SpellsIn, Spells, SpellsWidely}, Reasons.{RefusesIn, Refuses, RefusesWidely}};
 
 use crate::code_names::CodeNames;
-use crate::dialect::Dialect;
 use crate::encoding::{ClearParts, EncodingParts, clear_parts};
 use crate::fault::ReadFault;
 use crate::gathered::Gathered;
@@ -22,6 +21,7 @@ use crate::subrs::SubrsParts;
 use std::alloc::{AllocError, Global};
 use t1_bytes::{Cipher, EEXEC_KEY, EEXEC_LEAD, FILE_LIMIT, decrypt, find_cipher, flatten_vec};
 use t1_join::likely_places;
+use t1_text::dialect::Dialect;
 
 /// The flat text of a file, in the file's own vector.
 #[tactic(auto, unfolding(crate::specs::ReadFont::flat_reading))]

@@ -1,16 +1,17 @@
 //! Fonts under another name.
 
 ghost use Rattle.std.specs.{Prelude.{◌≡◌, ℕ, List, map, Some, None, IfOk, if◌then◌else◌}, Option.{option_map}};
-ghost use Rattle.t1_font.specs.FontNames.{around_name, text_named, clear_named, can_be_named, named, normalized_named};
+ghost use Rattle.t1_font.specs.FontNames.{text_named, clear_named, can_be_named, named, normalized_named};
+ghost use Rattle.t1_text.specs.Tags.{around_name};
 
 use crate::file::proof_are_bytes;
 use crate::font_boxes::is_light;
 use crate::normal_texts::{ClearTexts, both_fit};
 use crate::normalizing::normalize_shells;
 use crate::source::{Source, SourceParts};
-use crate::tags::around_name;
 use std::alloc::{AllocError, Global};
 use t1_join::push_item;
+use t1_text::tags::around_name;
 
 /// A text with this name in place of its own, if it has one.
 fn text_named(alloc: Global, name: &[u8], text: &[u8]) -> Result<Vec<u8>, AllocError>

@@ -1,18 +1,19 @@
 //! The shell of a font, and whether tables make a font in it.
 
 ghost use Rattle.std.specs.{Prelude.{◌≡◌, ◌↔◌, ◌<◌, IsTrue, MatchOption}, List.{AllByRecursion}, Option.{option_map}};
-ghost use Rattle.t1_font.specs.{FontModel.{encoding_by, encoding_of, font_by, word_of}, FontShells.{HasFont, IsShellOfFont, CodesFit}, Words.{name_limit}};
-ghost use Rattle.t1_font.specs.IsFont.{IsFont, IsWord, IsCharstring, IsCode, SubrsFit};
+ghost use Rattle.t1_font.specs.{FontModel.{encoding_by, encoding_of, font_by, word_of}, FontShells.{HasFont, IsShellOfFont, CodesFit}};
+ghost use Rattle.t1_text.specs.{Words.{name_limit}, FontWords.{IsWord, IsCharstring}};
+ghost use Rattle.t1_font.specs.IsFont.{IsFont, IsCode, SubrsFit};
 ghost use Rattle.std.specs.FinMap as fin;
 
 use crate::file::proof_are_bytes;
 use crate::font::{Font, FontParts, LentEncoding};
 use crate::glyphs::is_notdef;
 use crate::lent::{CharStrings, SparseArray};
-use crate::limits::{CHARSTRING_LIMIT, NAME_LIMIT};
 use crate::shell::{Part, Shell};
-use crate::words::regular_len;
 use std::marker::Model;
+use t1_text::limits::{CHARSTRING_LIMIT, NAME_LIMIT};
+use t1_text::words::regular_len;
 
 /// The shell of a font, and the word that is its Encoding if it is one: what is left of a font without its tables.
 #[derive(Drop)]

@@ -2,17 +2,18 @@
 
 ghost use Rattle.std.specs.Prelude.{◌≡◌, ◌≤◌, ◌+◌, ◌-◌, ◌++◌, length, take, drop, OnOk};
 ghost use Rattle.t1_bytes.specs.{Cipher.{decrypted, plain_of}, Limits.{file_limit}};
-ghost use Rattle.t1_font.specs.{Encoding.{Copy}, Gathering.{kept_by}, Places.{ending, bytes_at_place}};
+ghost use Rattle.t1_font.specs.Gathering.{kept_by};
+ghost use Rattle.t1_text.specs.{Encoding.{Copy}, Places.{ending, bytes_at_place}};
 ghost use Rattle.t1_font.specs.Ranges.{bytes_at, IsInside};
 ghost use Rattle.std.specs.FinMap as fin;
 
 use crate::code_names::CodeNames;
-use crate::places::Place;
 use crate::ranges::Range;
 use crate::repeats::{ByName, ByNumber, ROOM, settle};
 use std::alloc::{AllocError, Global};
 use std::marker::Model;
 use t1_bytes::{CHARSTRING_KEY, decrypt};
+use t1_text::places::Place;
 
 /// What is read of a font's tables: names by code, and charstrings of Subrs by index and of glyphs by name. The last entry
 /// of a repeated key stands.

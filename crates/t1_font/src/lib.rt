@@ -17,12 +17,9 @@
 //! and as a function, `read_font`; laws tie the two together.
 #![tactic(auto)]
 
-mod code_entry;
 mod code_names;
 mod cut;
-mod dialect;
 mod encoding;
-mod entry;
 mod fault;
 mod file;
 mod filling;
@@ -30,36 +27,28 @@ mod font;
 mod font_boxes;
 mod font_names;
 mod font_shell;
-mod font_test;
 mod gathered;
 mod glyphs;
-mod joined_boxes;
-pub mod laws;
 mod lent;
 mod limits;
 mod made_tables;
-mod markers;
 mod mend;
 mod normal_texts;
 mod normalizing;
-mod numbers;
 mod parts;
 mod passes;
-mod places;
 mod private;
 mod private_writing;
 mod ranges;
 mod read_shell;
 mod repeats;
-mod rewriting;
 mod sealing;
 mod shell;
 mod source;
 mod stored;
 mod stub;
 mod subrs;
-mod tags;
-mod words;
+mod untested;
 mod writing;
 
 pub use cut::restrict;
@@ -83,5 +72,5 @@ pub use t1_bytes::Form;
 pub use t1_run::{
     Curve, DrawFault, Drawing, DrawnPart, Fault, Mark, Pen, Point, draw, lay_out, trace,
 };
-pub use tags::{name_in, untagged};
+pub use t1_text::tags::{name_in, untagged};
 pub use writing::write;

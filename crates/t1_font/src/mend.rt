@@ -1,16 +1,16 @@
 //! What is mended of a file that other programs spell.
 
 ghost use Rattle.std.specs.Prelude.{◌≡◌, ◌++◌, ◌∷◌, List, Some, IfOk, IfErr};
-ghost use Rattle.t1_font.specs.{declared.dialect.Rule.{Rule}, declared.fault.ReadFault.TheVariants.{Memory}, Answers.{Answers}};
+ghost use Rattle.t1_font.specs.{declared.fault.ReadFault.TheVariants.{Memory}, Answers.{Answers}};
+ghost use Rattle.t1_text.specs.{declared.dialect.Rule.{Rule}, Dialect.{wide}};
 ghost use Rattle.t1_font.specs.{ReadFont.{read_font, read_font_widely}, Mends.{place_of, mend_by, all_rules, needed, mends_by_rules, test_in, mends_of}};
-ghost use Rattle.t1_font.specs.Dialect.{wide};
 
-use crate::dialect::{Dialect, Rule};
 use crate::fault::ReadFault;
 use crate::file::{read_in, read_vec, read_wide};
-use crate::font_test::taken_test;
 use std::alloc::{AllocError, Global};
 use std::fmt;
+use t1_text::dialect::{Dialect, Rule};
+use t1_text::font_test::taken_test;
 
 /// What is mended of a file, and where that stands: in the flat text, or for Subrs in the private text. A place is that at which
 /// reading by the other rules breaks off, which the fault tells that it has for an answer.

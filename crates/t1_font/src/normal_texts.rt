@@ -1,17 +1,18 @@
 //! The kept texts of normalized fonts: their white space squeezed, without lines that number the font, and without tags.
 
 ghost use Rattle.std.specs.Prelude.{◌≡◌, IfOk};
-ghost use Rattle.t1_font.specs.{Pieces.{iv_of}, Tags.{tagged_name}};
+ghost use Rattle.t1_font.specs.Pieces.{iv_of};
+ghost use Rattle.t1_text.specs.Tags.{tagged_name};
 ghost use Rattle.t1_font.specs.NormalTexts.{reads_number, own_fits, next_byte, followed_fits, fits, ends_at, squeezed_text, normal_text, both_normal};
 ghost use Rattle.t1_font.specs.NormalTexts.{without_tags, same_both, both_fit, normal_clear};
 
-use crate::font_test::{EexecMarker, has_marker};
-use crate::markers::{CharsMarker, Closefile, Marker, SubrsMarker, first, occurs};
 use crate::private::iv_of;
-use crate::rewriting::{Step, rewritten, squeezed, unnumbered};
-use crate::tags::tagged_name;
-use crate::words::regular_comes;
 use std::alloc::{AllocError, Global};
+use t1_text::font_test::{EexecMarker, has_marker};
+use t1_text::markers::{CharsMarker, Closefile, Marker, SubrsMarker, first, occurs};
+use t1_text::rewriting::{Step, rewritten, squeezed, unnumbered};
+use t1_text::tags::tagged_name;
+use t1_text::words::regular_comes;
 
 /// Which kept text of a font a text is to be; the private text with the lenIV of the font.
 #[derive(Clone, Copy)]

@@ -2,20 +2,20 @@
 
 ghost use Rattle.std.specs.{Prelude.{◌≡◌, ◌++◌, Option, Some, None, [], OnOk}, Option.{option_map}};
 ghost use Rattle.t1_grammar.specs.{Formats.{in_table}, Grammar.{first}, Tables.{table_at}, Places.{occurs}};
-ghost use Rattle.t1_font.specs.{Markers.{subrs_marker, closefile}, Glyphs.{glyph, glyphs_end}};
+ghost use Rattle.t1_text.specs.{Markers.{subrs_marker, closefile}, Glyphs.{glyph, glyphs_end}, declared.dialect.Spacing.TheVariants.{White}, Subrs.{subr, subrs_end}};
 ghost use Rattle.t1_font.specs.Pieces.{SubrsPieces, iv_of, tail_after, glyphs_from, tables_from, private_pieces};
-ghost use Rattle.t1_font.specs.{declared.fault.ReadFault.TheVariants.{BadSubrs, BadGlyphs}, declared.dialect.Spacing.TheVariants.{White}};
-ghost use Rattle.t1_font.specs.{Subrs.{subr, subrs_end}, Reading.{bad_at}, Answers.{Answers, Shown, ShowsTable, ShowsGlyphs, ShowsBefore, ShowsPrivate}};
+ghost use Rattle.t1_font.specs.declared.fault.ReadFault.TheVariants.{BadSubrs, BadGlyphs};
+ghost use Rattle.t1_font.specs.{Reading.{bad_at}, Answers.{Answers, Shown, ShowsTable, ShowsGlyphs, ShowsBefore, ShowsPrivate}};
 ghost use Rattle.t1_font.specs.{Gathering.{SubrsAlone, GlyphsAlone}, Held.{HoldsSubrs, HoldsGlyphs}};
 ghost use Rattle.std.specs.FinMap as fin;
 
-use crate::dialect::Spacing;
 use crate::fault::{ReadFault, TableError};
 use crate::gathered::Gathered;
 use crate::glyphs::{GlyphsParts, glyphs_at};
-use crate::markers::{CharsMarker, Closefile, LenIvMarker, SubrsMarker, first, len_iv_at};
 use crate::subrs::{SubrsParts, subrs_at};
 use std::alloc::Global;
+use t1_text::dialect::Spacing;
+use t1_text::markers::{CharsMarker, Closefile, LenIvMarker, SubrsMarker, first, len_iv_at};
 
 /// The pieces of the private text; the tail ends with `closefile`. The charstrings are gathered.
 #[derive(Drop)]

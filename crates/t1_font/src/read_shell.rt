@@ -1,7 +1,8 @@
 //! The shell of what was read.
 
 ghost use Rattle.std.specs.{Prelude.{◌≡◌, ◌≤◌, [], Option, unwrap_or, IfOk}, Option.{option_map}};
-ghost use Rattle.t1_font.specs.{FontValue.{count_limit}, FontModel.{subrs_view}, Gathering.{Entries}, Views.{words_view}};
+ghost use Rattle.t1_font.specs.{FontValue.{count_limit}, FontModel.{subrs_view}, Gathering.{Entries}};
+ghost use Rattle.t1_text.specs.Views.{words_view};
 ghost use Rattle.t1_font.specs.{Pieces.{ClearPieces, SubrsPieces, PrivatePieces}, ReadFont.{subrs_shell, shell_of}};
 ghost use Rattle.t1_font.specs.Answers.{ShowsClear, ShowsTable, ShowsSubrs, ShowsPrivate, declared_in};
 
@@ -9,8 +10,8 @@ use crate::encoding::ClearParts;
 use crate::private::PrivateParts;
 use crate::shell::{KeptSubrs, Shell};
 use crate::subrs::SubrsParts;
-use crate::words::Words;
 use std::alloc::{AllocError, Global};
+use t1_text::words::Words;
 
 /// The kept words of a table, empty if it has no entry.
 fn kept_words(alloc: Global, words: Option<Words>) -> (Vec<u8>, Vec<u8>)

@@ -2,7 +2,8 @@
 
 ghost use Rattle.std.specs.{Prelude.{◌≡◌, ◌≤◌, ◌↔◌, [], length, drop, IfOk, OnOk, OnErr, IsTrue}, Cmp.{IsTotalOrder, nat_cmp_total}};
 ghost use Rattle.std.specs.{Cmp.Lexicographic.{on_texts}, Ordering.{nat_cmp}, declared.cmp.Ordering.{Ordering}, List.Sorted.{IsPermutation, IsStableByKey}};
-ghost use Rattle.t1_font.specs.{Entries.{comes_again, run_end, run_ends, KeysRise, AreLast, AreSettled}, Ranges.{bytes_at, by_name, front, long_front}};
+ghost use Rattle.t1_font.specs.Ranges.{bytes_at, by_name, front, long_front};
+ghost use Rattle.t1_text.specs.Entries.{comes_again, run_end, run_ends, KeysRise, AreLast, AreSettled};
 
 use crate::ranges::Range;
 use std::alloc::AllocError;

@@ -1,65 +1,19 @@
 //! The table of subroutines.
 
-ghost use Rattle.std.specs.{Prelude.{◌≡◌, ◌<◌, ◌≤◌, ◌+◌, OnOk, IfSome, length}, Option.{option_map}};
+ghost use Rattle.std.specs.Prelude.{◌≡◌, ◌<◌, ◌≤◌, ◌+◌, OnOk, length};
 ghost use Rattle.t1_bytes.specs.Cipher.{plain_of};
-ghost use Rattle.t1_font.specs.{Answers.{ShowsTable}, Gathering.{SubrsAlone}, Held.{HoldsSubrs, TableHeld}, Subrs.{subr, subr_key, subrs_end, subrs_at}};
-ghost use Rattle.t1_font.specs.{FontValue.{count_limit}, Places.{StandsIn, ending, bytes_at_place}, Views.{entry_view, phrase_view}};
+ghost use Rattle.t1_font.specs.{Answers.{ShowsTable}, Gathering.{SubrsAlone}, Held.{HoldsSubrs, TableHeld}};
+ghost use Rattle.t1_text.specs.{Subrs.{subrs_at}, Places.{ending, bytes_at_place}};
+ghost use Rattle.t1_font.specs.FontValue.{count_limit};
 ghost use Rattle.std.specs.FinMap as fin;
 
-use crate::dialect::Spacing;
-use crate::entry::{Body, body_at};
 use crate::fault::TableError;
 use crate::gathered::Gathered;
-use crate::places::Place;
-use crate::words::{Phrase, Words, decimal_at, first_words, keyword_at, phrase_at, phrase_bytes};
 use std::alloc::{AllocError, Global};
-use t1_bytes::texts::gap_at;
-
-/// An index below the declared count, and what stands before it.
-#[tactic(auto, unfolding(crate::specs::Subrs::subr_key))]
-fn subr_key_at(bytes: &[u8], spacing: Spacing, declared: u32) -> Option<(u32, &[u8])>
-    ensures value { option_map (λ x. (x.0, x.1.now)) result ≡ (subr_key spacing declared).read bytes.now }
-    ensures below { IfSome result (λ x. x.0 < declared) }
-{
-    let (_, rest) = spacing.white_at(bytes);
-    let (_, rest) = keyword_at(rest, b"dup")?;
-    let (_, rest) = gap_at(rest)?;
-    let (index, rest) = decimal_at(rest)?;
-    if index < declared {
-        Some((index, rest))
-    } else {
-        None
-    }
-}
-
-/// An entry of a table with this declared count and lenIV: its index and what stands behind it.
-#[tactic(auto, unfolding(crate::specs::Entry::entry))]
-fn subr_at(
-    bytes: &[u8],
-    spacing: Spacing,
-    declared: u32,
-    len_iv: u8,
-) -> Option<(u32, Body<'_>, &[u8])>
-    ensures value { option_map (λ x. (entry_view x.0 x.1, x.2.now)) result
-        ≡ (subr spacing declared len_iv).read bytes.now }
-    ensures index { IfSome result (λ x. x.0 < declared) }
-    ensures length { IfSome result (λ x. len_iv ≤ length x.1.bytes.now) }
-    ensures body { IfSome result (λ x. StandsIn bytes.now x.1.bytes.now x.1.behind) }
-    ensures left { IfSome result (λ x. length x.2.now ≤ x.1.behind) }
-{
-    let (index, rest) = subr_key_at(bytes, spacing, declared)?;
-    let (body, rest) = body_at(rest, len_iv)?;
-    Some((index, body, rest))
-}
-
-/// The phrase that closes the table.
-#[tactic(auto, unfolding(crate::specs::Subrs::subrs_end))]
-fn subrs_end_at(bytes: &[u8], spacing: Spacing) -> Option<(Phrase<'_>, &[u8])>
-    ensures { option_map (λ x. (phrase_view x.0, x.1.now)) result ≡ (subrs_end spacing).read bytes.now }
-{
-    let (_, rest) = spacing.white_at(bytes);
-    phrase_at(rest, false)
-}
+use t1_text::dialect::Spacing;
+use t1_text::places::Place;
+use t1_text::table_entries::{subr_at, subrs_end_at};
+use t1_text::words::{Words, first_words, phrase_bytes};
 
 /// What is read of a table of Subrs beside its Subrs: the declared count, the words of the first entry, and the phrase
 /// that closes it.

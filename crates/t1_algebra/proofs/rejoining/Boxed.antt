@@ -4,7 +4,8 @@ use Rattle.std.proofs.lemmas.Option.{none-some, same_Some}
 use Rattle.std.specs.{Prelude.{◌&&◌}, List.{list_all}}
 use Rattle.t1_font.specs.{FontValue.{FontValue, Shell, SubrsShell, declared_count, count_limit}, IsFont.{IsFont, SubrsFit}, NormalTexts.{normal_texts}}
 use Rattle.t1_font.specs.Normalizing.{raised, normal, largest_count, each_normal, normalized_shells, filled_all, normalized}
-use Rattle.t1_font.specs.FontBoxes.{Box, Side, joined_box, box_at, side_in, clear_of, texts_with, with_texts, box_of, font_with, can_have, boxes_of, all_with, boxed_by, boxed}
+use Rattle.t1_font.specs.FontBoxes.{Side, box_at, side_in, clear_of, texts_with, with_texts, box_of, font_with, can_have, boxes_of, all_with, boxed_by, boxed}
+use Rattle.t1_text.specs.Boxes.{Box, joined_box}
 use Rattle.t1_font.proofs.{normal_fonts.Normalized.{normal_is_font}, normal_fonts.NormalTexts.{normal_texts_stay}}
 use Rattle.t1_font.proofs.normal_fonts.Boxes.{BoxBytes, all_bytes, joined_bytes, all_fonts, own_font, normal_still, have_it, one_box_stays}
 use Rattle.t1_join.specs.Groupings.{leaves}

@@ -4,7 +4,8 @@ use Rattle.t1_run.{specs.{Run.{Subrs}, Growth.{Extends}}, proofs.Grown.{runs_wit
 use Rattle.t1_join.{specs.Groupings.{Grouping, one, two, leaves, map_grouping}, proofs.OrderLemmas.{all_leaves}}
 use Rattle.t1_font.specs.{FontValue.{FontValue, SubrsShell, SparseArray, declared_count, Shell}, FontModel.{subr_at}, NormalTexts.{normal_texts}, NormalizingLaws.{IsNormalWith}}
 use Rattle.t1_font.specs.Normalizing.{raised, normal, stubs_at, with_stubs, filled, largest_count, indices_of_all, each_normal, normalized_shells, filled_all, normalized}
-use Rattle.t1_font.specs.FontBoxes.{Box, joined_box, box_of, font_with, boxed}
+use Rattle.t1_font.specs.FontBoxes.{box_of, font_with, boxed}
+use Rattle.t1_text.specs.Boxes.{Box, joined_box}
 use Rattle.t1_font.proofs.{normal_fonts.NormalStays.{normal_fonts_stay}, normal_fonts.Boxes.{by_cases}, normal_fonts.NormalTexts.{normal_texts_stay, normal_shorter}}
 use Rattle.t1_algebra.specs.{Normalized.{StaysDrawn, map_subrs, AllStayDrawn, EachBeside, NormalizedDraw}, Rejoins.{with_normal_texts, MergingFontsAreNormal}}
 use Rattle.t1_algebra.specs.{States.{Compatible, KeepsLimits, joined_option, joined_font}, Groupings.{Merges}, Profile.{profile}}

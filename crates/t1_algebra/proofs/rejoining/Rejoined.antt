@@ -3,7 +3,8 @@ use Rattle.std.proofs.Common.{◌≡◌, ◌≤◌, ℕ, nat_lt, nat_cmp, true, 
 use Rattle.std.proofs.lemmas.Bool.{ltb-true, lt-ltb}
 use Rattle.t1_join.{specs.Groupings.{Grouping, one, leaves, from_left}, proofs.OrderLemmas.{leaves_from_left}}
 use Rattle.t1_font.specs.FontValue.{FontValue, SubrsShell, SparseArray, name_cmp, total, subr_weight, declared_count}
-use Rattle.t1_font.specs.{IsFont.{IsFont, IsWord, IsPhrase, SubrsFit, SubrWords}, Normalizing.{normalized}}
+use Rattle.t1_font.specs.{IsFont.{IsFont, SubrsFit, SubrWords}, Normalizing.{normalized}}
+use Rattle.t1_text.specs.FontWords.{IsWord, IsPhrase}
 use Rattle.t1_font.specs.NormalTexts.{normal_texts}
 use Rattle.t1_font.proofs.{normal_fonts.Normalized.{normal_is_font, normal_fit}, MapLemmas.{get-retain, find_first, total-le, Some_None}}
 use Rattle.t1_algebra.specs.{Keep.{keep, kept, subset, IsOf}, Profile.{profile}, Merges.{MergesTo}, Alike.{DrawsAlike}}

@@ -2,7 +2,8 @@
 use Rattle.std.proofs.Common.{◌≡◌, ℕ, List, [], ◌∷◌, map, inl, refl, subst}
 use Rattle.t1_join.{specs.Groupings.{one, from_left}, proofs.OrderLemmas.{all_leaves, leaves_from_left}}
 use Rattle.t1_font.specs.{FontValue.{FontValue}, NormalTexts.{normal_texts}, Normalizing.{normal, filled, largest_count, indices_of_all, each_normal, normalized_shells}}
-use Rattle.t1_font.specs.{FontBoxes.{Box, joined_box, font_with, clear_of, side_in}, Renewing.{Renewed}}
+use Rattle.t1_font.specs.{FontBoxes.{font_with, clear_of, side_in}, Renewing.{Renewed}}
+use Rattle.t1_text.specs.Boxes.{Box, joined_box}
 use Rattle.t1_font.proofs.normal_fonts.{Boxes.{by_cases}, Renewed.{texts_renewed, box_texts}}
 use Rattle.t1_algebra.specs.{Profile.{profile}, Normalized.{EachBeside, NormalizedRenewed, ShellsStay}}
 use Rattle.t1_algebra.proofs.{Words.{AllByRecursion}, Orders.{Below, above}, Shares.{sharing}}

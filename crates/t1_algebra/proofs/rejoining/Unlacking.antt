@@ -1,7 +1,8 @@
 -- Fonts that lack no Subr draw as before when they get stubs, faults included.
 use Rattle.std.proofs.Common.{◌≡◌, ℕ, List, [], ◌∷◌, map, refl, ap, subst, Option, Some, None, option_map}
 use Rattle.t1_font.specs.FontValue.{FontValue, SparseArray, CharStrings}
-use Rattle.t1_font.specs.{Normalizing.{normal, filled, largest_count, indices_of_all, each_normal, normalized_shells}, FontBoxes.{Box, joined_box, font_with}}
+use Rattle.t1_font.specs.{Normalizing.{normal, filled, largest_count, indices_of_all, each_normal, normalized_shells}, FontBoxes.{font_with}}
+use Rattle.t1_text.specs.Boxes.{Box, joined_box}
 use Rattle.t1_font.proofs.normal_fonts.Boxes.{by_cases}
 use Rattle.t1_algebra.specs.{Profile.{profile}, Alike.{DrawsAlike}, Lacks.{user_of, lack_in, lack_among}, Normalized.{EachBeside, AllDrawAlike, UnlackingDraw}}
 use Rattle.t1_algebra.proofs.{Drawings.{alike}, Searching.{found_none}, rejoining.FilledStates.{IsAdded, executed_there, runs_same, unlacking_quiet}}

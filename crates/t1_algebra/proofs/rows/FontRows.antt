@@ -4,7 +4,8 @@ use Rattle.std.proofs.{Common.{option_map}, lemmas.List.Folds.{list_all-append, 
 use Rattle.std.specs.{Prelude.{codes}, List.{list_any, list_all}, Ordering.{eq_by_cmp, nat_cmp}, Cmp.{IsTotalOrder, both_ways, nat_cmp_total}, Cmp.Lexicographic.{nat_list_cmp_total}}
 use Rattle.std.specs.{FinMap.{find, is_sorted}, FinSet.{FinSet, IsAntisymmetric, nat_cmp-IsAntisymmetric}}
 use Rattle.t1_join.specs.{Join.{joined_state}, Meaning.{of_number}, TableLaws.{get_joined}}
-use Rattle.t1_font.specs.{Cut.{stub}, FontValue.{FontValue, Shell, Encoding, Word, name_cmp, notdef, Codes, names_in}, Maps.{map_values, merged}, Entries.{last_entries}, FontModel.{word_of}}
+use Rattle.t1_font.specs.{Cut.{stub}, FontValue.{FontValue, Shell, Encoding, Word, name_cmp, notdef, Codes, names_in}, Maps.{map_values, merged}, FontModel.{word_of}}
+use Rattle.t1_text.specs.Entries.{last_entries}
 use Rattle.t1_font.proofs.{MapLemmas.{get-map_values, entries-map_values}, CutEntries.{entries-merged}}
 use Rattle.t1_algebra.specs.{Interpreter.{Interpreter, Names, same_bytes}, Keep.{sets_of, charstring, has, components_here, is_closed, is_needed, keep, called_by, kept}}
 use Rattle.t1_algebra.specs.States.{named_at, is_stub, is_called, subr_state, state_of_entry, called_at, executed_at}

@@ -1,5 +1,6 @@
 use Rattle.std.proofs.{Common.{◌≡◌, ◌∙◌, ap, sym, subst, ℕ, Vec, Global, MatchResult}, lemmas.Result.{err_from_is_err_and}}
-use Rattle.t1_font.specs.{Canon.{canon}, FontValue.{FontValue}, IsFont.{IsFont}, ReadFont.{read_font}, Dialect.{strict}}
+use Rattle.t1_font.specs.{Canon.{canon}, FontValue.{FontValue}, IsFont.{IsFont}, ReadFont.{read_font}}
+use Rattle.t1_text.specs.Dialect.{strict}
 use Rattle.t1_font.proofs.{AnswersRight.{bytes_of_slice}, read_fonts.ReadFontLaws.{spelled_font}}
 use Rattle.t1_subset.specs.NameSets.{lent, asked}
 use Rattle.t1_example.{specs.{Joining.{union_subset}, Refusals.{IsMemory}}, proofs.{Callers.{readable, file_refused, drawn}, Outcomes.{file_unread, first_refused, second_refused, both_cut}}}

@@ -3,12 +3,13 @@ use Rattle.std.proofs.{Common.{◌≡◌, ℕ, ◌≤◌, List, [], ◌∷◌, �
 use Rattle.std.specs.{Prelude.{map, codes}, Fmt.{decimal as digits}, List.{AllByRecursion}}
 use Rattle.t1_grammar.{specs.{Grammar.{either, Stops, first_at}, Tables.{with_front, table_at}, TableLaws.{table_at-step}}, proofs.Grammars.{that_read}}
 use Rattle.t1_bytes.specs.White.{gap}
-use Rattle.t1_font.specs.{declared.dialect.Spacing.TheVariants.{White}, Words.{is_regular, word, keyword, decimal}, Markers.{encoding_marker}}
-use Rattle.t1_font.specs.Encoding.{encoding_word, encoding_table, encoding_loop, Whole, OpensPuts, encoding_start, octal, code, CodeEntry, Put, put_entry, code_entry, encoding_end}
-use Rattle.t1_font.specs.{Pieces.{EncodingText, OneWord, Puts, encoding_from, clear_pieces}, Writing.{puts_text, encoding_text}, IsFont.{IsWord, IsCode, NoMarker}}
-use Rattle.t1_font.specs.{EntryLaws.{code_entry_eats, code_entry_apart}, Dialect.{strict}}
-use Rattle.t1_font.proofs.{Copies.{puts_plain}, canonical.Written.{gap_one, word_read, keyword_read, black, black_digits, decimal_read, no_white}}
-use Rattle.t1_font.proofs.{canonical.EntriesWritten.{fixed_read, name_read, is_word_of}, canonical.Moves.{first_behind, encoding_moves}}
+use Rattle.t1_text.specs.{declared.dialect.Spacing.TheVariants.{White}, Words.{is_regular, word, keyword, decimal}, Markers.{encoding_marker}}
+use Rattle.t1_text.specs.Encoding.{encoding_word, encoding_table, encoding_loop, Whole, OpensPuts, encoding_start, octal, code, CodeEntry, Put, put_entry, code_entry, encoding_end}
+use Rattle.t1_text.specs.{FontWords.{IsWord, NoMarker}, EntryLaws.{code_entry_eats, code_entry_apart}, Dialect.{strict}}
+use Rattle.t1_font.specs.{Pieces.{EncodingText, OneWord, Puts, encoding_from, clear_pieces}, Writing.{puts_text, encoding_text}, IsFont.{IsCode}}
+use Rattle.t1_font.proofs.Copies.{puts_plain}
+use Rattle.t1_text.proofs.{Written.{gap_one, word_read, keyword_read, black, black_digits, decimal_read, no_white}, Moves.{first_behind, encoding_moves}}
+use Rattle.t1_font.proofs.canonical.EntriesWritten.{fixed_read, name_read, is_word_of}
 
 -- the marker of the Encoding is read from its text
 pub encoding_marker_read : (rest : List ℕ) → encoding_marker.read (codes "/Encoding" ++ (32 ∷ rest)) ≡ Some (tt, 32 ∷ rest)

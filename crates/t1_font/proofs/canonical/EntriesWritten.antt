@@ -4,11 +4,12 @@ use Rattle.std.proofs.lemmas.Bool.{le-leb, lt-ltb, and_from}
 use Rattle.std.specs.{Prelude.{codes}, Fmt.{decimal as digits}, List.{AllByRecursion}}
 use Rattle.t1_grammar.{specs.{Grammar.{Grammar, that, run, fixed, Stops}, Tables.{with_front, table_at}, TableLaws.{Apart, table_at-step}}, proofs.Grammars.{bind_read, that_read, run_read}}
 use Rattle.t1_bytes.specs.White.{white}
-use Rattle.t1_font.specs.{declared.dialect.Spacing.TheVariants.{White}, Words.{is_regular, is_word, keyword, name, is_name, next_name}, Entry.{Body, Entry, body, entry}}
-use Rattle.t1_font.specs.{Subrs.{Subr, subr_key, subr, subrs_end}, Glyphs.{Glyph, glyph, glyphs_end}, Writing.{body_text, entry_text, entries_text, index_text, subrs_text, name_text, glyphs_text}}
-use Rattle.t1_font.specs.{IsFont.{IsWord, IsPhrase}, EntryLaws.{entry_eats, entry_apart, subr_key_apart, next_name_apart}}
-use Rattle.t1_font.proofs.canonical.Written.{white_one, gap_one, word_read, keyword_read, decimal_read, dup_regular, black, black_digits, count_read, length_read, one_read, no_white}
-use Rattle.t1_font.proofs.canonical.Phrases.{phrase_behind, phrase_starts, closing_read}
+use Rattle.t1_text.specs.{declared.dialect.Spacing.TheVariants.{White}, Words.{is_regular, is_word, keyword, name, is_name, next_name}, Entry.{Body, Entry, body, entry}}
+use Rattle.t1_text.specs.{Subrs.{Subr, subr_key, subr, subrs_end}, Glyphs.{Glyph, glyph, glyphs_end}, FontWords.{IsWord, IsPhrase}}
+use Rattle.t1_text.specs.EntryLaws.{entry_eats, entry_apart, subr_key_apart, next_name_apart}
+use Rattle.t1_font.specs.Writing.{body_text, entry_text, entries_text, index_text, subrs_text, name_text, glyphs_text}
+use Rattle.t1_text.proofs.Written.{white_one, gap_one, word_read, keyword_read, decimal_read, dup_regular, black, black_digits, count_read, length_read, one_read, no_white}
+use Rattle.t1_text.proofs.Phrases.{phrase_behind, phrase_starts, closing_read}
 
 pub fixed_read : (w rest : List ℕ) → (fixed w).read (w ++ rest) ≡ Some (w, rest)
 fixed_read w rest = (fixed w).again w w rest ((refl, refl), (bytes_eq-Decides w w).1 refl)

@@ -5,10 +5,12 @@ use Rattle.std.specs.FinMap.{FinMap, find, get, entries, entries_sorted, len-ent
 use Rattle.t1_bytes.proofs.Ciphers.{opened-sealed, length-sealed}
 use Rattle.t1_bytes.specs.Cipher.{plain_of}
 use Rattle.t1_font.specs.FontValue.{FontValue, Shell, SubrsShell, Encoding, Word, Codes, SparseArray, CharStrings, name_cmp, notdef}
-use Rattle.t1_font.specs.{Entries.{map_of, names_of, last_value, unless_notdef}, ReadFont.{encoding_value, of_first, subrs_shell, subr_entries, font_of}, Entry.{plain_entries}}
+use Rattle.t1_font.specs.ReadFont.{encoding_value, of_first, subrs_shell, subr_entries, font_of}
+use Rattle.t1_text.specs.{Entries.{map_of, names_of, last_value, unless_notdef}, Entry.{plain_entries}, FontWords.{IsWord, IsPhrase, IsCharstring}}
 use Rattle.t1_font.specs.Canon.{sealed_body, sealed_entry, subr_entry, glyph_entry, subrs_pieces, inside_of, outside_of, encoding_pieces}
-use Rattle.t1_font.specs.IsFont.{IsFont, IsWord, IsPhrase, IsCharstring, SubrsFit, SubrWords, IsCode, IsEncoding}
-use Rattle.t1_font.proofs.{MapLaws.{get-map_of, get-names_of}, canonical.EntriesWritten.{IsEntry}, canonical.PrivateWritten.{AreOptional, IsWritable}, canonical.ClearWritten.{IsEncodingText}}
+use Rattle.t1_font.specs.IsFont.{IsFont, SubrsFit, SubrWords, IsCode, IsEncoding}
+use Rattle.t1_font.proofs.{canonical.EntriesWritten.{IsEntry}, canonical.PrivateWritten.{AreOptional, IsWritable}, canonical.ClearWritten.{IsEncodingText}}
+use Rattle.t1_text.proofs.MapLaws.{get-map_of, get-names_of}
 use Rattle.t1_font.proofs.MapLemmas.{entries_all, T_true, last-sorted}
 
 -- numbers that tie are one

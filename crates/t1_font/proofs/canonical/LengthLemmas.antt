@@ -5,11 +5,11 @@ use Rattle.std.specs.{Prelude.{codes}, Fmt.{decimal as digits}, List.{AllByRecur
 use Rattle.std.specs.{FinMap.{entries, entries_sorted, len-entries, is_sorted, nat_cmp-IsAntisymmetric}, FinMap.Entries.{below_all}, Cmp.Lexicographic.{nat_list_cmp_total}}
 use Rattle.t1_bytes.specs.{declared.form.Form.{Form}, declared.form.Form.TheVariants.{Pfa, Pfb}, Cipher.{private_cipher}, Limits.{file_limit}}
 use Rattle.t1_bytes.proofs.{Ciphers.{length-sealed}, FileLengths.{pfa_length, pfb_length}}
-use Rattle.t1_font.specs.Words.{word, phrase_of, phrase_after, is_access, passes}
+use Rattle.t1_text.specs.{Words.{word, phrase_of, phrase_after, is_access, passes}, Entry.{Body}, FontWords.{IsWord, IsPhrase, IsCharstring}}
 use Rattle.t1_font.specs.FontValue.{FontValue, Shell, SubrsShell, Encoding, Word, Codes, SparseArray, total, subr_weight, glyph_weight, weight}
-use Rattle.t1_font.specs.{Writing.{body_text, entry_text, entries_text, index_text, subrs_text, subrs_part, name_text, glyphs_text, glyphs_part, puts_text, encoding_text}, Entry.{Body}}
+use Rattle.t1_font.specs.Writing.{body_text, entry_text, entries_text, index_text, subrs_text, subrs_part, name_text, glyphs_text, glyphs_part, puts_text, encoding_text}
 use Rattle.t1_font.specs.{Canon.{sealed_body, sealed_entry, subr_entry, glyph_entry, subrs_pieces, encoding_pieces, canon_clear, canon_private, canon}, WriteLaws.{CanonLength}}
-use Rattle.t1_font.specs.IsFont.{IsFont, IsWord, IsPhrase, IsCharstring, SubrsFit, SubrWords, IsCode, IsEncoding}
+use Rattle.t1_font.specs.IsFont.{IsFont, SubrsFit, SubrWords, IsCode, IsEncoding}
 use Rattle.t1_font.proofs.{canonical.FontAgain.{name_same, length-body}, MapLemmas.{entries_all, T_true}}
 
 after_short : (test : List ℕ → Bool) (access : Bool) (first p text rest : List ℕ) →

@@ -3,11 +3,12 @@ use Rattle.std.proofs.Common.{◌≡◌, ℕ, inl, inr, ◌⊎◌, ◌≤◌, �
 use Rattle.std.proofs.{lemmas.List.{length-append, append-nil}, lemmas.Option.{none-some, same_Some}, lemmas.Bool.{lt-ltb, le-ltb}}
 use Rattle.std.specs.{Prelude.{codes}, Fmt.{decimal as digits}, List.{AllByRecursion}, Option.{option_map}}
 use Rattle.t1_grammar.specs.{Grammar.{Grammar, Stops, first, first_at, Lacks, first_here}, Tables.{table_at}, Places.{prepend, occurs, absent_lacks, lacks_absent}}
-use Rattle.t1_font.specs.{declared.dialect.Spacing.TheVariants.{White}, Words.{is_regular}, Entry.{Entry}, Subrs.{subr, subrs_end}, Markers.{subrs_marker, chars_marker, closefile, white_comes}}
-use Rattle.t1_font.specs.{Glyphs.{Glyph}, declared.fault.ReadFault.{ReadFault}, Pieces.{SubrsPieces, PrivatePieces, private_pieces, tables_from, before_place, glyphs_from, tail_after, iv_of}}
-use Rattle.t1_font.specs.{Writing.{entries_text, index_text, subrs_text, subrs_part, name_text, glyphs_text, glyphs_part, private_written}, IsFont.{IsWord, IsPhrase, NoMarker}}
-use Rattle.t1_font.proofs.{canonical.Written.{gap_one, keyword_read, decimal_read, black_digits}, canonical.FirstPlace.{one_place}, canonical.Borders.{fixed_strip}}
-use Rattle.t1_font.proofs.canonical.Moves.{Within, fixed_within, first_grows, past_none, first_behind, subrs_moves, chars_moves}
+use Rattle.t1_text.specs.{declared.dialect.Spacing.TheVariants.{White}, Words.{is_regular}, Entry.{Entry}, Subrs.{subr, subrs_end}, Markers.{subrs_marker, chars_marker, closefile, white_comes}}
+use Rattle.t1_text.specs.{Glyphs.{Glyph}, FontWords.{IsWord, IsPhrase, NoMarker}}
+use Rattle.t1_font.specs.{declared.fault.ReadFault.{ReadFault}, Pieces.{SubrsPieces, PrivatePieces, private_pieces, tables_from, before_place, glyphs_from, tail_after, iv_of}}
+use Rattle.t1_font.specs.Writing.{entries_text, index_text, subrs_text, subrs_part, name_text, glyphs_text, glyphs_part, private_written}
+use Rattle.t1_text.proofs.{Written.{gap_one, keyword_read, decimal_read, black_digits}, FirstPlace.{one_place}, Borders.{fixed_strip}}
+use Rattle.t1_text.proofs.Moves.{Within, fixed_within, first_grows, past_none, first_behind, subrs_moves, chars_moves}
 use Rattle.t1_font.proofs.canonical.EntriesWritten.{IsEntry, subrs_read, glyphs_read, fixed_read}
 
 -- a table of Subrs that can be written

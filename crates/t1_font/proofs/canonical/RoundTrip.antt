@@ -6,7 +6,8 @@ use Rattle.t1_bytes.specs.{declared.form.Form.{Form}, declared.form.Form.TheVari
 use Rattle.t1_bytes.specs.{Eexec.{eexec_marker, hex_or_white, hex_text, cipher_text}, Laws.{AreBytes}, Texts.{pfb_text, segment_text, hex_lines, trailer}, Limits.{file_limit}}
 use Rattle.t1_bytes.proofs.{Ciphers.{decrypted_front, length-sealed}, HexLines.{lines_read, binary_read, hex_run, run_secret, run_digits}, PfbLemmas.{pfb_flat}}
 use Rattle.t1_grammar.specs.{Formats.{with_fault}, Grammar.{Stops, first_at, front_again}}
-use Rattle.t1_font.specs.{declared.fault.ReadFault.TheVariants.{BadSegment}, declared.dialect.Spacing.TheVariants.{White}, declared.fault.ReadFault.{ReadFault}}
+use Rattle.t1_font.specs.{declared.fault.ReadFault.TheVariants.{BadSegment}, declared.fault.ReadFault.{ReadFault}}
+use Rattle.t1_text.specs.declared.dialect.Spacing.TheVariants.{White}
 use Rattle.t1_font.specs.FontValue.{FontValue, SubrsShell, SparseArray, notdef, count_limit, declared_count, FitsLimits}
 use Rattle.t1_font.specs.{Pieces.{EncodingText, OneWord, Puts, ClearPieces, PrivatePieces, flat_pieces, private_pieces}, ReadFont.{font_of, has_notdef, flat_reading, font_from, font_file, read_font}}
 use Rattle.t1_font.specs.{Writing.{encoding_text}, Canon.{encoding_pieces, inside_of, outside_of, canon_clear, canon_private, canon, Fits}, IsFont.{IsFont, SubrsFit}}

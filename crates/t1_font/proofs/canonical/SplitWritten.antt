@@ -4,9 +4,10 @@ use Rattle.std.proofs.{Common.{ap, subst, ◌∙◌, append_assoc, arith}, lemma
 use Rattle.std.specs.{Prelude.{codes}, Fmt.{decimal as digits}, List.{AllByRecursion}, Option.{option_map, option_and_then}}
 use Rattle.t1_grammar.specs.{Grammar.{Grammar, pure, ◌>>=◌, ◌>>◌, before, Stops, NoneIn, first, first_at, fixed, unspelled}, Places.{prepend}}
 use Rattle.t1_bytes.specs.{White.{is_white, gap}, Eexec.{eexec_marker, blank_comes, cipher_text}, Split.{split}}
-use Rattle.t1_font.specs.{Words.{is_regular, is_delimiter, is_digit}, Pieces.{EncodingText, OneWord, Puts, flat_pieces}, Writing.{puts_text, encoding_text}, IsFont.{IsCode, NoMarker}}
-use Rattle.t1_font.proofs.{FileParts.{before_last}, canonical.Written.{AllRegular, gap_one, digits_are}, canonical.ClearWritten.{IsEncodingText}, canonical.Borders.{strip, fixed_strip}}
-use Rattle.t1_font.proofs.canonical.Moves.{Foreign, eexec_within, eexec_moves, first_grows, past_none, NoneIn-append}
+use Rattle.t1_font.specs.{Pieces.{EncodingText, OneWord, Puts, flat_pieces}, Writing.{puts_text, encoding_text}, IsFont.{IsCode}}
+use Rattle.t1_text.specs.{Words.{is_regular, is_delimiter, is_digit}, FontWords.{NoMarker}}
+use Rattle.t1_font.proofs.{FileParts.{before_last}, canonical.ClearWritten.{IsEncodingText}}
+use Rattle.t1_text.proofs.{Written.{AllRegular, gap_one, digits_are}, Borders.{strip, fixed_strip}, Moves.{Foreign, eexec_within, eexec_moves, first_grows, past_none, NoneIn-append}}
 
 -- the text w can't stand at the front of these bytes, whatever follows them
 abbrev pub differs : List ℕ → List ℕ → Bool

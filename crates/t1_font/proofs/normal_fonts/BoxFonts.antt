@@ -3,7 +3,8 @@ use Rattle.std.{proofs.{Common.{◌≡◌, ℕ, Bool, true, false, cond, List, O
 use Rattle.t1_bytes.specs.Laws.{AreBytes}
 use Rattle.t1_font.specs.{declared.normal_texts.KeptText.TheVariants.{Head, ClearTail}, FontValue.{FontValue, Shell, SubrsShell, SparseArray, weight, weight_limit}}
 use Rattle.t1_font.specs.{NormalTexts.{fits, same_both, both_fit, normal_clear}, IsFont.{IsFont, SubrsFit}}
-use Rattle.t1_font.specs.FontBoxes.{Box, Side, side_in, texts_at, texts_with, stays_at, clear_of, with_clear, clear_with, with_texts, can_take, can_have_at, can_have}
+use Rattle.t1_font.specs.FontBoxes.{Side, side_in, texts_at, texts_with, stays_at, clear_of, with_clear, clear_with, with_texts, can_take, can_have_at, can_have}
+use Rattle.t1_text.specs.Boxes.{Box}
 use Rattle.t1_font.proofs.normal_fonts.NormalTexts.{fits_so}
 
 -- Subrs that fit a shell fit it with other clear texts

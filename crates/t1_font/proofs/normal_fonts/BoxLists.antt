@@ -2,8 +2,10 @@
 use Rattle.std.proofs.Common.{◌≡◌, ℕ, ◌+◌, ◌<◌, Bool, true, false, cond, List, [], ◌∷◌, map, length, get_or, drop, Option, Some, None, is_some, Result, Ok, Err, refl, sym, ap, ◌∙◌, inl, inr}
 use Rattle.std.proofs.{lemmas.Bool.{cond-true, cond-false, and_parts, cases_Bool}, lemmas.List.{at_drop_more}, lemmas.Slice.Eq.{bytes_eq-Decides}, lemmas.Option.{none-some, same_Some}}
 use Rattle.std.specs.{Prelude.{◌&&◌}, Global.{Vec}, Result.{IfOk}, List.{AllByRecursion, list_all}, Option.{option_map, option_and_then}}
-use Rattle.t1_font.specs.{FontValue.{FontValue}, FontBoxes.{Box, same_box, joined_box, box_of, font_with, can_have, if_can, boxes_of, all_with, boxed_by, boxed}, BoxViews.{are_alike, wanted_box}}
-use Rattle.t1_font.proofs.{normal_fonts.BoxPlaces.{box_same}, normal_fonts.Boxes.{one_box_stays}}
+use Rattle.t1_font.specs.{FontValue.{FontValue}, FontBoxes.{box_of, font_with, can_have, if_can, boxes_of, all_with, boxed_by, boxed}, BoxViews.{are_alike, wanted_box}}
+use Rattle.t1_text.specs.Boxes.{Box, same_box, joined_box}
+use Rattle.t1_font.proofs.normal_fonts.Boxes.{one_box_stays}
+use Rattle.t1_text.proofs.BoxPlaces.{box_same}
 
 -- ---- what an answer tells of a test
 

@@ -3,11 +3,13 @@ use Rattle.std.proofs.Common.{◌≡◌, ℕ, Bool, true, false, cond, List, [],
 use Rattle.std.proofs.{lemmas.Bool.{cond-true, cond-false, cond_both, and_parts, cases_Bool, true≢false}, lemmas.Option.{none-some, same_Some}, lemmas.Slice.Eq.{bytes_eq-Decides}}
 use Rattle.std.specs.{Prelude.{◌||◌, filter}, List.{AllByRecursion, fold, list_any, list_all}, declared.cmp.Ordering.{Ordering}, Ordering.{is_gt}, Option.{option_map, option_and_then}, Str.{bytes_eq}}
 use Rattle.t1_bytes.specs.Laws.{AreBytes}
-use Rattle.t1_font.specs.{FontValue.{FontValue, Shell}, IsFont.{IsFont}, NormalTexts.{same_both, normal_clear, normal_texts}, Numbers.{least_first, greatest_first, sooner, soonest}}
-use Rattle.t1_font.specs.FontBoxes.{Box, says_nothing, held, counting_boxes, joined_box, BoxPlace, place_in, at_place, box_place_text, Side, side_of, side_in, box_at, texts_at, texts_with, clear_of}
+use Rattle.t1_font.specs.{FontValue.{FontValue, Shell}, IsFont.{IsFont}, NormalTexts.{same_both, normal_clear, normal_texts}}
+use Rattle.t1_text.specs.{Numbers.{least_first, greatest_first, sooner, soonest}, Boxes.{Box, says_nothing, held, counting_boxes, joined_box, BoxPlace, place_in, at_place, box_place_text}}
+use Rattle.t1_font.specs.FontBoxes.{Side, side_of, side_in, box_at, texts_at, texts_with, clear_of}
 use Rattle.t1_font.specs.FontBoxes.{with_clear, box_of, with_box, with_texts, font_with, can_have_at, can_have, boxes_of, all_with, boxed_by, boxed}
 use Rattle.t1_font.specs.NormalizingLaws.{without_clear, BoxedTwice, BoxedKeeps, BoxedAreFonts, BoxedAreNormal, OneShellStays}
-use Rattle.t1_font.proofs.{ByteLemmas.{AreBytes-append}, normal_fonts.BoxFonts.{taken_so, had_is_font}, normal_fonts.BoxPlaces.{read_there, there_again, box_there, place_is, own_box}}
+use Rattle.t1_font.proofs.{normal_fonts.BoxFonts.{taken_so, had_is_font}, normal_fonts.BoxPlaces.{read_there, there_again, box_there, own_box}}
+use Rattle.t1_text.proofs.{Bytes.{AreBytes-append}, BoxPlaces.{place_is}}
 
 cond_same : {A : Type 0} (b : Bool) (x y z : A) → x ≡ z → y ≡ z → cond b x y ≡ z
 cond_same true x y z h k = h

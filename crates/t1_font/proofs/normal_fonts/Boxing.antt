@@ -2,7 +2,8 @@
 use Rattle.std.proofs.{Common.{◌≡◌, ℕ, ◌≤◌, arith, true, List, [], ◌∷◌, map, Option, Some, None, refl, sym, ap, ◌∙◌}, lemmas.Bool.{cond-true, and_parts, and_from, leb-true, le-leb}}
 use Rattle.std.specs.{List.{AllByRecursion, list_all}, Option.{option_map, option_and_then}, Cmp.{nat_cmp_total}, FinMap.{get, entries, nat_cmp-IsAntisymmetric}}
 use Rattle.t1_font.specs.{FontValue.{FontValue, SparseArray, declared_count, total, subr_weight, weight, weight_limit}, Maps.{merged}, Normalizing.{stubs_at, below_count, with_stubs, filled}}
-use Rattle.t1_font.specs.FontBoxes.{Box, Side, joined_box, side_in, texts_at, clear_of, with_texts, can_take, can_have_at, can_have, box_of, boxes_of, font_with, boxed_by, boxed}
+use Rattle.t1_font.specs.FontBoxes.{Side, side_in, texts_at, clear_of, with_texts, can_take, can_have_at, can_have, box_of, boxes_of, font_with, boxed_by, boxed}
+use Rattle.t1_text.specs.Boxes.{Box, joined_box}
 use Rattle.t1_font.proofs.{MapLemmas.{joined, get-merged, total-le}, normal_fonts.BoxFonts.{taken_so}, normal_fonts.Boxes.{by_cases, same_box_stays, have_it, keep_it}}
 
 -- ---- a font that is filled

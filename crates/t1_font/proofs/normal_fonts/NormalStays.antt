@@ -2,7 +2,8 @@
 use Rattle.std.proofs.{Common.{◌≡◌, ℕ, ◌≤◌, arith, Bool, true, false, cond, ◌||◌, List, [], ◌∷◌, map, Option, Some, None, is_some, refl, sym, ap, ◌∙◌, true≢false}, lemmas.Bool.{and_parts}}
 use Rattle.std.specs.{Prelude.{max, nat_lt}, List.{AllByRecursion, list_all}, Option.{option_map}, Cmp.{nat_cmp_total}}
 use Rattle.std.specs.FinMap.{get, entries, keys, contains_key, contains_key-keys, get-from_entries, same_map, nat_cmp-IsAntisymmetric}
-use Rattle.t1_font.specs.{NormalTexts.{normal_texts}, FontBoxes.{Box, box_of, joined_box, can_have, font_with, boxed}, FontValue.{FontValue, SubrsShell, SparseArray, declared_count}, Cut.{stub}}
+use Rattle.t1_font.specs.{NormalTexts.{normal_texts}, FontBoxes.{box_of, can_have, font_with, boxed}, FontValue.{FontValue, SubrsShell, SparseArray, declared_count}, Cut.{stub}}
+use Rattle.t1_text.specs.Boxes.{Box, joined_box}
 use Rattle.t1_font.specs.{Maps.{merged}, Normalizing.{raised, normal, stubs_at, below_count, with_stubs, filled, largest_count, indices_of_all, each_normal, normalized_shells, filled_all, normalized}}
 use Rattle.t1_font.specs.NormalizingLaws.{NormalStays, FilledStays, NormalizedTwice, IsNormalWith, NormalFontsStay}
 use Rattle.t1_font.proofs.{MapLemmas.{joined, get-merged, get-retain}, normal_fonts.Normalized.{stubs_below}}

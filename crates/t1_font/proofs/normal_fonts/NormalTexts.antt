@@ -5,12 +5,13 @@ use Rattle.std.specs.{Prelude.{◌&&◌, not}, Option.{option_map, option_and_th
 use Rattle.t1_grammar.specs.{Grammar.{Grammar, Stops, Lacks, first, first_at, choice}, Places.{occurs, absent_lacks}}
 use Rattle.t1_bytes.specs.Eexec.{eexec_marker}
 use Rattle.t1_font.specs.{declared.normal_texts.KeptText.{KeptText}, declared.normal_texts.KeptText.TheVariants.{Head, ClearTail, Private, Middle, Tail}, declared.fault.ReadFault.{ReadFault}}
-use Rattle.t1_font.specs.{Words.{is_regular, regular_comes}, Markers.{encoding_marker, subrs_marker, chars_marker, closefile}, Pieces.{iv_of}, FontValue.{Shell, texts_weight}}
-use Rattle.t1_font.specs.{FontTest.{eexec_there, has_marker}, IsFont.{NoMarker, IsClearShell, IsPrivateShell, AreTexts}, Squeezing.{squeezed_piece, squeezed}, Identity.{unnumbered_piece, unnumbered}}
-use Rattle.t1_font.specs.Tags.{tagged_name, untagged_piece, both_untagged}
+use Rattle.t1_font.specs.{Pieces.{iv_of}, FontValue.{Shell, texts_weight}}
+use Rattle.t1_text.specs.{Words.{is_regular, regular_comes}, Markers.{encoding_marker, subrs_marker, chars_marker, closefile}, FontTest.{eexec_there, has_marker}, FontWords.{NoMarker}}
+use Rattle.t1_text.specs.{Squeezing.{squeezed_piece, squeezed}, Identity.{unnumbered_piece, unnumbered}, Tags.{tagged_name, untagged_piece, both_untagged}}
+use Rattle.t1_font.specs.IsFont.{IsClearShell, IsPrivateShell, AreTexts}
 use Rattle.t1_font.specs.NormalTexts.{is_left, ends_at, reads_number, own_fits, fits, taken, squeezed_text, normal_text, same_both, both_normal, without_tags, both_fit, normal_clear, normal_texts}
 use Rattle.t1_font.specs.NormalizingLaws.{NormalTextsStay}
-use Rattle.t1_font.proofs.{Untested.{both_true, not_true, neither, lacks_none, no_eexec}, normal_fonts.RewritingLemmas.{Shrinks, pieces_shrink, squeezed_takes, unnumbered_takes, untagged_takes}}
+use Rattle.t1_text.proofs.{Untested.{both_true, not_true, neither, lacks_none, no_eexec}, RewritingLemmas.{Shrinks, pieces_shrink, squeezed_takes, unnumbered_takes, untagged_takes}}
 
 -- ---- steps that are taken
 

@@ -3,7 +3,8 @@ use Rattle.std.proofs.{Common.{◌≡◌, ℕ, ◌≤◌, ◌<◌, arith, Bool, 
 use Rattle.std.specs.{Prelude.{nat_lt}, Option.{option_map}, Ordering.{nat_cmp, eq_by_cmp}, Cmp.{nat_cmp_total, Equal-is}}
 use Rattle.std.specs.FinMap.{find, get, entries, get-entries, get-from_entries, retain_keys, same_map, nat_cmp-IsAntisymmetric}
 use Rattle.t1_font.specs.{FontValue.{FontValue, Shell, SubrsShell, SparseArray, declared_count, count_limit, weight_limit, weight}, Cut.{stub}, Maps.{merged}, NormalTexts.{normal_texts}}
-use Rattle.t1_font.specs.{Normalizing.{raised, normal_shell, normal, stubs_at, below_count, with_stubs, filled}, IsFont.{IsFont, IsCharstring, SubrsFit, SubrWords, IsWord, IsPhrase}}
+use Rattle.t1_font.specs.{Normalizing.{raised, normal_shell, normal, stubs_at, below_count, with_stubs, filled}, IsFont.{IsFont, SubrsFit, SubrWords}}
+use Rattle.t1_text.specs.FontWords.{IsCharstring, IsWord, IsPhrase}
 use Rattle.t1_font.proofs.{MapLemmas.{is_or_not, joined, get-merged, get-retain, find_first, Some_None}, Kept.{iv_small, merged_has}}
 use Rattle.t1_font.proofs.normal_fonts.NormalTexts.{normal_shorter, empty_stays, normal_clear_shell, normal_private_shell, normal_are_texts}
 

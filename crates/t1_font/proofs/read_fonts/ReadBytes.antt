@@ -1,28 +1,12 @@
 -- What is read of bytes is bytes.
-use Rattle.std.proofs.{Common.{◌≡◌, ℕ, zero, suc, ◌/◌, ◌<◌, ◌^◌, ◌≤◌, inl, inr, Bool, true, false, leb, List, [], ◌∷◌, ◌++◌, drop, refl, subst, arith}, lemmas.Nat.{xor_lt}}
+use Rattle.std.proofs.{Common.{ℕ, ◌/◌, ◌<◌, ◌^◌, ◌≤◌, inl, inr, Bool, true, false, leb, List, [], ◌∷◌, ◌++◌, refl, subst, arith}, lemmas.Nat.{xor_lt}}
 use Rattle.std.proofs.lemmas.Bool.{cases_Bool, leb-true, agree_below_at}
 use Rattle.std.specs.{Prelude.{filter}, List.{AllByRecursion, flat_map}}
 use Rattle.t1_bytes.proofs.FlatTexts.{said_flat}
 use Rattle.t1_bytes.specs.{Cipher.{next_key, decrypted}, Segments.{segment}, FlatText.{starts_segment, flat_when, IsFlat}, Eexec.{digit_value, paired, cipher_text}, Laws.{AreBytes}}
 use Rattle.t1_grammar.specs.{Grammar.{Grammar}, Tables.{Entries}}
-use Rattle.t1_font.proofs.ByteLemmas.{AreBytes-append}
-
-pub bytes_left : (a b : List ℕ) → AreBytes (a ++ b) → AreBytes a
-bytes_left [] b h = tt
-bytes_left (x ∷ a) b h = (h.0, bytes_left a b h.1)
-
-pub bytes_right : (a b : List ℕ) → AreBytes (a ++ b) → AreBytes b
-bytes_right [] b h = h
-bytes_right (x ∷ a) b h = bytes_right a b h.1
-
--- the two parts of a text
-pub parts_bytes : (text front back : List ℕ) → text ≡ front ++ back → AreBytes text → AreBytes front × AreBytes back
-parts_bytes text front back e h = let k = subst AreBytes e h in (bytes_left front back k, bytes_right front back k)
-
-pub drop_bytes : (n : ℕ) (bytes : List ℕ) → AreBytes bytes → AreBytes (drop n bytes)
-drop_bytes zero bytes h = h
-drop_bytes (suc n) [] h = tt
-drop_bytes (suc n) (b ∷ bytes) h = drop_bytes n bytes h.1
+use Rattle.t1_text.proofs.Bytes.{AreBytes-append}
+use Rattle.t1_text.proofs.Bytes.{parts_bytes}
 
 pub decrypted_bytes : (cs : List ℕ) (key : ℕ) → key < 65536 → AreBytes cs → AreBytes (decrypted key cs)
 decrypted_bytes [] key k h = tt

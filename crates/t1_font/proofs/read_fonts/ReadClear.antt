@@ -4,14 +4,16 @@ use Rattle.std.proofs.{Common.{true≢false}, lemmas.List.{append-nil, length-ap
 use Rattle.std.specs.{Prelude.{codes}, List.{AllByRecursion}, Option.{option_map}, Str.{bytes_eq}, Ordering.{nat_cmp}, Cmp.{nat_cmp_total}, FinMap.{nat_cmp-IsAntisymmetric}}
 use Rattle.t1_grammar.{specs.Grammar.{NoneIn, Stops, first, first_at, AtFront, unspelled, unread}, proofs.Grammars.{that_read, run_read}}
 use Rattle.t1_bytes.specs.{White.{is_white, white, has_bytes, gap}, Eexec.{eexec_marker, blank_comes}, Split.{IsSplit}, Laws.{AreBytes}}
-use Rattle.t1_font.specs.{declared.dialect.Spacing.{Spacing}, declared.dialect.Dialect.{Dialect}, Words.{is_regular, keyword, next_name}, Markers.{encoding_marker}}
-use Rattle.t1_font.specs.Encoding.{Opening, Whole, OpensPuts, OpensNames, encoding_start, encoding_word, code_entry, encoding_end, array_end, from_code}
-use Rattle.t1_font.specs.{Pieces.{EncodingText, OneWord, Puts, ClearPieces, PrivatePieces}, FontValue.{notdef}, Entries.{last_value, unless_notdef}, ReadFont.{encoding_value, shell_of}}
-use Rattle.t1_font.specs.{Spelling.{SpellsEncoding, IsClear}, IsFont.{IsWord, IsClearShell, IsEncoding, NoMarker}, EntryLaws.{keyword_text}}
-use Rattle.t1_font.proofs.{MapLaws.{get-names_of}, MapLemmas.{Some_same, Some_None}, canonical.EntriesWritten.{fixed_read}}
-use Rattle.t1_font.proofs.{canonical.Moves.{first_behind, eexec_moves, encoding_moves}, read_fonts.ReadBack.{eexec_alike}, read_fonts.ReadBytes.{parts_bytes, entries_have}}
+use Rattle.t1_text.specs.{declared.dialect.Spacing.{Spacing}, declared.dialect.Dialect.{Dialect}, Words.{is_regular, keyword, next_name}, Markers.{encoding_marker}}
+use Rattle.t1_text.specs.{Encoding.{Opening, Whole, OpensPuts, OpensNames, encoding_start, encoding_word, code_entry, encoding_end, array_end, from_code}, Entries.{last_value, unless_notdef}}
+use Rattle.t1_text.specs.{FontWords.{IsWord, NoMarker}, EntryLaws.{keyword_text}}
+use Rattle.t1_font.specs.{Pieces.{EncodingText, OneWord, Puts, ClearPieces, PrivatePieces}, FontValue.{notdef}, ReadFont.{encoding_value, shell_of}}
+use Rattle.t1_font.specs.{Spelling.{SpellsEncoding, IsClear}, IsFont.{IsClearShell, IsEncoding}}
+use Rattle.t1_font.proofs.{MapLemmas.{Some_same, Some_None}, canonical.EntriesWritten.{fixed_read}}
+use Rattle.t1_text.proofs.{MapLaws.{get-names_of}, Moves.{first_behind, eexec_moves, encoding_moves}, ReadBack.{eexec_alike}, Bytes.{parts_bytes}}
+use Rattle.t1_text.proofs.ReadMarkers.{meet, NoneIn-left, NoneIn-right, encoding_slash, IsMarker, marker_is, is_plain, marker_plain, plain_right}
+use Rattle.t1_font.proofs.read_fonts.ReadBytes.{entries_have}
 use Rattle.t1_font.proofs.read_fonts.ReadEntries.{word_of, code_entry_of, next_name_of, IsReadPut, IsReadEntry, puts_are, last_has}
-use Rattle.t1_font.proofs.read_fonts.ReadMarkers.{meet, NoneIn-left, NoneIn-right, encoding_slash, IsMarker, marker_is, is_plain, marker_plain, plain_right}
 
 -- ---- the Encoding ends with `def`
 

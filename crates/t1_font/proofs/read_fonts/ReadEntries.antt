@@ -4,12 +4,14 @@ use Rattle.std.proofs.{lemmas.Bool.{leb-true, ltb-true, and_parts}, lemmas.List.
 use Rattle.std.specs.{Prelude.{codes, unwrap_or}, List.{AllByRecursion}, Ordering.{is_eq, nat_cmp}, FinSet.{nat_cmp-IsAntisymmetric}, Cmp.{IsTotalOrder, Equal-is}, FinMap.{get, IsAntisymmetric}}
 use Rattle.t1_grammar.specs.Grammar.{Grammar, choice}
 use Rattle.t1_bytes.{specs.{Laws.{AreBytes}, Cipher.{decrypted, plain_of}}, proofs.Ciphers.{length-decrypted}}
-use Rattle.t1_font.specs.{declared.dialect.Spacing.{Spacing}, declared.dialect.Dialect.{Dialect}, declared.dialect.Spacing.TheVariants.{White}}
-use Rattle.t1_font.specs.{Words.{word, name, phrase_of, phrase_after, is_access, passes, next_name}, Entry.{Body, Entry, length_from, body, entry, plain_entries}, Subrs.{Subr, subr_key, subr}}
-use Rattle.t1_font.specs.Encoding.{code, CodeEntry, Put, Copy, put_entry, one_copy, within_codes, are_codes, copy_of_range, range_copy, name_after, copied, put_by, puts_after, entry_with}
-use Rattle.t1_font.specs.{Encoding.{code_entry}, Glyphs.{Glyph, glyph}, FontValue.{notdef}, Entries.{last_value, map_of}, IsFont.{IsWord, IsPhrase, IsCharstring}}
-use Rattle.t1_font.proofs.{MapLemmas.{Some_same, Some_None}, ByteLemmas.{AreBytes-append}, read_fonts.ReadBytes.{parts_bytes, drop_bytes, decrypted_bytes}, read_fonts.ReadBack.{whole_of}}
-use Rattle.t1_font.proofs.{MapLaws.{get-map_of}, canonical.EntriesWritten.{IsBody}}
+use Rattle.t1_text.specs.{declared.dialect.Spacing.{Spacing}, declared.dialect.Dialect.{Dialect}, declared.dialect.Spacing.TheVariants.{White}}
+use Rattle.t1_text.specs.{Words.{word, name, phrase_of, phrase_after, is_access, passes, next_name}, Entry.{Body, Entry, length_from, body, entry, plain_entries}, Subrs.{Subr, subr_key, subr}}
+use Rattle.t1_text.specs.Encoding.{code, CodeEntry, Put, Copy, put_entry, one_copy, within_codes, are_codes, copy_of_range, range_copy, name_after, copied, put_by, puts_after, entry_with}
+use Rattle.t1_text.specs.{Encoding.{code_entry}, Glyphs.{Glyph, glyph}, Entries.{last_value, map_of}, FontWords.{IsWord, IsPhrase, IsCharstring}}
+use Rattle.t1_font.specs.FontValue.{notdef}
+use Rattle.t1_font.proofs.{MapLemmas.{Some_same, Some_None}, read_fonts.ReadBytes.{decrypted_bytes}}
+use Rattle.t1_text.proofs.{Bytes.{AreBytes-append, parts_bytes, drop_bytes}, ReadBack.{whole_of}, MapLaws.{get-map_of}}
+use Rattle.t1_font.proofs.canonical.EntriesWritten.{IsBody}
 use Rattle.t1_join.proofs.OrderLemmas.{all_of_both}
 
 -- ---- words

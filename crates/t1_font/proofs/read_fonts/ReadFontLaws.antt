@@ -6,14 +6,16 @@ use Rattle.std.specs.FinMap.{find, contains_key, nat_cmp-IsAntisymmetric}
 use Rattle.t1_bytes.specs.{declared.form.Form.TheVariants.{Pfb}, Cipher.{decrypted, plain_of}, Laws.{AreBytes}, FlatText.{starts_segment, IsFlat}, Split.{IsSplit}}
 use Rattle.t1_bytes.proofs.{ContainerLaws.{one_flat}, Ciphers.{decrypted-is}}
 use Rattle.t1_grammar.specs.Grammar.{Stops, first, choice, front_again}
-use Rattle.t1_font.specs.{declared.dialect.Spacing.{Spacing}, declared.dialect.Dialect.{Dialect}, Words.{is_regular}, Entry.{plain_entries}, Subrs.{Subr}, Markers.{closefile}, Glyphs.{Glyph, glyph}}
+use Rattle.t1_text.specs.{declared.dialect.Spacing.{Spacing}, declared.dialect.Dialect.{Dialect}, Words.{is_regular}, Entry.{plain_entries}, Subrs.{Subr}, Markers.{closefile}, Glyphs.{Glyph, glyph}}
+use Rattle.t1_text.specs.{Entries.{map_of, last_entries, last_value}, FontWords.{IsWord, IsPhrase}, Dialect.{strict}}
 use Rattle.t1_font.specs.{Pieces.{ClearPieces, SubrsPieces, PrivatePieces}, FontValue.{FontValue, SubrsShell, notdef, declared_count, count_limit, FitsLimits}}
-use Rattle.t1_font.specs.{Entries.{map_of, last_entries, last_value}, ReadFont.{font_file, of_first, subrs_of, subrs_shell, glyph_entries, shell_of, font_of, read_font}}
-use Rattle.t1_font.specs.{Spelling.{IsPrivate, HasTexts, SpellsIn}, Canon.{canon}, IsFont.{IsWord, IsPhrase, IsPrivateShell, SubrWords, SubrsFit, AreGlyphs, IsFont, HasBytes}, Dialect.{strict}}
-use Rattle.t1_font.proofs.{MapLaws.{entries-map_of, find-last}, MarkerLemmas.{close_parts}, Spelled.{reads, is_iv}, ValueLaws.{notdef_is}, canonical.FontAgain.{name_same}}
-use Rattle.t1_font.proofs.{ByteLemmas.{has_bytes, canon_bytes}, canonical.RoundTrip.{round_trip}, read_fonts.ReadBack.{tail_ends_of}}
-use Rattle.t1_font.proofs.{read_fonts.ReadBytes.{parts_bytes, flat_bytes, cipher_bytes_of, decrypted_bytes, entries_have}, read_fonts.ReadEntries.{IsRead, glyph_of, map_fits}}
-use Rattle.t1_font.proofs.{read_fonts.ReadMarkers.{encoding_slash}, read_fonts.ReadClear.{clear_of}, read_fonts.ReadPrivate.{stops_front, glyphs_stops, IsReadSubrs, middle_of}}
+use Rattle.t1_font.specs.ReadFont.{font_file, of_first, subrs_of, subrs_shell, glyph_entries, shell_of, font_of, read_font}
+use Rattle.t1_font.specs.{Spelling.{IsPrivate, HasTexts, SpellsIn}, Canon.{canon}, IsFont.{IsPrivateShell, SubrWords, SubrsFit, AreGlyphs, IsFont, HasBytes}}
+use Rattle.t1_font.proofs.{Spelled.{reads, is_iv}, ValueLaws.{notdef_is}, canonical.FontAgain.{name_same}}
+use Rattle.t1_text.proofs.{MapLaws.{entries-map_of, find-last}, MarkerLemmas.{close_parts}, ReadBack.{tail_ends_of}, Bytes.{parts_bytes}, ReadMarkers.{encoding_slash}}
+use Rattle.t1_font.proofs.{ByteLemmas.{has_bytes, canon_bytes}, canonical.RoundTrip.{round_trip}}
+use Rattle.t1_font.proofs.{read_fonts.ReadBytes.{flat_bytes, cipher_bytes_of, decrypted_bytes, entries_have}, read_fonts.ReadEntries.{IsRead, glyph_of, map_fits}}
+use Rattle.t1_font.proofs.{read_fonts.ReadClear.{clear_of}, read_fonts.ReadPrivate.{stops_front, glyphs_stops, IsReadSubrs, middle_of}}
 
 -- ---- Subrs
 

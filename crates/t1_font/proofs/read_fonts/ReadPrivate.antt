@@ -4,11 +4,11 @@ use Rattle.std.proofs.lemmas.List.{append-nil, length-append}
 use Rattle.std.specs.List.{AllByRecursion}
 use Rattle.t1_grammar.specs.{Grammar.{NoneIn, Stops, first}, Tables.{TableAt}}
 use Rattle.t1_bytes.specs.Laws.{AreBytes}
-use Rattle.t1_font.specs.{declared.dialect.Spacing.{Spacing}, Words.{is_regular, word, keyword, phrase_of, phrase_after, is_access, passes}, Subrs.{Subr, subr, subrs_end}}
-use Rattle.t1_font.specs.{Markers.{subrs_marker, chars_marker}, Glyphs.{glyphs_end}, Pieces.{SubrsPieces, PrivatePieces}, Spelling.{NotBefore, nowhere, later, Start, SpellsTables}}
-use Rattle.t1_font.specs.IsFont.{NoMarker, IsPhrase}
-use Rattle.t1_font.proofs.{canonical.Moves.{subrs_moves, chars_moves}, read_fonts.ReadBytes.{parts_bytes, entries_have}, read_fonts.ReadEntries.{phrase_is, IsRead, subr_of}}
-use Rattle.t1_font.proofs.read_fonts.ReadMarkers.{lacks_none, before_slash, subrs_slash, chars_slash}
+use Rattle.t1_text.specs.{declared.dialect.Spacing.{Spacing}, Words.{is_regular, word, keyword, phrase_of, phrase_after, is_access, passes}, Subrs.{Subr, subr, subrs_end}}
+use Rattle.t1_text.specs.{Markers.{subrs_marker, chars_marker}, Glyphs.{glyphs_end}, FontWords.{NoMarker, IsPhrase}}
+use Rattle.t1_font.specs.{Pieces.{SubrsPieces, PrivatePieces}, Spelling.{NotBefore, nowhere, later, Start, SpellsTables}}
+use Rattle.t1_font.proofs.{read_fonts.ReadBytes.{entries_have}, read_fonts.ReadEntries.{phrase_is, IsRead, subr_of}}
+use Rattle.t1_text.proofs.{Moves.{subrs_moves, chars_moves}, Bytes.{parts_bytes}, ReadMarkers.{lacks_none, before_slash, subrs_slash, chars_slash}}
 
 -- ---- what stops a word
 

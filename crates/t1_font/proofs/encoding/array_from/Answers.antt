@@ -1,5 +1,7 @@
 use Rattle.std.proofs.Common.{refl, ap}
-use Rattle.t1_font.{specs.{Encoding.{from_code}, Pieces.{encoding_from, Puts}, FontValue.{Codes}}, proofs.HeldLemmas.{names_put}}
+use Rattle.t1_font.specs.{Pieces.{encoding_from, Puts}, FontValue.{Codes}}
+use Rattle.t1_font.proofs.HeldLemmas.{names_put}
+use Rattle.t1_text.specs.Encoding.{from_code}
 use Rattle.t1_font.proofs.encoding.array_from.Goals as goal
 
 pub returns-in-Ok-clause-shown : goal.returns-in-Ok-clause-shown

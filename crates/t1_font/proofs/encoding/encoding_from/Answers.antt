@@ -1,5 +1,6 @@
 use Rattle.std.proofs.Common.{refl, ap}
-use Rattle.t1_font.specs.{declared.encoding.Opening.{Opening}, Views.{opening_view}, Pieces.{encoding_from, OneWord}}
+use Rattle.t1_font.specs.Pieces.{encoding_from, OneWord}
+use Rattle.t1_text.specs.{declared.encoding_forms.Opening.{Opening}, Views.{opening_view}}
 use Rattle.t1_font.proofs.encoding.encoding_from.Goals as goal
 
 pub returns-in-Word-clause-shown : goal.returns-in-Word-clause-shown

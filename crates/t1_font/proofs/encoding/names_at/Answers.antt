@@ -1,7 +1,9 @@
 use Rattle.std.proofs.Common.{[], sym, ap, ◌∙◌, refl, ◌≤◌, arith}
 use Rattle.t1_grammar.specs.TableLaws.{front_nil}
 use Rattle.t1_bytes.proofs.EexecLemmas.{marker_found, marker_absent}
-use Rattle.t1_font.{specs.{Faults.{behind}, Encoding.{code_count, array_end}, Gathering.{Entries}}, proofs.{HeldLemmas.{none_numbered}, Arrays.{name_more, name_missing, names_closed, names_unclosed}}}
+use Rattle.t1_font.specs.{Faults.{behind}, Gathering.{Entries}}
+use Rattle.t1_font.proofs.{HeldLemmas.{none_numbered}, Arrays.{name_more, name_missing, names_closed, names_unclosed}}
+use Rattle.t1_text.specs.Encoding.{code_count, array_end}
 use Rattle.t1_font.proofs.encoding.names_at.Goals as goal
 
 pub names-init : goal.names-init

@@ -1,6 +1,7 @@
 use Rattle.std.proofs.{Common.{rules, ◌+◌, ◌≡◌, ◌≤◌, ◌∙◌, ap, arith, sym, drop, ℕ, List, Result, Ok, length}, lemmas.Bool.{le-leb}, lemmas.List.{drop-drop}}
 use Rattle.t1_bytes.specs.{Cipher.{private_text}, Limits.{file_limit}}
-use Rattle.t1_font.specs.{declared.dialect.Dialect.{Dialect}, declared.fault.ReadFault.{ReadFault}, FontValue.{FontValue}, Pieces.{FlatPieces, flat_pieces}}
+use Rattle.t1_font.specs.{declared.fault.ReadFault.{ReadFault}, FontValue.{FontValue}, Pieces.{FlatPieces, flat_pieces}}
+use Rattle.t1_text.specs.declared.dialect.Dialect.{Dialect}
 use Rattle.t1_font.specs.ReadFont.{flat_reading, file_pieces, font_texts, font_file}
 use Rattle.t1_font.proofs.AnswersRight.{answers_same}
 use Rattle.t1_grammar.specs.Formats.{if_ok, if_ok_twice}

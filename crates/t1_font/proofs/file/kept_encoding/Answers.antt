@@ -1,6 +1,7 @@
 use Rattle.std.{proofs.{Common.{sym, subst}, lemmas.Cmp.{nat_cmp_total}}, specs.{Ordering.{nat_cmp}, FinMap.{nat_cmp-IsAntisymmetric}}}
 use Rattle.t1_join.specs.TableMeaning.{Rises}
-use Rattle.t1_font.{specs.Entries.{has_name}, proofs.MapLaws.{sorted_filter}}
+use Rattle.t1_text.specs.Entries.{has_name}
+use Rattle.t1_text.proofs.MapLaws.{sorted_filter}
 use Rattle.std.specs.FinMap as fin
 use Rattle.t1_font.proofs.file.kept_encoding.Goals as goal
 

@@ -1,6 +1,7 @@
 use Rattle.std.proofs.{Common.{◌∙◌, ℕ, List, ap, subst, length}, lemmas.Cmp.{nat_cmp_total, nat_list_cmp_total}}
 use Rattle.std.specs.{Cmp.Lexicographic.{on_texts}, FinMap.{nat_cmp-IsAntisymmetric}, Ordering.{nat_cmp}}
-use Rattle.t1_font.specs.{Answers.{encoding_view}, Entries.{AreLast}, FontValue.{name_cmp}, Gathering.{Entries}, Ranges.{bytes_at, by_name, IsInside, AllInside, NamesInside}}
+use Rattle.t1_font.specs.{Answers.{encoding_view}, FontValue.{name_cmp}, Gathering.{Entries}, Ranges.{bytes_at, by_name, IsInside, AllInside, NamesInside}}
+use Rattle.t1_text.specs.Entries.{AreLast}
 use Rattle.t1_font.proofs.{Buffers.{all_longer, names_wider}, Lasts.{all_last, lasts_rise, lasts_map}, canonical.FontAgain.{name_same}}
 use Rattle.t1_font.proofs.file.source_parts.Goals as goal
 

@@ -1,5 +1,7 @@
 use Rattle.std.proofs.Common.{sym, ◌∙◌}
-use Rattle.t1_font.{specs.{FontBoxes.{can_have}, BoxViews.{box_view}}, proofs.normal_fonts.BoxLists.{all_fails, all_more}}
+use Rattle.t1_font.specs.FontBoxes.{can_have}
+use Rattle.t1_font.proofs.normal_fonts.BoxLists.{all_fails, all_more}
+use Rattle.t1_text.specs.BoxViews.{box_view}
 use Rattle.t1_font.proofs.font_boxes.all_can_have.Goals as goal
 
 pub returns-then-not-branch : goal.returns-then-not-branch

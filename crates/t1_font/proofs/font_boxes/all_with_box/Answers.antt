@@ -1,5 +1,7 @@
 use Rattle.std.{proofs.{Common.{◌++◌, ◌∷◌, [], List, map, sym, ap, ◌∙◌}, lemmas.List.{nil_from_length}}, specs.Vec.Iter.{into_iter_items}}
-use Rattle.t1_font.{specs.{FontValue.{FontValue}, FontBoxes.{if_can}, BoxViews.{box_view}}, proofs.Drains.{moved, all_moved}}
+use Rattle.t1_font.specs.{FontValue.{FontValue}, FontBoxes.{if_can}}
+use Rattle.t1_font.proofs.Drains.{moved, all_moved}
+use Rattle.t1_text.specs.BoxViews.{box_view}
 use Rattle.t1_font.proofs.font_boxes.all_with_box.Goals as goal
 
 pub sources-init : goal.sources-init

@@ -1,5 +1,5 @@
 use Rattle.std.{proofs.Common.{◌≡◌, map, drop}, specs.List.{list_all}}
-use Rattle.t1_font.specs.{FontBoxes.{same_box}, BoxViews.{box_view}}
+use Rattle.t1_text.specs.{Boxes.{same_box}, BoxViews.{box_view}}
 use Rattle.t1_font.proofs.font_boxes.are_like.Given as goal
 
 abbrev pub invariant-boxes : goal.invariant-boxes

@@ -1,5 +1,6 @@
 use Rattle.std.{proofs.Common.{◌≡◌, ◌++◌, map, drop}, specs.Option.{option_map}}
-use Rattle.t1_font.specs.{FontBoxes.{boxes_of}, BoxViews.{box_view}}
+use Rattle.t1_font.specs.FontBoxes.{boxes_of}
+use Rattle.t1_text.specs.BoxViews.{box_view}
 use Rattle.t1_font.proofs.font_boxes.boxes_of.Given as goal
 
 abbrev pub invariant-sources : goal.invariant-sources

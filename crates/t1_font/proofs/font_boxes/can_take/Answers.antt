@@ -1,5 +1,6 @@
 use Rattle.std.{proofs.Common.{◌≡◌, ℕ, Bool, true, false, List, refl, ap, ◌∙◌}, specs.Prelude.{◌&&◌, nat_le}}
-use Rattle.t1_font.specs.{FontValue.{weight, weight_limit}, NormalTexts.{same_both, normal_clear}, FontBoxes.{stays_at, with_texts}, BoxViews.{box_view, side_view}}
+use Rattle.t1_font.specs.{FontValue.{weight, weight_limit}, NormalTexts.{same_both, normal_clear}, FontBoxes.{stays_at, with_texts}, BoxViews.{side_view}}
+use Rattle.t1_text.specs.BoxViews.{box_view}
 use Rattle.t1_font.proofs.font_boxes.can_take.Goals as goal
 
 on_all : (f e s l : Bool) → f ≡ true → e ≡ true → s ≡ true → l ≡ (f && (e && (s && l)))

@@ -1,5 +1,6 @@
 use Rattle.std.proofs.Common.{◌≡◌, ℕ, List, sym, ap, ◌∙◌}
-use Rattle.t1_font.specs.{declared.source.SourceParts.TheInside.{Inside}, FontValue.{FontValue}, FontBoxes.{clear_of, can_take}, BoxViews.{box_view, side_view}}
+use Rattle.t1_font.specs.{declared.source.SourceParts.TheInside.{Inside}, FontValue.{FontValue}, FontBoxes.{clear_of, can_take}, BoxViews.{side_view}}
+use Rattle.t1_text.specs.BoxViews.{box_view}
 use Rattle.t1_font.proofs.normal_fonts.BoxFonts.{answers_texts, answers_none}
 use Rattle.t1_font.proofs.font_boxes.clear_with.Goals as goal
 

@@ -1,5 +1,6 @@
 use Rattle.std.{proofs.Common.{◌≡◌, true, Some, sym, ap, ◌∙◌, List, map}, specs.{Option.{option_map}, List.{list_all}}}
-use Rattle.t1_font.specs.{FontValue.{FontValue}, FontBoxes.{Box, joined_box, can_have, if_can, boxes_of, boxed}, BoxViews.{box_view, kept_view, wanted_box}}
+use Rattle.t1_font.specs.{FontValue.{FontValue}, FontBoxes.{can_have, if_can, boxes_of, boxed}, BoxViews.{wanted_box}}
+use Rattle.t1_text.specs.{Boxes.{Box, joined_box}, BoxViews.{box_view, kept_view}}
 use Rattle.t1_font.proofs.normal_fonts.BoxLists.{boxed_so, same_fonts, unwanted, wanted}
 use Rattle.t1_font.proofs.font_boxes.normalize_boxes.Goals as goal
 

@@ -1,5 +1,6 @@
 use Rattle.std.specs.FinMap as fin
-use Rattle.t1_font.{specs.{Words.{name_limit}, IsFont.{IsWord, IsCharstring}}, proofs.EachEntry.{AsLeft}}
+use Rattle.t1_font.proofs.EachEntry.{AsLeft}
+use Rattle.t1_text.specs.{Words.{name_limit}, FontWords.{IsWord, IsCharstring}}
 use Rattle.t1_font.proofs.font_shell.are_glyphs.Given as goal
 
 abbrev pub invariant-glyphs : goal.invariant-glyphs

@@ -1,6 +1,7 @@
 use Rattle.std.proofs.Common.{◌<◌}
 use Rattle.std.specs.FinMap as fin
-use Rattle.t1_font.{specs.IsFont.{IsCharstring}, proofs.EachEntry.{AsLeft}}
+use Rattle.t1_font.proofs.EachEntry.{AsLeft}
+use Rattle.t1_text.specs.FontWords.{IsCharstring}
 use Rattle.t1_font.proofs.font_shell.are_subrs.Given as goal
 
 abbrev pub invariant-subrs : goal.invariant-subrs

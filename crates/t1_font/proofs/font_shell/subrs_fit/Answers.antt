@@ -1,6 +1,7 @@
 use Rattle.std.proofs.Common.{◌<◌, ℕ, List, length, ap, sym, ◌∙◌, subst}
 use Rattle.std.specs.{Prelude.{◌==◌}, List.{AllByRecursion}}
-use Rattle.t1_font.specs.{FontValue.{Shell}, IsFont.{SubrsFit, IsCharstring}}
+use Rattle.t1_font.specs.{FontValue.{Shell}, IsFont.{SubrsFit}}
+use Rattle.t1_text.specs.FontWords.{IsCharstring}
 use Rattle.t1_font.proofs.FontShells.{subrs_so, subrs_are, alike}
 use Rattle.std.specs.FinMap as fin
 use Rattle.t1_font.proofs.font_shell.subrs_fit.Goals as goal

@@ -1,8 +1,10 @@
 use Rattle.std.proofs.{Common.{◌≡◌, ◌∙◌, ap, arith, sym, refl, Bool, cond, ltb, Some, None, length, ℕ, List, [], ◌≤◌}, lemmas.Bool.{lt-ltb, le-ltb}}
 use Rattle.t1_grammar.specs.Grammar.{first}
-use Rattle.t1_font.specs.{Gathering.{Entries}, Markers.{chars_marker, subrs_marker}, Reading.{Reading}, declared.dialect.Spacing.TheVariants.{White}}
+use Rattle.t1_font.specs.{Gathering.{Entries}, Reading.{Reading}}
+use Rattle.t1_text.specs.{Markers.{chars_marker, subrs_marker}, declared.dialect.Spacing.TheVariants.{White}}
 use Rattle.t1_font.specs.Pieces.{PrivatePieces, before_place, private_pieces, tables_from}
-use Rattle.t1_font.proofs.{AnswersRight.{shown_same}, PlaceLemmas.{ending_read, no_longer}, private.private_parts.Goals.{in-Some-first+else-private-front, in_default-first}}
+use Rattle.t1_font.proofs.{AnswersRight.{shown_same}, private.private_parts.Goals.{in-Some-first+else-private-front, in_default-first}}
+use Rattle.t1_text.proofs.PlaceLemmas.{ending_read, no_longer}
 use Rattle.t1_font.proofs.private.private_parts.Goals as goal
 
 pub pass_to-requires : goal.pass_to-requires

@@ -1,7 +1,9 @@
 use Rattle.std.proofs.Common.{◌≡◌, ◌∙◌, ap, arith, sym, Some, Ok, length}
 use Rattle.t1_grammar.specs.Grammar.{first}
-use Rattle.t1_font.specs.{Gathering.{Entries}, Markers.{chars_marker}, Pieces.{SubrsPieces, iv_of, tables_from, glyphs_from}}
-use Rattle.t1_font.proofs.{AnswersRight.{shown_same}, PlaceLemmas.{ending_read, no_longer}}
+use Rattle.t1_font.specs.{Gathering.{Entries}, Pieces.{SubrsPieces, iv_of, tables_from, glyphs_from}}
+use Rattle.t1_text.specs.Markers.{chars_marker}
+use Rattle.t1_font.proofs.AnswersRight.{shown_same}
+use Rattle.t1_text.proofs.PlaceLemmas.{ending_read, no_longer}
 use Rattle.t1_font.proofs.private.tables_with.Goals as goal
 
 pub pass_to-requires : goal.pass_to-requires

@@ -1,5 +1,7 @@
 use Rattle.std.proofs.Common.{◌≡◌, ◌∙◌, ap, sym, None, Ok}
-use Rattle.t1_font.{specs.{declared.dialect.Spacing.TheVariants.{White}, Pieces.{iv_of, tables_from, glyphs_from}}, proofs.{AnswersRight.{shown_same}, HeldLemmas.{none_numbered}}}
+use Rattle.t1_font.specs.Pieces.{iv_of, tables_from, glyphs_from}
+use Rattle.t1_font.proofs.{AnswersRight.{shown_same}, HeldLemmas.{none_numbered}}
+use Rattle.t1_text.specs.declared.dialect.Spacing.TheVariants.{White}
 use Rattle.t1_font.proofs.private.tables_without.Goals as goal
 
 pub returns-clause-shown : goal.returns-clause-shown

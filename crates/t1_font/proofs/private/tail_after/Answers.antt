@@ -1,6 +1,7 @@
 use Rattle.std.{proofs.Common.{◌≡◌, ◌++◌, ◌∙◌, true, false, List, ℕ, Option, Some, None, Ok, Err, refl, sym, ap}, specs.Option.{option_map}}
 use Rattle.t1_grammar.specs.{Grammar.{first}, Places.{occurs}}
-use Rattle.t1_font.specs.{declared.fault.ReadFault.TheVariants.{Hybrid, NoClosefile}, Markers.{subrs_marker, closefile}, Pieces.{tail_after, through}}
+use Rattle.t1_font.specs.{declared.fault.ReadFault.TheVariants.{Hybrid, NoClosefile}, Pieces.{tail_after, through}}
+use Rattle.t1_text.specs.Markers.{subrs_marker, closefile}
 use Rattle.t1_font.proofs.private.tail_after.Goals.{then-has_subrs-via-then-has_subrs, then-has_subrs-via-else-has_subrs+then-has_subrs-2, then-has_subrs-3-via-then-has_subrs-3}
 use Rattle.t1_font.proofs.private.tail_after.Goals.{then-has_subrs-3-via-else-has_subrs-3+then-has_subrs-4}
 use Rattle.t1_font.proofs.private.tail_after.Goals as goal

@@ -1,5 +1,6 @@
 use Rattle.std.proofs.Common.{ap, ◌∙◌, ◌<◌, drop, length, arith}
-use Rattle.t1_font.{specs.Entries.{run_end}, proofs.{Lasts.{end_passed, end_moved, ends_moved}, repeats.keep_ends.Goals.{in-Some, in_default}}}
+use Rattle.t1_font.proofs.{Lasts.{end_passed, end_moved, ends_moved}, repeats.keep_ends.Goals.{in-Some, in_default}}
+use Rattle.t1_text.specs.Entries.{run_end}
 use Rattle.t1_font.proofs.repeats.keep_ends.Goals as goal
 
 there : (g : _) (c : goal.Joined-end_at g) → c.entries.at < length c.args.entries.now.items

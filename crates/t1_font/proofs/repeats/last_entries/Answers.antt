@@ -1,6 +1,6 @@
 use Rattle.std.proofs.{Common.{rules, sym, subst, ◌∙◌}, lemmas.List.MinMax.{ranks_by}, lemmas.List.Sorted.{IsPermutation-trans}, lemmas.Fn.{always_returns_same}}
 use Rattle.std.specs.Ordering.{is_lt}
-use Rattle.t1_font.specs.Entries.{KeysRise}
+use Rattle.t1_text.specs.Entries.{KeysRise}
 use Rattle.t1_font.proofs.Lasts.{rising_sorted, rising_ends}
 use Rattle.t1_font.proofs.repeats.last_entries.Goals as goal
 

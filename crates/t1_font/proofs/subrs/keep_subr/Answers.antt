@@ -1,6 +1,7 @@
 use Rattle.std.{proofs.{Common.{ap, ◌∙◌, arith, nat_cmp}, lemmas.Result.{on_ok_weaker}}, specs.FinMap.{insert}}
 use Rattle.t1_bytes.specs.Cipher.{plain_of}
-use Rattle.t1_font.specs.{Gathering.{Entries}, Places.{bytes_at_place}}
+use Rattle.t1_font.specs.Gathering.{Entries}
+use Rattle.t1_text.specs.Places.{bytes_at_place}
 use Rattle.t1_font.proofs.subrs.keep_subr.Goals as goal
 
 pub returns-clause-kept : goal.returns-clause-kept

@@ -5,5 +5,7 @@ use Rattle.t1_font.proofs.code_names.CodeNames.put.Goals as goal
 
 pub returns : goal.returns
 returns c =
-    code_put c.self.inside.names c.args.code c.args.name (omega (arith, c.self.invariant, c.ranges.code.fits))
+    let h = c.self.invariant in
+    code_put c.self.inside.names c.self.inside.named c.args.code c.args.name
+    (omega (arith, h.names_all, c.ranges.code.fits)) (omega (arith, h.named_all, c.ranges.code.fits))
     ∙ ap (λ m. fin.insert m c.args.code c.args.name.now) c.self.view_is

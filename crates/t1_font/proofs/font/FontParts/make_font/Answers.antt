@@ -1,7 +1,8 @@
 use Rattle.std.proofs.Common.{ℕ, List, Bor, not, sym, subst, ap, ◌∙◌, ◌≤◌}
 use Rattle.std.specs.{List.{AllByRecursion}, FinMap.{len, entries}, Prelude.{is_some}}
-use Rattle.t1_font.specs.{FontValue.{FontValue, weight, count_limit, weight_limit}, FontModel.{encoding_of, word_of}, IsFont.{IsFont, IsWord, IsCharstring}}
-use Rattle.t1_font.specs.{FontShells.{IsShellOfFont}, Words.{name_limit}}
+use Rattle.t1_font.specs.{FontValue.{FontValue, weight, count_limit, weight_limit}, FontModel.{encoding_of, word_of}, IsFont.{IsFont}}
+use Rattle.t1_text.specs.{FontWords.{IsWord, IsCharstring}, Words.{name_limit}}
+use Rattle.t1_font.specs.FontShells.{IsShellOfFont}
 use Rattle.t1_font.proofs.FontShells.{font_so, codes_fit, glyphs_are, not_over, none_of_both, not_so, mapped_some}
 use Rattle.t1_font.proofs.font.FontParts.make_font.Goals as goal
 

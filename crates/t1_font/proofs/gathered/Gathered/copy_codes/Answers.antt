@@ -1,5 +1,6 @@
 use Rattle.std.proofs.Common.{◌∙◌, ap, drop}
-use Rattle.t1_font.specs.{Encoding.{Copy}, Gathering.{Entries, kept_by, gathered_subrs, gathered_glyphs}}
+use Rattle.t1_font.specs.Gathering.{Entries, kept_by, gathered_subrs, gathered_glyphs}
+use Rattle.t1_text.specs.Encoding.{Copy}
 use Rattle.t1_font.proofs.gathered.Gathered.copy_codes.Goals as goal
 
 pub returns : goal.returns

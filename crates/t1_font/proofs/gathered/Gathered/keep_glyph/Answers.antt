@@ -1,7 +1,8 @@
 use Rattle.std.{proofs.{Common.{ℕ, List, ◌≡◌, ◌∙◌, ◌≤◌, ap, arith, sym, subst, ◌+◌, ◌-◌, length, drop, map}, lemmas.Cmp.{nat_list_cmp_total}}, specs.Cmp.Lexicographic.{on_texts}}
 use Rattle.t1_bytes.specs.Cipher.{plain_of}
-use Rattle.t1_font.specs.{declared.ranges.Range.{Range}, Entries.{map_of, AreSettled}, FontValue.{name_cmp}, Gathering.{Entries, gathered_glyphs}}
-use Rattle.t1_font.specs.{Places.{ending, bytes_at_place}, Ranges.{bytes_at, by_name, named_at, IsInside, AllInside, NamesInside}}
+use Rattle.t1_font.specs.{declared.ranges.Range.{Range}, FontValue.{name_cmp}, Gathering.{Entries, gathered_glyphs}}
+use Rattle.t1_text.specs.{Entries.{map_of, AreSettled}, Places.{ending, bytes_at_place}}
+use Rattle.t1_font.specs.Ranges.{bytes_at, by_name, named_at, IsInside, AllInside, NamesInside}
 use Rattle.t1_font.proofs.Buffers.{Decrypted, CharStrings, pushed, with_one, names_with_one, all_longer, names_wider, entries_stay}
 use Rattle.t1_font.proofs.Buffers.{names_stay, rest_stays, plain_at, plain_inside, name_at, name_inside}
 use Rattle.t1_font.proofs.{Buffers.{goes_on, same_length}, Lasts.{settled_map, settled_all}, canonical.FontAgain.{name_same}}

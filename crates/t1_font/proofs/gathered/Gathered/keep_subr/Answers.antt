@@ -1,6 +1,7 @@
 use Rattle.std.{proofs.{Common.{◌≡◌, ◌∙◌, ◌≤◌, ap, arith, sym, subst, ◌+◌, ◌-◌, length, drop, map}, lemmas.Cmp.{nat_cmp_total}}, specs.{FinSet.{nat_cmp-IsAntisymmetric}, Ordering.{nat_cmp}}}
 use Rattle.t1_bytes.specs.Cipher.{plain_of}
-use Rattle.t1_font.specs.{Entries.{map_of}, Gathering.{Entries}, Places.{ending, bytes_at_place}, Ranges.{bytes_at, numbered_at, IsInside, AllInside}}
+use Rattle.t1_font.specs.{Gathering.{Entries}, Ranges.{bytes_at, numbered_at, IsInside, AllInside}}
+use Rattle.t1_text.specs.{Entries.{map_of}, Places.{ending, bytes_at_place}}
 use Rattle.t1_font.proofs.Buffers.{Decrypted, pushed, with_one, all_longer, names_wider, entries_stay, names_stay, rest_stays, plain_at, plain_inside, goes_on, same_length}
 use Rattle.t1_font.proofs.Lasts.{settled_map, settled_all}
 use Rattle.std.specs.FinMap as fin

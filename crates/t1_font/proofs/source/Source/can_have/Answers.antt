@@ -1,5 +1,7 @@
 use Rattle.std.proofs.Common.{ℕ, List, ap, ◌∙◌}
-use Rattle.t1_font.{specs.{declared.normal_texts.ClearTexts.{ClearTexts}, FontBoxes.{clear_with, can_have}, BoxViews.{box_view}}, proofs.normal_fonts.BoxLists.{some_so}}
+use Rattle.t1_font.specs.{declared.normal_texts.ClearTexts.{ClearTexts}, FontBoxes.{clear_with, can_have}}
+use Rattle.t1_font.proofs.normal_fonts.BoxLists.{some_so}
+use Rattle.t1_text.specs.BoxViews.{box_view}
 use Rattle.t1_font.proofs.source.Source.can_have.Goals as goal
 
 -- the two texts that were made

@@ -1,6 +1,7 @@
 use Rattle.std.{proofs.Common.{◌≡◌, Option, sym, subst}, specs.Prelude.{MatchOption}}
-use Rattle.t1_font.specs.{FontValue.{FontValue}, FontTest.{untested}, FontBoxes.{with_texts}, IsFont.{IsFont}}
-use Rattle.t1_font.proofs.Untested.{untested_is_font}
+use Rattle.t1_font.specs.{FontValue.{FontValue}, FontBoxes.{with_texts}, IsFont.{IsFont}}
+use Rattle.t1_text.specs.FontTest.{untested}
+use Rattle.t1_font.proofs.UntestedFonts.{untested_is_font}
 use Rattle.t1_font.proofs.source.Source.untested.Goals as goal
 
 pub with_head-requires : goal.with_head-requires

@@ -1,7 +1,7 @@
 use Rattle.std.proofs.{Common.{◌≡◌, ℕ, List, sym, ap, subst, ◌∙◌, refl}, lemmas.Bool.{cond-true, cond-false}}
 use Rattle.t1_bytes.specs.Laws.{AreBytes}
 use Rattle.t1_font.specs.{declared.normal_texts.ClearTexts.{ClearTexts}, FontValue.{FontValue}, IsFont.{IsFont}, FontBoxes.{side_in, clear_of, clear_with, with_texts, font_with, can_have}}
-use Rattle.t1_font.specs.BoxViews.{box_view}
+use Rattle.t1_text.specs.BoxViews.{box_view}
 use Rattle.t1_font.proofs.{normal_fonts.BoxFonts.{had_is_font}, normal_fonts.BoxLists.{some_is, none_is}}
 use Rattle.t1_font.proofs.source.Source.with_box.Goals as goal
 

@@ -1,5 +1,0 @@
-use Rattle.t1_font.proofs.read_fonts.ReadFontLaws.{head_starts}
-use Rattle.t1_font.proofs.laws.head_starts.Goals as goal
-
-pub returns : goal.returns
-returns c = head_starts

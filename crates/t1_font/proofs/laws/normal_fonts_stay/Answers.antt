@@ -1,5 +1,0 @@
-use Rattle.t1_font.proofs.normal_fonts.NormalStays.{normal_fonts_stay}
-use Rattle.t1_font.proofs.laws.normal_fonts_stay.Goals as goal
-
-pub returns : goal.returns
-returns c = normal_fonts_stay

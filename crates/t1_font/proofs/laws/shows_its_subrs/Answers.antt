@@ -1,5 +1,0 @@
-use Rattle.t1_font.proofs.FontReaders.{all_seen}
-use Rattle.t1_font.proofs.laws.shows_its_subrs.Goals as goal
-
-pub returns : goal.returns
-returns c = all_seen

@@ -1,9 +1,0 @@
-use Rattle.std.proofs.Common.{length}
-use Rattle.t1_font.{specs.Steps.{piece_of}, proofs.normal_fonts.RewritingLemmas.{Walked}}
-use Rattle.t1_font.proofs.rewriting.rewritten.Given as goal
-
-abbrev pub invariant-pieces : goal.invariant-pieces
-invariant-pieces l = Walked (piece_of l.step) l.text l.new.items l.rest
-
-abbrev pub decreases-pieces : goal.decreases-pieces
-decreases-pieces l = length l.rest
