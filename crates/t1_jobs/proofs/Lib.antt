@@ -1,0 +1,3 @@
+mod JobRows
+pub mod WordLemmas
+pub mod LenLemmas

@@ -1,0 +1,5 @@
+pub mod Kinds
+pub mod Words
+pub mod Dos
+pub mod Jobs
+pub mod Views

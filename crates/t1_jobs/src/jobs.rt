@@ -1,0 +1,81 @@
+//! The document that a file carries, and what stands around it.
+
+ghost use Rattle.std.specs.Prelude.{◌≡◌, Ok, Err, MatchResult};
+ghost use Rattle.t1_jobs.specs.{Jobs.{job_with, job_behind, in_job, job_of}, Views.{job_view}};
+
+use crate::dos::dos_postscript;
+use crate::kinds::{FileKind, begins_with, file_kind};
+use crate::words::{behind_words, document_len};
+
+/// The document that a file carries, and how many bytes stand before it and behind it in its job: the words of a printer.
+#[derive(Clone, Copy)]
+pub struct Job<'a> {
+    /// The document.
+    pub document: &'a [u8],
+    /// How many bytes stand before it.
+    pub before: usize,
+    /// How many bytes stand behind it.
+    pub behind: usize,
+}
+
+/// Why a file carries no document.
+#[derive(Clone, Copy, Debug, PartialEq, Eq)]
+pub enum NoDocument {
+    /// It doesn't begin with `%!`: what it is.
+    IsA(FileKind),
+    /// It is an EPS file for DOS that lacks the PostScript which its header speaks of.
+    BadHeader,
+    /// Behind the end of a job inside it something else begins.
+    JobEnds,
+}
+
+/// The document of a job that begins with words before this text.
+fn job_behind<'a>(job: &[u8], text: &'a [u8]) -> Result<Job<'a>, NoDocument>
+    ensures { MatchResult result (λ c. Ok (job_view c) ≡ job_behind job.now text.entry.now)
+        (λ e. Err e ≡ job_behind job.now text.entry.now) }
+{
+    if !begins_with(b"%!", text) {
+        return Err(NoDocument::IsA(file_kind(text)));
+    }
+    match document_len(text) {
+        Some(len) => {
+            let (document, rest) = text.split_at(len);
+            Ok(Job {
+                document,
+                before: job.len().saturating_sub(text.len()),
+                behind: rest.len(),
+            })
+        }
+        None => Err(NoDocument::JobEnds),
+    }
+}
+
+/// The document of a job.
+fn in_job(job: &[u8]) -> Result<Job<'_>, NoDocument>
+    ensures { MatchResult result (λ c. Ok (job_view c) ≡ in_job job.now) (λ e. Err e ≡ in_job job.now) }
+{
+    job_behind(job, behind_words(job))
+}
+
+/// The document that a file carries.
+///
+/// A document begins with `%!`. Before it may stand words of a printer: ^D, the universal exit `ESC %-12345X`, lines of PJL, and
+/// ends of lines; and behind it the same, of which the first is ^D or the universal exit. In an EPS file for DOS, which begins with
+/// a header of 30 bytes, the document is in the part that the header names.
+///
+/// # Errors
+///
+/// [`NoDocument::BadHeader`] if an EPS file for DOS lacks that part; else [`NoDocument::IsA`] if behind the words no `%!` comes,
+/// with what comes there; else [`NoDocument::JobEnds`] if inside stands the universal exit, or ^D and other words and behind them
+/// another `%!`.
+pub fn job_of(file: &[u8]) -> Result<Job<'_>, NoDocument>
+    ensures { MatchResult result (λ c. Ok (job_view c) ≡ job_of file.now) (λ e. Err e ≡ job_of file.now) }
+{
+    if !begins_with(b"\xc5\xd0\xd3\xc6", file) {
+        return in_job(file);
+    }
+    match dos_postscript(file) {
+        Some(job) => in_job(job),
+        None => Err(NoDocument::BadHeader),
+    }
+}
