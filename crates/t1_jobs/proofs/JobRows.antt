@@ -3,7 +3,7 @@ use Rattle.std.proofs.Common.{◌≡◌, refl}
 use Rattle.std.specs.Prelude.{[], ◌∷◌, ◌++◌, codes, Ok, Err}
 use Rattle.t1_jobs.specs.declared.kinds.FileKind.TheVariants.{Empty, Pdf, Pfb, OpenType, TrueType, Html, Other}
 use Rattle.t1_jobs.specs.declared.jobs.NoDocument.TheVariants.{IsA, BadHeader, JobEnds}
-use Rattle.t1_jobs.specs.{Kinds.{font_kind, packed_kind, file_kind}, Words.{universal_exit, pjl_line, word, behind_some, len_within}, Dos.{header, dos_postscript}}
+use Rattle.t1_jobs.specs.{Kinds.{font_kind, packed_kind, file_kind}, Words.{universal_exit, pjl_line, word, behind_some, len_within}, Dos.{part, header, dos_postscript}}
 use Rattle.t1_jobs.specs.Jobs.{job_of}
 
 -- a document by itself
@@ -49,12 +49,12 @@ a_pdf = refl
 -- an EPS file for DOS: its PostScript stands behind the header of 30 bytes, or behind others
 dos : job_of (197 ∷ 208 ∷ 211 ∷ 198 ∷ 31 ∷ 0 ∷ 0 ∷ 0 ∷ 3 ∷ 0 ∷ 0 ∷ 0 ∷ (codes "123456789012345678" ++ codes "-%!x-"))
     ≡ Ok (record { document = codes "%!x"; before = 0; behind = 0 })
-unfolding word pjl_line behind_some len_within header dos_postscript
+unfolding word pjl_line behind_some len_within part header dos_postscript
 dos = refl
 
 -- one that ends before its header says
 dos_short : job_of (197 ∷ 208 ∷ 211 ∷ 198 ∷ 30 ∷ 0 ∷ 0 ∷ 0 ∷ 6 ∷ 0 ∷ 0 ∷ 0 ∷ (codes "123456789012345678" ++ codes "-%!x-")) ≡ Err BadHeader
-unfolding word pjl_line behind_some len_within header dos_postscript
+unfolding word pjl_line behind_some len_within part header dos_postscript
 dos_short = refl
 
 -- kinds

@@ -93,6 +93,11 @@ words_here text at lt e = by_bytes (drop at text) refl e
     by_bytes [] h f = absurd (omega (arith, lt, length-drop at text, ap length h))
     by_bytes (b ∷ bs) h f = some_words b bs f
 
+none_behind : (here : List ℕ) → has_bytes (behind_words here) ≡ false → at_words document_len here (behind_words here) ≡ Some 0
+none_behind here none =
+    let behind = behind_words here in
+    ap (λ b. cond b (cond (another_begins here behind) None (further (length here - length behind) (document_len behind))) (Some 0)) none
+
 -- the document ends before words that end the text
 pub ended : (text : List ℕ) (at : ℕ) → at < length text → may_end (drop at text) ≡ true → has_bytes (behind_words (drop at text)) ≡ false →
     Scanned text at → document_len text ≡ Some at

@@ -1,8 +1,9 @@
 -- The document that a file carries, and what stands around it.
-use Rattle.std.specs.Prelude.{ℕ, ◌-◌, Bool, List, [], ◌∷◌, length, take, codes, Option, Some, None, Result, Ok, Err, if◌then◌else◌}
+use Rattle.std.specs.Prelude.{ℕ, ◌-◌, Bool, List, ◌++◌, length, take, drop, codes, Option, Some, None, Result, Ok, Err, if◌then◌else◌}
+use Rattle.std.specs.{Option.{option_and_then, option_map}, Result.{result_ok}}
 use Rattle.t1_jobs.specs.{declared.jobs.NoDocument.{NoDocument}}
 use Rattle.t1_jobs.specs.declared.jobs.NoDocument.TheVariants.{IsA, BadHeader, JobEnds}
-use Rattle.t1_jobs.specs.{Kinds.{begins_with, file_kind}, Words.{behind_words, document_len}, Dos.{dos_postscript}}
+use Rattle.t1_jobs.specs.{Kinds.{begins_with, file_kind}, Words.{behind_words, document_len}, Dos.{dos_mark, dos_postscript, with_postscript}}
 
 -- a document, and how many bytes stand before it and behind it in its job
 pub record Job : Type 0 where
@@ -27,10 +28,33 @@ abbrev pub in_section : Option (List ℕ) → Result Job NoDocument
 in_section None = Err BadHeader
 in_section (Some job) = in_job job
 
+-- a file begins as an EPS file for DOS does
+abbrev pub is_dos : List ℕ → Bool
+is_dos file = begins_with dos_mark file
+
 -- the document that a file carries: that of the PostScript in an EPS file for DOS, or its own
 abbrev pub job_by : Bool → List ℕ → Result Job NoDocument
-job_by is_dos file = if is_dos then in_section (dos_postscript file) else in_job file
+job_by dos file = if dos then in_section (dos_postscript file) else in_job file
 
 -- the document that a file carries
 abbrev pub job_of : List ℕ → Result Job NoDocument
-job_of file = job_by (begins_with (197 ∷ 208 ∷ 211 ∷ 198 ∷ []) file) file
+job_of file = job_by (is_dos file) file
+
+-- ---- with another document
+
+-- a job with this document in place of its own
+abbrev pub job_around : List ℕ → List ℕ → Job → List ℕ
+job_around job document j = take j.before job ++ (document ++ drop (length job - j.behind) job)
+
+-- the same, if it carries one
+abbrev pub job_with_document : List ℕ → List ℕ → Option (List ℕ)
+job_with_document job document = option_map (job_around job document) (result_ok (in_job job))
+
+-- an EPS file for DOS whose PostScript carries this document in place of its own
+abbrev pub dos_with_document : List ℕ → List ℕ → Option (List ℕ) → Option (List ℕ)
+dos_with_document file document None = None
+dos_with_document file document (Some job) = option_and_then (with_postscript file) (job_with_document job document)
+
+-- a file that carries this document in place of its own, where there is one; none where the header of an EPS file for DOS can't say how long it is
+abbrev pub with_document : List ℕ → List ℕ → Option (List ℕ)
+with_document file document = if is_dos file then dos_with_document file document (dos_postscript file) else job_with_document file document

@@ -1,11 +1,13 @@
 //! The document that a file carries, and what stands around it.
 
-ghost use Rattle.std.specs.Prelude.{◌≡◌, Ok, Err, MatchResult};
-ghost use Rattle.t1_jobs.specs.{Jobs.{job_with, job_behind, in_job, job_of}, Views.{job_view}};
+ghost use Rattle.std.specs.{Prelude.{◌≡◌, ◌++◌, Ok, Err, IfOk, MatchResult}, Option.{option_map}};
+ghost use Rattle.t1_jobs.specs.{Jobs.{job_with, job_behind, in_job, job_of, job_around, job_with_document, dos_with_document, with_document}};
+ghost use Rattle.t1_jobs.specs.{Dos.{dos_postscript}, Views.{job_view}};
 
-use crate::dos::dos_postscript;
+use crate::dos::{DOS_MARK, dos_postscript, with_postscript};
 use crate::kinds::{FileKind, begins_with, file_kind};
 use crate::words::{behind_words, document_len};
+use std::alloc::{AllocError, Global};
 
 /// The document that a file carries, and how many bytes stand before it and behind it in its job: the words of a printer.
 #[derive(Clone, Copy)]
@@ -71,11 +73,78 @@ fn in_job(job: &[u8]) -> Result<Job<'_>, NoDocument>
 pub fn job_of(file: &[u8]) -> Result<Job<'_>, NoDocument>
     ensures { MatchResult result (λ c. Ok (job_view c) ≡ job_of file.now) (λ e. Err e ≡ job_of file.now) }
 {
-    if !begins_with(b"\xc5\xd0\xd3\xc6", file) {
+    if !begins_with(DOS_MARK, file) {
         return in_job(file);
     }
     match dos_postscript(file) {
         Some(job) => in_job(job),
         None => Err(NoDocument::BadHeader),
+    }
+}
+
+/// A job with this document in place of its own.
+fn job_around(
+    alloc: Global,
+    bytes: &[u8],
+    document: &[u8],
+    job: Job<'_>,
+) -> Result<Vec<u8>, AllocError>
+    ensures { IfOk result (λ v. v.items ≡ job_around bytes.now document.now (job_view job.entry)) }
+{
+    let mut out = Vec::new(alloc);
+    let (before, _) = bytes.split_at(job.before.min(bytes.len()));
+    let (_, behind) = bytes.split_at(bytes.len().saturating_sub(job.behind));
+    out.extend_from_slice(before)?;
+    out.extend_from_slice(document)?;
+    out.extend_from_slice(behind)?;
+    Ok(out)
+}
+
+/// The same, if it carries one.
+fn job_with_document(
+    alloc: Global,
+    bytes: &[u8],
+    document: &[u8],
+) -> Result<Option<Vec<u8>>, AllocError>
+    ensures { IfOk result (λ o. option_map (λ v. v.items) o ≡ job_with_document bytes.now document.now) }
+{
+    match in_job(bytes) {
+        Ok(job) => Ok(Some(job_around(alloc, bytes, document, job)?)),
+        Err(_) => Ok(None),
+    }
+}
+
+/// An EPS file for DOS whose PostScript carries this document in place of its own.
+fn dos_with_document(
+    alloc: Global,
+    file: &[u8],
+    document: &[u8],
+) -> Result<Option<Vec<u8>>, AllocError>
+    ensures { IfOk result (λ o. option_map (λ v. v.items) o ≡ dos_with_document file.now document.now (dos_postscript file.now)) }
+{
+    let Some(job) = dos_postscript(file) else {
+        return Ok(None);
+    };
+    match job_with_document(alloc, job, document)? {
+        Some(job) => with_postscript(alloc, file, job.as_slice()),
+        None => Ok(None),
+    }
+}
+
+/// A file that carries this document in place of its own; what stands around it stays.
+///
+/// `None` if the file carries no document ([`job_of`]), or if it is an EPS file for DOS and the header can't say how long it would be:
+/// more than 2^32 bytes.
+pub fn with_document(
+    alloc: Global,
+    file: &[u8],
+    document: &[u8],
+) -> Result<Option<Vec<u8>>, AllocError>
+    ensures { IfOk result (λ o. option_map (λ v. v.items) o ≡ with_document file.now document.now) }
+{
+    if begins_with(DOS_MARK, file) {
+        dos_with_document(alloc, file, document)
+    } else {
+        job_with_document(alloc, file, document)
     }
 }

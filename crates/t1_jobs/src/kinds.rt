@@ -3,6 +3,7 @@
 ghost use Rattle.std.specs.Prelude.{◌≡◌};
 ghost use Rattle.t1_jobs.specs.Kinds.{begins_with, pfm_comes, font_kind, packed_kind, file_kind};
 
+use crate::dos::DOS_MARK;
 use std::fmt;
 use t1_bytes::texts::fixed_at;
 
@@ -111,7 +112,7 @@ pub fn file_kind(bytes: &[u8]) -> FileKind
         FileKind::Empty
     } else if begins_with(b"%!", bytes) {
         FileKind::PostScript
-    } else if begins_with(b"\xc5\xd0\xd3\xc6", bytes) {
+    } else if begins_with(DOS_MARK, bytes) {
         FileKind::DosEps
     } else if begins_with(b"%PDF-", bytes) {
         FileKind::Pdf

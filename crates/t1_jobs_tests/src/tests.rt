@@ -1,7 +1,7 @@
 //! What files carry, by rows from outside: jobs as printer drivers write them, and the first bytes of files of each kind.
 
 use std::alloc::Global;
-use t1_jobs::{FileKind, NoDocument, file_kind, job_of};
+use t1_jobs::{FileKind, NoDocument, file_kind, job_of, with_document};
 
 /// A file, and the document that it carries with how many bytes before it and behind it.
 type Row = (&'static [u8], &'static [u8], usize, usize);
@@ -99,6 +99,44 @@ fn no_documents(rt: HostRuntime) {
     }
 }
 
+/// Files, and what each is with the document `%!PS 2\r\n` in place of its own.
+const REPLACED: &[(&[u8], &[u8])] = &[
+    (b"%!", b"%!PS 2\r\n"),
+    (b"\x04%!PS\n\x04\n", b"\x04%!PS 2\r\n\x04\n"),
+    (
+        b"\x1b%-12345X@PJL\n%!PS\n\x1b%-12345X",
+        b"\x1b%-12345X@PJL\n%!PS 2\r\n\x1b%-12345X",
+    ),
+    (
+        PREVIEW_BEHIND,
+        b"\xc5\xd0\xd3\xc6\x1e\0\0\0\x08\0\0\0\0\0\0\0\0\0\0\0\x26\0\0\0\x03\0\0\0\xff\xff%!PS 2\r\nabc",
+    ),
+    (
+        PREVIEW_BEFORE,
+        b"\xc5\xd0\xd3\xc6\x1e\0\0\0\x08\0\0\0\x26\0\0\0\x03\0\0\0\0\0\0\0\0\0\0\0\xff\xff%!PS 2\r\nabc",
+    ),
+];
+
+/// Whether a file with this document in place of its own is this, or there is none.
+fn is_replaced(alloc: Global, file: &[u8], document: &[u8], want: Option<&[u8]>) -> bool {
+    match with_document(alloc, file, document) {
+        Ok(Some(made)) => want == Some(made.as_slice()),
+        Ok(None) => want.is_none(),
+        Err(_) => false,
+    }
+}
+
+// meets with_document Ok at 2 bytes
+#[test]
+fn documents_replaced(rt: HostRuntime) {
+    for &(file, want) in REPLACED {
+        assert!(rt; is_replaced(rt.alloc(), file, b"%!PS 2\r\n", Some(want)));
+    }
+    for &(file, _) in NONE {
+        assert!(rt; is_replaced(rt.alloc(), file, b"%!PS 2\r\n", None));
+    }
+}
+
 /// The first bytes of files, their kind, and what is printed of it.
 const KINDS: &[(&[u8], FileKind, &str)] = &[
     (b"", FileKind::Empty, "an empty file"),
@@ -161,4 +199,50 @@ fn many_words(rt: HostRuntime) {
             None => false,
         }
     );
+}
+
+/// Whether a long document is put in place of a short one, of which this many bytes are ^D.
+fn is_put(alloc: Global, count: usize) -> bool {
+    match many_ends(alloc, count) {
+        Some(long) => is_replaced(alloc, b"%!", long.as_slice(), Some(long.as_slice())),
+        None => false,
+    }
+}
+
+// meets with_document Ok at 1000000 bytes
+#[test]
+fn long_documents_replaced(rt: HostRuntime) {
+    assert!(rt; is_put(rt.alloc(), 1_000_000));
+}
+
+/// What a file with another document is, made again where a growth was refused.
+fn replaced_again(alloc: Global, file: &[u8]) -> Option<Vec<u8>> {
+    match with_document(alloc, file, b"%!PS 2\r\n") {
+        Ok(made) => made,
+        Err(_) => with_document(alloc, file, b"%!PS 2\r\n").ok()?,
+    }
+}
+
+/// Whether it is this.
+fn is_made(alloc: Global, file: &[u8], want: &[u8]) -> bool {
+    match replaced_again(alloc, file) {
+        Some(made) => made.as_slice() == want,
+        None => false,
+    }
+}
+
+// `tools/sweep_growths.py` refuses one growth after the other: a call that then answers want of memory gives the right
+// answer when it is made again.
+#[test]
+fn growths(rt: HostRuntime) {
+    for &(file, want) in REPLACED {
+        assert!(rt; is_made(rt.alloc(), file, want));
+    }
+}
+
+// The same refuses all growths: what takes no memory gives the right answer.
+#[test]
+fn no_growth(rt: HostRuntime) {
+    assert!(rt; carries(PREVIEW_BEFORE, b"%!PS\r\n", 0, 0));
+    assert!(rt; file_kind(b"OTTO") == FileKind::OpenType);
 }
