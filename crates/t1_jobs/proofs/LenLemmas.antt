@@ -105,8 +105,7 @@ ended text at lt e none s =
     let here = drop at text in
     let words = words_here text at lt e in
     let end : at_words document_len here (behind_words here) ≡ Some 0 =
-    ap (λ b. cond b (cond (another_begins here (behind_words here)) None (further (length here - length (behind_words here)) (document_len (behind_words here))))
-    (Some 0)) none in
+    none_behind here none in
     s.left ∙ (ap (further at) (words ∙ end) ∙ ap Some (omega arith))
 
 -- it is no document where something else begins behind the words
@@ -138,7 +137,8 @@ words_passed text behind at lt is e some other s =
     let next = length text - length behind in
     let u = ends_behind (length here) here in
     let whole : text ≡ (take at text ++ u.0) ++ behind =
-    sym (take-append-drop at text) ∙ (ap (λ (t : List ℕ). take at text ++ t) (u.1 ∙ ap (λ (t : List ℕ). u.0 ++ t) (sym is)) ∙ sym (append_assoc (take at text) u.0 behind)) in
+    sym (take-append-drop at text)
+    ∙ (ap (λ (t : List ℕ). take at text ++ t) (u.1 ∙ ap (λ (t : List ℕ). u.0 ++ t) (sym is)) ∙ sym (append_assoc (take at text) u.0 behind)) in
     let front : length (take at text ++ u.0) ≡ next = omega (arith, ap length whole, length-append (take at text ++ u.0) behind) in
     let rest : drop next text ≡ behind = ap (drop next) whole ∙ drop_at (take at text ++ u.0) behind next front in
     let end : at_words document_len here behind ≡ further (length here - length behind) (document_len behind) =
