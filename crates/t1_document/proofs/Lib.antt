@@ -38,4 +38,6 @@ pub mod AliasedAgain
 pub mod OwnStarts
 pub mod PoolLoops
 pub mod PooledDocuments
+pub mod DefiningLines
+pub mod EntryParts
 pub mod PlacesFind

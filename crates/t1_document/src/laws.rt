@@ -160,14 +160,14 @@ pub fn start_is_free()
     ensures { StartIsFree }
 {}
 
-/// Where the entries of a pooled text are run, and then its places, the name of each place finds a font right behind it in which the
-/// place's own stays, whatever is run between that leaves the pool's names.
+/// Where the bytes of a pooled text's entries are run, and then those at its places, the name of each place finds a font right behind
+/// the font text or the line that stands there, in which the place's own stays, whatever is run between that leaves the pool's names.
 pub fn places_find()
     ensures { PlacesFind }
 {}
 
-/// The bytes of a pooled text are its entries and then, place by place, those before the place, its line or its font text, and its
-/// rest.
+/// The bytes of a pooled text are its entries and then, place by place, those before the place, its font text or a line, and its
+/// rest; and the last bytes.
 pub fn pooled_others_stay()
     ensures { PooledOthersStay }
 {}
