@@ -3,20 +3,18 @@ use Rattle.std.proofs.Common.{◌≡◌, ℕ, zero, suc, Bool, true, false, cond
 use Rattle.std.proofs.{lemmas.Bool.{cases_Bool, true≢false, or_parts}, lemmas.Option.{none-some, same_Some}, lemmas.List.{append_cancel_left}, lemmas.Slice.Eq.{bytes_eq-Decides}}
 use Rattle.std.specs.{Prelude.{◌||◌, codes}, List.{AllByRecursion, list_any, flat_map, concat}, Str.{bytes_eq}}
 use Rattle.t1_grammar.specs.{Grammar.{fixed}, Places.{occurs}}
-use Rattle.t1_bytes.specs.{White.{has_bytes}, Laws.{AreBytes}}
+use Rattle.t1_bytes.specs.{Laws.{AreBytes}}
 use Rattle.t1_font.specs.{declared.fault.ReadFault.{ReadFault}, FontValue.{FontValue}, ReadFont.{read_font_widely}}
-use Rattle.t1_text.specs.Tags.{untagged}
 use Rattle.t1_font.proofs.canonical.EntriesWritten.{fixed_read}
-use Rattle.t1_text.proofs.{Bytes.{bytes_right}, TagLemmas.{ends_untagged}}
-use Rattle.t1_document.specs.{declared.pooling.Key.{Key}, declared.pooling.Key.TheVariants.{Name, Family}, Stretches.{Stretches}, Fonts.{FontText}}
+use Rattle.t1_document.specs.{declared.pooling.Key.{Key}, Stretches.{Stretches}, Fonts.{FontText}}
 use Rattle.t1_document.specs.{Documents.{Place, document_of}, Rewriting.{NewTexts, Fate, fate_bytes, fated_bytes, is_seen}, Joins.{Outcomes, AreOutcomes, names_from, new_texts, places_under}}
 use Rattle.t1_document.specs.{JoinLaws.{FontStaysIn}}
 use Rattle.t1_document.specs.Pooling.{own_start, start_from, free_start, key_of, under_key, keyed, places_by, line_end, defined_as, place_line, Entry, behind_text, clashes, entry_bytes, entry_in, entry_part, end_by}
 use Rattle.t1_document.specs.Pooling.{keys_of, line_ends, entries, prolog, fate_ending, line_fates, pooled_by}
 use Rattle.t1_document.specs.PoolLaws.{Found, with_found, own_name, KeepsOwn, defining, Runs, RunsFront, RunsPart, RunsLines, takes_answer, behind_line, RunsStretches, EntersOne, EntersAll, FindsFont, AllFind}
 use Rattle.t1_document.specs.PoolLaws.{place_fates, PlacesFind, KeepsRest, PooledOthersStay, OnePooledByKeys}
-use Rattle.t1_document.proofs.{NewTextsDraw.{IsSound, IsGood, places_sound, sound_under, come_to}, Drawn.{stays_in_itself}, OneOutcome.{one_outcome}, Rewritten.{same_bytes, fated_written}}
-use Rattle.t1_document.proofs.{AliasLines.{IsRegular, IsNamed, places_named}, OwnTexts.{Own, own_texts_stand}, Retold.{no_font_in_line, stands_font}}
+use Rattle.t1_document.proofs.{NewTextsDraw.{IsGood, places_sound, sound_under, come_to}, Drawn.{stays_in_itself}, OneOutcome.{one_outcome}, Rewritten.{same_bytes, fated_written}}
+use Rattle.t1_document.proofs.{AliasLines.{IsRegular, IsNamed, places_named}, OwnTexts.{Own, own_texts_stand}, Retold.{no_font_in_line, stands_font}, KeyedPlaces.{keyed_sound, keys_regular}}
 use Rattle.t1_document.proofs.{DefiningLines.{regular_both, key_regular, colons_regular, defining_read, renames_read}, EntryParts.{IsEntry, known_entry, font_regular, stretches_of_entry}}
 
 -- ---- names
@@ -247,26 +245,6 @@ module _ (own : List ℕ) (new : NewTexts) (entry : List ℕ → Option Entry)
 
 -- ---- the places of a text
 
--- a name in bytes has a key in bytes
-key_bytes : (by : Key) (name : List ℕ) → AreBytes name → AreBytes (key_of by name)
-key_bytes Name name h = h
-key_bytes Family name h = by_any (has_bytes (untagged name))
-  where
-    bare : AreBytes (untagged name)
-    bare = let s = ends_untagged (length name) name in bytes_right s.0 (untagged name) (subst AreBytes s.1 h)
-
-    by_any : (b : Bool) → AreBytes (cond b (untagged name) name)
-    by_any true = bare
-    by_any false = h
-
--- places under their keys are sound, too
-keyed_sound : (by : Key) (ps : List Place) → AllByRecursion IsSound ps → AllByRecursion IsSound (keyed by ps)
-keyed_sound by [] h = tt
-keyed_sound by (p ∷ ps) h = (
-  record { name = key_bytes by p.name h.0.name; text = h.0.text; font = h.0.font; spelled = h.0.spelled },
-  keyed_sound by ps h.1,
-)
-
 -- each text that keys get is good for their places
 abbrev GoodFor : Key → NewTexts → List Place → Type 0
 GoodFor by new ps = (k text : List ℕ) → new k ≡ Some text → IsGood (places_under k (keyed by ps)) text
@@ -291,27 +269,6 @@ good_first by new p ps h text e =
         AllByRecursion (FontStaysIn j) (cond b (under_key by p ∷ places_under k (keyed by ps)) (places_under k (keyed by ps))) → FontStaysIn j p
     by_name k j true t x = x.0
     by_name k j false t x = absurd (true≢false (sym t))
-
--- what holds of places' keys holds of the keys of a pool
-names_hold : (Q : List ℕ → Type 0) (seen : List (List ℕ)) (ps : List Place) → AllByRecursion (λ p. Q p.name) ps → AllByRecursion Q (names_from seen ps)
-names_hold Q seen [] h = tt
-names_hold Q seen (p ∷ ps) h = by_seen (is_seen seen p.name) (names_hold Q seen ps h.1) (names_hold Q (p.name ∷ seen) ps h.1)
-  where
-    by_seen : (b : Bool) → AllByRecursion Q (names_from seen ps) → AllByRecursion Q (names_from (p.name ∷ seen) ps) →
-        AllByRecursion Q (cond b (names_from seen ps) (p.name ∷ names_from (p.name ∷ seen) ps))
-    by_seen true fewer more = fewer
-    by_seen false fewer more = (h.0, more)
-
-pub keys_regular : (start : List ℕ) (by : Key) (ps : List Place) → AllByRecursion IsNamed ps → AllByRecursion IsRegular (keys_of start by ps)
-keys_regular start by ps named = by_clash (list_any (λ p. clashes start p.name) ps)
-  where
-    each : (qs : List Place) → AllByRecursion IsNamed qs → AllByRecursion (λ q. IsRegular q.name) (keyed by qs)
-    each [] h = tt
-    each (q ∷ qs) h = (key_regular by q.name h.0, each qs h.1)
-
-    by_clash : (b : Bool) → AllByRecursion IsRegular (cond b [] (names_from [] (keyed by ps)))
-    by_clash true = tt
-    by_clash false = names_hold IsRegular [] (keyed by ps) (each ps named)
 
 -- where none passes a test, each fails it
 none_passes : (test : Place → Bool) (ps : List Place) → list_any test ps ≡ false → AllByRecursion (λ p. test p ≡ false) ps

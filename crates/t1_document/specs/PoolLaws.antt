@@ -1,11 +1,11 @@
 -- What a pooled document finds, as laws, each the contract of a function in `laws`.
-use Rattle.std.specs.{Prelude.{◌≡◌, ◌⊎◌, ◌||◌, ℕ, Bool, true, false, List, [], ◌∷◌, ◌++◌, map, drop, codes, Option, Some, None, Ok, if◌then◌else◌}, List.{AllByRecursion, concat}, Str.{bytes_eq}}
+use Rattle.std.specs.{Prelude.{◌≡◌, ◌⊎◌, ◌||◌, ℕ, Bool, true, false, List, [], ◌∷◌, ◌++◌, map, drop, codes, Option, Some, None, Ok, IsPermutation, if◌then◌else◌}, List.{AllByRecursion, concat}, Str.{bytes_eq}}
 use Rattle.t1_grammar.specs.{Grammar.{Grammar, pure, ◌>>=◌, ◌>>◌, run, fixed}, Places.{occurs}}
 use Rattle.t1_bytes.specs.Laws.{AreBytes}
 use Rattle.t1_font.specs.{FontValue.{FontValue}, ReadFont.{read_font_widely}}
 use Rattle.t1_text.specs.Words.{is_regular}
 use Rattle.t1_document.specs.{declared.pooling.Key.{Key}, Lines.{no_bytes}, Stretches.{Stretch, stretches}, Fonts.{FontText, font_in}, Documents.{Place, document_of}}
-use Rattle.t1_document.specs.{Rewriting.{NewTexts, Fate, fate_bytes, fated_bytes}, Joins.{Outcomes, AreOutcomes, new_texts}, JoinLaws.{FontStaysIn}}
+use Rattle.t1_document.specs.{Rewriting.{NewTexts, Fate, fate_bytes, fated_bytes}, Joins.{Outcomes, AreOutcomes, places_of_all, new_texts}, JoinLaws.{FontStaysIn}}
 use Rattle.t1_document.specs.Pooling.{free_start, keyed, entry_in, entry_part, keys_of, line_ends, prolog, line_fates, pooled_by}
 
 -- ---- what `findfont` finds (PostScript Language Reference, third edition, 5.2)
@@ -164,3 +164,8 @@ PooledByKeys by text out = (outcomes : Outcomes) × AreOutcomes (keyed by (docum
 -- a text is pooled to one text
 abbrev pub OnePooledByKeys : Type 0
 OnePooledByKeys = (by : Key) (text a b : List ℕ) → PooledByKeys by text a → PooledByKeys by text b → a ≡ b
+
+-- in another order documents get the same texts for their keys
+abbrev pub InAnyOrderByKeys : Type 0
+InAnyOrderByKeys = (by : Key) (documents others : List (List ℕ)) → AllByRecursion AreBytes documents → IsPermutation documents others → (a b : Outcomes) →
+    AreOutcomes (keyed by (places_of_all documents)) a → AreOutcomes (keyed by (places_of_all others)) b → (key : List ℕ) → new_texts a key ≡ new_texts b key
