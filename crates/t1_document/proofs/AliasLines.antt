@@ -21,7 +21,7 @@ regular_part (b ∷ bs) = by_first (is_regular b) refl (regular_part bs)
         ap (λ (n : ℕ). all_regular (take n (b ∷ bs))) more ∙ (ap (λ (t : Bool). t && all_regular (take (prefix_len is_regular bs) bs)) e ∙ h)
     by_first false e h = refl
 
-name_regular : (text name : List ℕ) → name_in text ≡ Some name → all_regular name ≡ true
+pub name_regular : (text name : List ℕ) → name_in text ≡ Some name → all_regular name ≡ true
 name_regular text name e = by_read ((first name_marker).read text) e
   where
     by_read : (o : Option ((List ℕ × List ℕ) × List ℕ)) → option_map (λ x. (parted is_regular x.1).0) o ≡ Some name → all_regular name ≡ true
@@ -47,7 +47,7 @@ places_named text = each (document_of text).places (places_spell text)
 -- ---- one line
 
 -- no line ends in a text
-abbrev no_end : List ℕ → Bool
+abbrev pub no_end : List ℕ → Bool
 no_end [] = true
 no_end (b ∷ bs) = not (is_line_end b) && no_end bs
 
@@ -66,20 +66,20 @@ regular_ends_no_line b h = elim (cases_Bool (b == 10)) [
     thirteen : is_regular 13 ≡ true → ⊥
     thirteen k = true≢false (sym k)
 
-regular_ends : (name : List ℕ) → all_regular name ≡ true → no_end name ≡ true
+pub regular_ends : (name : List ℕ) → all_regular name ≡ true → no_end name ≡ true
 regular_ends [] h = refl
 regular_ends (b ∷ bs) h =
     let parts = and_parts (is_regular b) (all_regular bs) h in
     ap (λ (t : Bool). t && no_end bs) (regular_ends_no_line b parts.0) ∙ regular_ends bs parts.1
 
-no_end-append : (a b : List ℕ) → no_end a ≡ true → no_end b ≡ true → no_end (a ++ b) ≡ true
+pub no_end-append : (a b : List ℕ) → no_end a ≡ true → no_end b ≡ true → no_end (a ++ b) ≡ true
 no_end-append [] b h k = k
 no_end-append (c ∷ a) b h k =
     let parts = and_parts (not (is_line_end c)) (no_end a) h in
     ap (λ (t : Bool). t && no_end (a ++ b)) parts.0 ∙ no_end-append a b parts.1 k
 
 -- a text in which no line ends is one line with an LF behind it
-whole_line : (u : List ℕ) → no_end u ≡ true → lines_of (u ++ 10 ∷ []) ≡ (u ++ 10 ∷ []) ∷ []
+pub whole_line : (u : List ℕ) → no_end u ≡ true → lines_of (u ++ 10 ∷ []) ≡ (u ++ 10 ∷ []) ∷ []
 unfolding lines_of
 whole_line [] h = refl
 whole_line (b ∷ bs) h =
@@ -97,7 +97,7 @@ whole_line (b ∷ bs) h =
       ]
     ]
 
-slash_no_mark : (inner : List ℕ) → mark_of (47 ∷ inner) ≡ None
+pub slash_no_mark : (inner : List ℕ) → mark_of (47 ∷ inner) ≡ None
 slash_no_mark inner = by_mark (mark_of (47 ∷ inner)) refl
   where
     by_mark : (o : Option Mark) → mark_of (47 ∷ inner) ≡ o → o ≡ None

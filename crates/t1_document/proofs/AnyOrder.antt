@@ -17,9 +17,9 @@ use Rattle.t1_algebra.specs.{Profile.{profile}, Lacks.{Lack, first_below, user_o
 use Rattle.t1_algebra.proofs.{Fonts.{any_order_of_fonts}, ManyMerges.{each_font}}
 use Rattle.t1_subset.specs.Rejoins.{Rejoin}
 use Rattle.t1_document.specs.{declared.joins.Outcome.{Outcome}, declared.joins.Outcome.TheVariants.{Same, Joined, Stays}, Documents.{Place, document_of}, Rewriting.{can_stand}}
-use Rattle.t1_document.specs.{Joins.{places_of_all, places_under, fonts_of_places, with_font, new_texts, text_for_places, ComeTo, OfPlaces, OfFonts, IsSame}, JoinLaws.{InAnyOrder}}
+use Rattle.t1_document.specs.{Joins.{Outcomes, AreOutcomes, places_of_all, places_under, fonts_of_places, with_font, new_texts, text_for_places, ComeTo, OfPlaces, OfFonts, IsSame}, JoinLaws.{InAnyOrder}, Pooling.{under_key, keyed}, PoolLaws.{InAnyOrderByKeys}}
 use Rattle.t1_document.proofs.{Exchanges.{Exchanged, exchanged_first, in_each_order, flat_in_order, filter_in_order, all_in_order}, Drawn.{shells_are_fonts, each_filled, each_named}}
-use Rattle.t1_document.proofs.{OneOutcome.{one_text_for}, Again.{HaveText, have_same}, NewTextsDraw.{IsUnder, AreFonts, all_sound, sound_under, fonts_read, fonts_sound}}
+use Rattle.t1_document.proofs.{OneOutcome.{one_text_for}, Again.{HaveText, have_same}, NewTextsDraw.{IsSound, IsUnder, AreFonts, all_sound, sound_under, fonts_read, fonts_sound}, KeyedPlaces.{keyed_sound}}
 use Rattle.std.specs.FinMap as maps
 
 -- ---- tests and counts
@@ -330,14 +330,28 @@ both_ways None None there back = refl
 both_ways None (Some t) there back = back t refl
 both_ways (Some t) b there back = sym (there t refl)
 
-pub in_any_order_of_documents : InAnyOrder
-in_any_order_of_documents documents others bytes moved a b h k name =
-    let ps = places_of_all documents in
-    let qs = places_of_all others in
-    let places_moved = flat_in_order (λ d. (document_of d).places) documents others moved in
-    let under_moved = filter_in_order (λ p. bytes_eq p.name name) ps qs places_moved in
-    let u = sound_under name ps (all_sound documents bytes) in
+-- places in another order get the same texts
+pub in_any_order_of_places : (ps qs : List Place) → AllByRecursion IsSound ps → IsPermutation ps qs → (a b : Outcomes) → AreOutcomes ps a → AreOutcomes qs b →
+    (name : List ℕ) → new_texts a name ≡ new_texts b name
+in_any_order_of_places ps qs sound moved a b h k name =
+    let under_moved = filter_in_order (λ p. bytes_eq p.name name) ps qs moved in
+    let u = sound_under name ps sound in
     let v = all_in_order (IsUnder name) (places_under name ps) (places_under name qs) under_moved u in
     both_ways (new_texts a name) (new_texts b name)
     (λ text e. one_way name (places_under name ps) (places_under name qs) (a name) (b name) text under_moved u (h name) (k name) e)
     (λ text e. one_way name (places_under name qs) (places_under name ps) (b name) (a name) text (IsPermutation-sym _ _ under_moved) v (k name) (h name) e)
+
+-- so do the places of documents
+pub places_moved : (documents others : List (List ℕ)) → IsPermutation documents others → IsPermutation (places_of_all documents) (places_of_all others)
+places_moved documents others moved = flat_in_order (λ d. (document_of d).places) documents others moved
+
+pub in_any_order_of_documents : InAnyOrder
+in_any_order_of_documents documents others bytes moved a b h k name =
+    in_any_order_of_places (places_of_all documents) (places_of_all others) (all_sound documents bytes) (places_moved documents others moved) a b h k name
+
+pub in_any_order_by_keys : InAnyOrderByKeys
+in_any_order_by_keys by documents others bytes moved a b h k key =
+    let ps = places_of_all documents in
+    let qs = places_of_all others in
+    in_any_order_of_places (keyed by ps) (keyed by qs) (keyed_sound by ps (all_sound documents bytes))
+    (IsPermutation-map (under_key by) ps qs (places_moved documents others moved)) a b h k key

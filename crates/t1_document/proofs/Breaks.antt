@@ -54,7 +54,7 @@ marked_read : (side : Side) (o : Option (List ℕ × List ℕ)) (m : Mark) → m
 marked_read side None m e = absurd (none-some m e)
 marked_read side (Some x) m e = (x, refl)
 
-begun : (w : List ℕ) (line : List ℕ) (x : List ℕ × List ℕ) → (fixed w).read line ≡ Some x → line ≡ w ++ x.1
+pub begun : (w : List ℕ) (line : List ℕ) (x : List ℕ × List ℕ) → (fixed w).read line ≡ Some x → line ≡ w ++ x.1
 begun w line x e =
     let s = (fixed w).takes line x e in
     s.1 ∙ ap (λ (t : List ℕ). t ++ x.1) (fixed_is w x.0 s.0 x.1 s.2)

@@ -27,6 +27,8 @@ pub mod Bare
 pub mod Again
 pub mod Together
 pub mod Exchanges
+pub mod DefiningLines
+pub mod KeyedPlaces
 pub mod AnyOrder
 pub mod AliasLines
 pub mod FamilyLoops
@@ -38,4 +40,5 @@ pub mod AliasedAgain
 pub mod OwnStarts
 pub mod PoolLoops
 pub mod PooledDocuments
+pub mod EntryParts
 pub mod PlacesFind

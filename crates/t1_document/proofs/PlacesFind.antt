@@ -1,71 +1,21 @@
 -- What a pooled document finds behind each place.
-use Rattle.std.proofs.Common.{◌≡◌, ℕ, zero, suc, Bool, true, false, cond, refl, sym, ◌∙◌, ap, subst, List, [], ◌∷◌, ◌++◌, length, inl, inr, Option, Some, None, is_some, replicate, Result, Ok}
+use Rattle.std.proofs.Common.{◌≡◌, ℕ, zero, suc, Bool, true, false, cond, refl, sym, ◌∙◌, ap, subst, List, [], ◌∷◌, ◌++◌, map, length, inl, inr, Option, Some, None, is_some, replicate, Result, Ok, append_assoc}
 use Rattle.std.proofs.{lemmas.Bool.{cases_Bool, true≢false, or_parts}, lemmas.Option.{none-some, same_Some}, lemmas.List.{append_cancel_left}, lemmas.Slice.Eq.{bytes_eq-Decides}}
-use Rattle.std.specs.{Prelude.{◌&&◌, ◌||◌, codes}, List.{AllByRecursion, list_all, list_any}, Option.{option_map, option_and_then}, Str.{bytes_eq}}
+use Rattle.std.specs.{Prelude.{◌||◌, codes}, List.{AllByRecursion, list_any, flat_map, concat}, Str.{bytes_eq}}
 use Rattle.t1_grammar.specs.{Grammar.{fixed}, Places.{occurs}}
-use Rattle.t1_bytes.specs.{White.{has_bytes}, Laws.{AreBytes}}
+use Rattle.t1_bytes.specs.{Laws.{AreBytes}}
 use Rattle.t1_font.specs.{declared.fault.ReadFault.{ReadFault}, FontValue.{FontValue}, ReadFont.{read_font_widely}}
-use Rattle.t1_text.specs.Tags.{untagged}
 use Rattle.t1_font.proofs.canonical.EntriesWritten.{fixed_read}
-use Rattle.t1_text.proofs.{Bytes.{bytes_right}, TagLemmas.{ends_untagged}}
-use Rattle.t1_document.specs.{declared.pooling.Key.{Key}, declared.pooling.Key.TheVariants.{Name, Family}, Fonts.{font_in}, Marks.{has_mark}}
-use Rattle.t1_document.specs.{Documents.{Place, document_of}, Rewriting.{NewTexts, is_seen}, Joins.{Outcomes, AreOutcomes, names_from, new_texts, places_under}, JoinLaws.{FontStaysIn}}
-use Rattle.t1_document.specs.Pooling.{own_start, start_from, free_start, key_of, under_key, keyed, places_by, Entry, behind_text, leaves, is_so, clashes, named_by, if_clear, entry_name, takes_line}
-use Rattle.t1_document.specs.Pooling.{entry_named, entry_for, first_of_several, entry_leaving, entry_by, entry_of, entry_in, end_by, keys_of, line_ends, entries, prolog, line_fates, pooled_by}
-use Rattle.t1_document.specs.PoolLaws.{Found, with_found, own_name, KeepsOwn, Enters, EntersOne, EntersAll, Defines, FindsFont, AllFind, PlacesFind, PooledOthersStay, OnePooledByKeys}
-use Rattle.t1_document.proofs.{NewTextsDraw.{IsSound, IsGood, places_sound, sound_under, come_to}, Drawn.{stays_in_itself}, OneOutcome.{one_outcome}, Rewritten.{same_bytes, fated_written}}
-
--- ---- an entry
-
--- what is known of the entry of a key
-pub record IsEntry (start : List ℕ) (text : Option (List ℕ)) (e : Entry) : Type 0 where
-  pub of_text : text ≡ Some e.text
-  pub clear : clashes start e.name ≡ false
-
-named_clear : (start name n : List ℕ) → if_clear start name ≡ Some n → clashes start n ≡ false
-named_clear start name n e = by_clash (clashes start name) refl e
-  where
-    by_clash : (b : Bool) → clashes start name ≡ b → cond b None (Some name) ≡ Some n → clashes start n ≡ false
-    by_clash true c k = absurd (none-some n k)
-    by_clash false c k = ap (clashes start) (sym (same_Some name n k)) ∙ c
-
-name_clear : (start text rest n : List ℕ) → entry_name start text rest ≡ Some n → clashes start n ≡ false
-name_clear start text rest n e = by_mark (has_mark (text ++ rest)) e
-  where
-    by_name : (o : Option (List ℕ)) → option_and_then (if_clear start) o ≡ Some n → clashes start n ≡ false
-    by_name None k = absurd (none-some n k)
-    by_name (Some name) k = named_clear start name n k
-
-    by_mark : (b : Bool) → cond b None (option_and_then (if_clear start) (named_by text rest (font_in (text ++ rest)))) ≡ Some n → clashes start n ≡ false
-    by_mark true k = absurd (none-some n k)
-    by_mark false k = by_name (named_by text rest (font_in (text ++ rest))) k
-
-entry_is : (start key text : List ℕ) (answers : Bool) (ps : List Place) (e : Entry) → entry_for start key text answers ps ≡ Some e → IsEntry start (Some text) e
-entry_is start key text answers ps e h = by_test (is_so answers (leaves text) && list_all (takes_line start key answers) ps) h
-  where
-    by_name : (o : Option (List ℕ)) → entry_name start text (behind_text answers) ≡ o → option_map (entry_named text answers) o ≡ Some e →
-        IsEntry start (Some text) e
-    by_name None n k = absurd (none-some e k)
-    by_name (Some name) n k =
-        let same : entry_named text answers name ≡ e = same_Some (entry_named text answers name) e k in
-        subst (IsEntry start (Some text)) same (record { of_text = refl; clear = name_clear start text (behind_text answers) name n })
-
-    by_test : (b : Bool) → cond b (option_map (entry_named text answers) (entry_name start text (behind_text answers))) None ≡ Some e →
-        IsEntry start (Some text) e
-    by_test true k = by_name (entry_name start text (behind_text answers)) refl k
-    by_test false k = absurd (none-some e k)
-
-pub known_entry : (start key : List ℕ) (text : Option (List ℕ)) (ps : List Place) (e : Entry) → entry_of start key text ps ≡ Some e → IsEntry start text e
-known_entry start key text ps e h = by_text text (first_of_several ps) h
-  where
-    by_leaving : (t : List ℕ) (o : Option Bool) → entry_leaving start key t o ps ≡ Some e → IsEntry start (Some t) e
-    by_leaving t None k = absurd (none-some e k)
-    by_leaving t (Some answers) k = entry_is start key t answers ps e k
-
-    by_text : (o : Option (List ℕ)) (first : Option Place) → entry_by start key o first ps ≡ Some e → IsEntry start o e
-    by_text None first k = absurd (none-some e k)
-    by_text (Some t) None k = absurd (none-some e k)
-    by_text (Some t) (Some p) k = by_leaving t (leaves p.text) k
+use Rattle.t1_document.specs.{declared.pooling.Key.{Key}, Stretches.{Stretches}, Fonts.{FontText}}
+use Rattle.t1_document.specs.{Documents.{Place, document_of}, Rewriting.{NewTexts, Fate, fate_bytes, fated_bytes, is_seen}, Joins.{Outcomes, AreOutcomes, names_from, new_texts, places_under}}
+use Rattle.t1_document.specs.{JoinLaws.{FontStaysIn}}
+use Rattle.t1_document.specs.Pooling.{own_start, start_from, free_start, key_of, under_key, keyed, places_by, line_end, defined_as, place_line, Entry, behind_text, clashes, entry_bytes, entry_in, entry_part, end_by}
+use Rattle.t1_document.specs.Pooling.{keys_of, line_ends, entries, prolog, fate_ending, line_fates, pooled_by}
+use Rattle.t1_document.specs.PoolLaws.{Found, with_found, own_name, KeepsOwn, defining, Runs, RunsFront, RunsPart, RunsLines, takes_answer, behind_line, RunsStretches, EntersOne, EntersAll, FindsFont, AllFind}
+use Rattle.t1_document.specs.PoolLaws.{place_fates, PlacesFind, KeepsRest, PooledOthersStay, OnePooledByKeys}
+use Rattle.t1_document.proofs.{NewTextsDraw.{IsGood, places_sound, sound_under, come_to}, Drawn.{stays_in_itself}, OneOutcome.{one_outcome}, Rewritten.{same_bytes, fated_written}}
+use Rattle.t1_document.proofs.{AliasLines.{IsRegular, IsNamed, places_named}, OwnTexts.{Own, own_texts_stand}, Retold.{no_font_in_line, stands_font}, KeyedPlaces.{keyed_sound, keys_regular}}
+use Rattle.t1_document.proofs.{DefiningLines.{regular_both, key_regular, colons_regular, defining_read, renames_read}, EntryParts.{IsEntry, known_entry, font_regular, stretches_of_entry}}
 
 -- ---- names
 
@@ -88,7 +38,7 @@ same_font text f g e h = let both : ◌≡◌ {A = Result FontValue ReadFault} (
 -- ---- the pool's names, while entries and places are run
 
 module _ (own : List ℕ) (new : NewTexts) (entry : List ℕ → Option Entry)
-    (known : (key : List ℕ) (e : Entry) → entry key ≡ Some e → IsEntry (47 ∷ own) (new key) e) where
+    (known : (key : List ℕ) (e : Entry) → entry key ≡ Some e → IsEntry (47 ∷ own) (new key) e) (plain : IsRegular own) where
   abbrev start : List ℕ
   start = 47 ∷ own
 
@@ -103,12 +53,47 @@ module _ (own : List ℕ) (new : NewTexts) (entry : List ℕ → Option Entry)
       Has key e after
   has_kept key e before after k h = record { font = h.font; spelled = h.spelled; is_found = k ∙ h.is_found }
 
+  -- An entry was run: the font that its text spells is found under the pool's name of its key. Under its own name anything may be found then, and under
+  -- other names what was.
+  pub record Entered (key : List ℕ) (e : Entry) (before after : Found) : Type 0 where
+    pub font : FontValue
+    pub spelled : read_font_widely e.text ≡ Ok font
+    pub in_pool : after (own_name start key) ≡ Some font
+    pub others : (name : List ℕ) → bytes_eq (own_name start key) name ≡ false → bytes_eq e.name name ≡ false → after name ≡ before name
+
+  takes : (answers : Bool) → takes_answer (behind_text answers) ≡ true
+  takes true = refl
+  takes false = refl
+
+  -- that is what its bytes do
+  was_entered : (key : List ℕ) (e : Entry) → IsRegular key → IsEntry start (new key) e → (before after : Found) →
+      EntersOne start (entry_bytes start key e) before after → Entered key e before after
+  was_entered key e plain_key is before after run =
+      let named : IsRegular e.name = font_regular (e.text ++ behind_text e.answers) (record { name = e.name; text = e.text; rest = behind_text e.answers }) is.found in
+      let regular = regular_both own key plain plain_key in
+      let parts = subst (λ (x : Stretches). RunsStretches x.0 x.1 before after) (stretches_of_entry own key regular e named is.unmarked) run in
+      let font = subst (λ (o : Option FontText). RunsPart o before parts.0) is.found parts.1 (takes e.answers) in
+      let lines : (name : List ℕ) → bytes_eq e.name name ≡ false → after name ≡ behind_line (own ++ key, e.name) parts.0 name =
+      subst (λ (o : Option (((List ℕ × List ℕ) × List ℕ) × List ℕ)). RunsLines o parts.0 after) (renames_read own key e.name regular named) parts.2 refl in
+      let there : (name : List ℕ) → parts.0 name ≡ with_found e.name (Some font.0) before name = λ name. ap (λ (f : Found). f name) font.2 in
+      record {
+        font = font.0;
+        spelled = font.1;
+        in_pool = lines (own ++ key) (apart own key e.name is.clear)
+            ∙ (ap (λ (b : Bool). cond b (parts.0 e.name) (parts.0 (own ++ key))) (same_bytes (own ++ key))
+            ∙ (there e.name ∙ ap (λ (b : Bool). cond b (Some font.0) (before e.name)) (same_bytes e.name)));
+        others = λ name n m.
+            lines name m
+            ∙ (ap (λ (b : Bool). cond b (parts.0 e.name) (parts.0 name)) n
+            ∙ (there name ∙ ap (λ (b : Bool). cond b (Some font.0) (before name)) m));
+      }
+
   -- where an entry is run
-  kept_one : (k : List ℕ) (e : Entry) → entry k ≡ Some e → (key : List ℕ) (before after : Found) → EntersOne start key (entry key) before after →
-      Has k e before → Has k e after
-  kept_one k e is key before after run h = by_entry (entry key) refl run
+  kept_one : (k : List ℕ) (e : Entry) → entry k ≡ Some e → (key : List ℕ) → IsRegular key → (before after : Found) →
+      EntersOne start (entry_part start key (entry key)) before after → Has k e before → Has k e after
+  kept_one k e is key plain_key before after run h = by_entry (entry key) refl run
     where
-      by_name : (d : Entry) → entry key ≡ Some d → Enters start key d before after → (b : Bool) → bytes_eq (own_name start key) (own_name start k) ≡ b →
+      by_name : (d : Entry) → entry key ≡ Some d → Entered key d before after → (b : Bool) → bytes_eq (own_name start key) (own_name start k) ≡ b →
           Has k e after
       by_name d t r true n =
           let same : own ++ key ≡ own ++ k = (bytes_eq-Decides (own_name start key) (own_name start k)).0 n in
@@ -116,40 +101,47 @@ module _ (own : List ℕ) (new : NewTexts) (entry : List ℕ → Option Entry)
           record {
             font = r.font;
             spelled = ap (λ (x : Entry). read_font_widely x.text) (sym entries) ∙ r.spelled;
-            is_found = ap after (sym same) ∙ r.own;
+            is_found = ap after (sym same) ∙ r.in_pool;
           }
       by_name d t r false n = has_kept k e before after (r.others (own_name start k) n (apart own k d.name (known key d t).clear)) h
 
-      by_entry : (o : Option Entry) → entry key ≡ o → EntersOne start key o before after → Has k e after
+      by_entry : (o : Option Entry) → entry key ≡ o → EntersOne start (entry_part start key o) before after → Has k e after
       by_entry None t r = has_kept k e before after (r k) h
-      by_entry (Some d) t r = by_name d t r (bytes_eq (own_name start key) (own_name start k)) refl
+      by_entry (Some d) t r =
+          by_name d t (was_entered key d plain_key (known key d t) before after r) (bytes_eq (own_name start key) (own_name start k)) refl
 
-  kept_all : (k : List ℕ) (e : Entry) → entry k ≡ Some e → (keys : List (List ℕ)) (before after : Found) → EntersAll start entry keys before after →
-      Has k e before → Has k e after
-  kept_all k e is [] before after run h = has_kept k e before after (run k) h
-  kept_all k e is (key ∷ keys) before after run h = kept_all k e is keys run.0 after run.2 (kept_one k e is key before run.0 run.1 h)
+  -- the entries of keys, each in its bytes
+  abbrev parts_of : List (List ℕ) → List (List ℕ)
+  parts_of keys = map (λ key. entry_part start key (entry key)) keys
+
+  kept_all : (k : List ℕ) (e : Entry) → entry k ≡ Some e → (keys : List (List ℕ)) → AllByRecursion IsRegular keys → (before after : Found) →
+      EntersAll start (parts_of keys) before after → Has k e before → Has k e after
+  kept_all k e is [] plain_keys before after run h = has_kept k e before after (run k) h
+  kept_all k e is (key ∷ keys) plain_keys before after run h =
+      kept_all k e is keys plain_keys.1 run.0 after run.2 (kept_one k e is key plain_keys.0 before run.0 run.1 h)
 
   -- behind all entries it is found under each key that has one
-  pub has_all : (k : List ℕ) (e : Entry) → entry k ≡ Some e → (keys : List (List ℕ)) → is_seen keys k ≡ true → (before after : Found) →
-      EntersAll start entry keys before after → Has k e after
-  has_all k e is [] seen before after run = absurd (true≢false (sym seen))
-  has_all k e is (key ∷ keys) seen before after run =
-      by_name (bytes_eq k key) refl seen (λ s. has_all k e is keys s run.0 after run.2)
+  pub has_all : (k : List ℕ) (e : Entry) → entry k ≡ Some e → (keys : List (List ℕ)) → AllByRecursion IsRegular keys → is_seen keys k ≡ true →
+      (before after : Found) → EntersAll start (parts_of keys) before after → Has k e after
+  has_all k e is [] plain_keys seen before after run = absurd (true≢false (sym seen))
+  has_all k e is (key ∷ keys) plain_keys seen before after run =
+      by_name (bytes_eq k key) refl seen (λ s. has_all k e is keys plain_keys.1 s run.0 after run.2)
     where
-      entered : (o : Option Entry) → o ≡ Some e → key ≡ k → EntersOne start key o before run.0 → Has k e run.0
-      entered None i n r = absurd (none-some e i)
-      entered (Some d) i n r =
+      by_entry : (o : Option Entry) → entry key ≡ o → o ≡ Some e → key ≡ k → EntersOne start (entry_part start key o) before run.0 → Has k e run.0
+      by_entry None t i n r = absurd (none-some e i)
+      by_entry (Some d) t i n r =
           let same : d ≡ e = same_Some d e i in
+          let was = was_entered key d plain_keys.0 (known key d t) before run.0 r in
           record {
-            font = r.font;
-            spelled = ap (λ (x : Entry). read_font_widely x.text) (sym same) ∙ r.spelled;
-            is_found = ap (λ (x : List ℕ). (run.0) (own ++ x)) (sym n) ∙ r.own;
+            font = was.font;
+            spelled = ap (λ (x : Entry). read_font_widely x.text) (sym same) ∙ was.spelled;
+            is_found = ap (λ (x : List ℕ). (run.0) (own ++ x)) (sym n) ∙ was.in_pool;
           }
 
       by_name : (b : Bool) → bytes_eq k key ≡ b → (b || is_seen keys k) ≡ true → (is_seen keys k ≡ true → Has k e after) → Has k e after
       by_name true n s more =
           let same : key ≡ k = sym ((bytes_eq-Decides k key).0 n) in
-          kept_all k e is keys run.0 after run.2 (entered (entry key) (ap entry same ∙ is) same run.1)
+          kept_all k e is keys plain_keys.1 run.0 after run.2 (by_entry (entry key) refl (ap entry same ∙ is) same run.1)
       by_name false n s more = more s
 
   -- ---- places
@@ -165,10 +157,30 @@ module _ (own : List ℕ) (new : NewTexts) (entry : List ℕ → Option Entry)
     abbrev pub Good : List ℕ → Place → Type 0
     Good text p = (j : FontValue) × (read_font_widely text ≡ Ok j) × FontStaysIn j p
 
-    -- where there are entries, the name of a place doesn't clash; and the new text of its key is good
+    -- a place's name has regular bytes, and its text can stand there; where there are entries, its name doesn't clash; and the new text of its key is good
     pub record IsApt (p : Place) : Type 0 where
+      pub named : IsRegular p.name
+      pub stands : Own p
       pub clear : (k : List ℕ) → is_seen keys k ≡ true → clashes start p.name ≡ false
       pub good : (text : List ℕ) → new (key p) ≡ Some text → Good text p
+
+    -- a font text was run, which defines the font that it spells, or a line, by which a name finds what the pool's name of its key finds
+    abbrev Defined : Option (List ℕ) → Place → Found → Found → Type 0
+    Defined None p before after = (font : FontValue) × (read_font_widely p.text ≡ Ok font) × (after ≡ with_found p.name (Some font) before)
+    Defined (Some end) p before after = after ≡ with_found p.name (before (own_name start (key p))) before
+
+    -- that is what the bytes at a place do
+    defined : (p : Place) → IsApt p → (o : Option (List ℕ)) (before after : Found) → Runs (fate_bytes (fate_ending start by o p) p) before after →
+        Defined o p before after
+    defined p apt None before after run =
+        subst (λ (o : Option FontText). RunsFront o (defining.read (p.text ++ p.rest)) before after) (stands_font p.text p apt.stands) run
+    defined p apt (Some end) before after run =
+        let bytes = place_line start end p.name (key p) ++ p.rest in
+        let line : RunsFront None (defining.read bytes) before after =
+        subst (λ (o : Option FontText). RunsFront o (defining.read bytes) before after) (no_font_in_line _) run in
+        subst (λ (o : Option ((List ℕ × List ℕ) × List ℕ)). RunsFront None o before after)
+        (ap defining.read (append_assoc (defined_as (47 ∷ p.name) (47 ∷ (own ++ key p))) end p.rest)
+        ∙ defining_read p.name (own ++ key p) (end ++ p.rest) apt.named (regular_both own (key p) plain (key_regular by p.name apt.named))) line
 
     -- the fonts of all entries are found
     abbrev pub HasAll : Found → Type 0
@@ -199,7 +211,7 @@ module _ (own : List ℕ) (new : NewTexts) (entry : List ℕ → Option Entry)
 
     module _ (p : Place) (apt : IsApt p) (found before after : Found) (kept : KeepsOwn start found before) (has : HasAll found) where
       -- the name of the place finds its font
-      finds : (o : Option (List ℕ)) → ends (key p) ≡ o → Defines start (key p) o p before after → FindsFont p after
+      finds : (o : Option (List ℕ)) → ends (key p) ≡ o → Defined o p before after → FindsFont p after
       finds None x run = record {
         font = run.0;
         is_found = this_name p (Some run.0) before after run.2;
@@ -217,40 +229,21 @@ module _ (own : List ℕ) (new : NewTexts) (entry : List ℕ → Option Entry)
           }
 
       -- and the fonts of all entries are found behind it
-      has_behind : (o : Option (List ℕ)) → Defines start (key p) o p before after → HasAll after
+      has_behind : (o : Option (List ℕ)) → Defined o p before after → HasAll after
       has_behind None run k e is seen =
           has_kept k e found after (other_name p (Some run.0) before after run.2 k (apt.clear k seen) ∙ kept k) (has k e is seen)
       has_behind (Some end) run k e is seen =
           has_kept k e found after (other_name p (before (own_name start (key p))) before after run k (apt.clear k seen) ∙ kept k) (has k e is seen)
 
-    pub all_find : (ps : List Place) → AllByRecursion IsApt ps → (found : Found) → HasAll found → AllFind start by ends ps found
+    pub all_find : (ps : List Place) → AllByRecursion IsApt ps → (found : Found) → HasAll found → AllFind start (line_fates start by ends ps) found
     all_find [] apt found has = tt
-    all_find (p ∷ ps) apt found has = λ before after kept run. (
-      finds p apt.0 found before after kept has (ends (key p)) refl run,
-      all_find ps apt.1 after (has_behind p apt.0 found before after kept has (ends (key p)) run),
-    )
+    all_find (p ∷ ps) apt found has = λ before after kept run.
+        let was = defined p apt.0 (ends (key p)) before after run in (
+          finds p apt.0 found before after kept has (ends (key p)) refl was,
+          all_find ps apt.1 after (has_behind p apt.0 found before after kept has (ends (key p)) was),
+        )
 
 -- ---- the places of a text
-
--- a name in bytes has a key in bytes
-key_bytes : (by : Key) (name : List ℕ) → AreBytes name → AreBytes (key_of by name)
-key_bytes Name name h = h
-key_bytes Family name h = by_any (has_bytes (untagged name))
-  where
-    bare : AreBytes (untagged name)
-    bare = let s = ends_untagged (length name) name in bytes_right s.0 (untagged name) (subst AreBytes s.1 h)
-
-    by_any : (b : Bool) → AreBytes (cond b (untagged name) name)
-    by_any true = bare
-    by_any false = h
-
--- places under their keys are sound, too
-keyed_sound : (by : Key) (ps : List Place) → AllByRecursion IsSound ps → AllByRecursion IsSound (keyed by ps)
-keyed_sound by [] h = tt
-keyed_sound by (p ∷ ps) h = (
-  record { name = key_bytes by p.name h.0.name; text = h.0.text; font = h.0.font; spelled = h.0.spelled },
-  keyed_sound by ps h.1,
-)
 
 -- each text that keys get is good for their places
 abbrev GoodFor : Key → NewTexts → List Place → Type 0
@@ -317,46 +310,115 @@ module _ (by : Key) (text : List ℕ) (bytes : AreBytes text) (outcomes : Outcom
         by_clash true c k seen n = absurd (true≢false (sym seen ∙ ap (λ (t : Bool). is_seen (cond t [] (names_from [] (keyed by places))) k) c))
         by_clash false c k seen n = n c
 
-    apt : (ps : List Place) → AllByRecursion (λ p. (k : List ℕ) → is_seen own_keys k ≡ true → clashes sign p.name ≡ false) ps → GoodFor by new ps →
-        AllByRecursion (IsApt own new entered known by own_keys) ps
-    apt [] c g = tt
-    apt (p ∷ ps) c g = (record { clear = c.0; good = good_first by new p ps g }, apt ps c.1 (good_behind by new p ps g))
+    module _ (plain : IsRegular own) where
+      apt : (ps : List Place) → AllByRecursion (λ p. (k : List ℕ) → is_seen own_keys k ≡ true → clashes sign p.name ≡ false) ps → GoodFor by new ps →
+          AllByRecursion IsNamed ps → AllByRecursion Own ps → AllByRecursion (IsApt own new entered known plain by own_keys) ps
+      apt [] c g n o = tt
+      apt (p ∷ ps) c g n o = (
+        record { named = n.0; stands = o.0; clear = c.0; good = good_first by new p ps g },
+        apt ps c.1 (good_behind by new p ps g) n.1 o.1,
+      )
 
-    found : (before after : Found) → EntersAll sign entered own_keys before after → AllFind sign by (line_ends entered own_keys) places after
-    found before after run =
-        all_find own new entered known by own_keys places
-        (apt places (clear (list_any (λ p. clashes sign p.name) places) refl places (none_passes (λ p. clashes sign p.name) places)) good) after
-        (λ k e is seen. has_all own new entered known k e is own_keys seen before after run)
+      found : (before after : Found) → EntersAll sign (map (λ key. entry_part sign key (entered key)) own_keys) before after →
+          AllFind sign (line_fates sign by (line_ends entered own_keys) places) after
+      found before after run =
+          all_find own new entered known plain by own_keys places
+          (apt places (clear (list_any (λ p. clashes sign p.name) places) refl places (none_passes (λ p. clashes sign p.name) places)) good
+          (places_named text) (own_texts_stand text)) after
+          (λ k e is seen. has_all own new entered known plain k e is own_keys (keys_regular sign by places (places_named text)) seen before after run)
 
 -- ---- the laws
 
--- the start of the pool's names is a slash and more
-slash : (more n : ℕ) (text : List ℕ) → (own : List ℕ) × (start_from more n text ≡ 47 ∷ own)
+-- the start of the pool's names is a slash and regular bytes
+abbrev HasOwn : List ℕ → Type 0
+HasOwn start = (own : List ℕ) × (start ≡ 47 ∷ own) × IsRegular own
+
+slash : (more n : ℕ) (text : List ℕ) → HasOwn (start_from more n text)
 unfolding start_from
-slash zero n text = (codes "pool" ++ replicate n 58, refl)
+slash zero n text = (codes "pool" ++ replicate n 58, refl, colons_regular n)
 slash (suc more) n text = by_free (occurs (fixed (own_start n)) text) (slash more (suc n) text)
   where
-    by_free : (b : Bool) → ((own : List ℕ) × (start_from more (suc n) text ≡ 47 ∷ own)) →
-        (own : List ℕ) × (cond b (start_from more (suc n) text) (own_start n) ≡ 47 ∷ own)
+    by_free : (b : Bool) → HasOwn (start_from more (suc n) text) → HasOwn (cond b (start_from more (suc n) text) (own_start n))
     by_free true h = h
-    by_free false h = (codes "pool" ++ replicate n 58, refl)
+    by_free false h = (codes "pool" ++ replicate n 58, refl, colons_regular n)
 
 pub places_find : PlacesFind
 places_find by text bytes outcomes are before after =
     let ps = (document_of text).places in
     let new = new_texts outcomes in
     let s = slash (length text) 1 text in
-    subst (λ (start : List ℕ). EntersAll start (entry_in start by new ps) (keys_of start by ps) before after →
-    AllFind start by (line_ends (entry_in start by new ps) (keys_of start by ps)) ps after)
-    (sym s.1) (found by text bytes outcomes are s.0 before after)
+    subst (λ (start : List ℕ). EntersAll start (map (λ key. entry_part start key (entry_in start by new ps key)) (keys_of start by ps)) before after →
+    AllFind start (line_fates start by (line_ends (entry_in start by new ps) (keys_of start by ps)) ps) after)
+    (sym s.1) (found by text bytes outcomes are s.0 s.2 before after)
+
+-- ---- what stays
+
+joined_parts : (f : List ℕ → List ℕ) (keys : List (List ℕ)) → flat_map f keys ≡ concat (map f keys)
+joined_parts f [] = refl
+joined_parts f (key ∷ keys) = ap (λ (x : List ℕ). f key ++ x) (joined_parts f keys)
+
+same_places : (f : Place → Fate) (ps : List Place) → map (λ (x : Place × Fate). x.0) (map (λ p. (p, f p)) ps) ≡ ps
+same_places f [] = refl
+same_places f (p ∷ ps) = ap (λ (qs : List Place). p ∷ qs) (same_places f ps)
+
+-- the end of a key's lines leaves false on the operand stack, or nothing
+an_end : (entry : List ℕ → Option Entry) (keys : List (List ℕ)) (key end : List ℕ) → line_ends entry keys key ≡ Some end →
+    (answers : Bool) × (end ≡ line_end answers)
+an_end entry keys key end h = by_seen (is_seen keys key) h
+  where
+    by_entry : (o : Option Entry) → end_by o ≡ Some end → (answers : Bool) × (end ≡ line_end answers)
+    by_entry None k = absurd (none-some end k)
+    by_entry (Some e) k = (e.answers, sym (same_Some (line_end e.answers) end k))
+
+    by_seen : (b : Bool) → cond b (end_by (entry key)) None ≡ Some end → (answers : Bool) × (end ≡ line_end answers)
+    by_seen true k = by_entry (entry key) k
+    by_seen false k = absurd (none-some end k)
+
+rests_stay : (from own : List ℕ) (by : Key) (ends_of : NewTexts) → from ≡ 47 ∷ own → IsRegular own →
+    ((key end : List ℕ) → ends_of key ≡ Some end → (answers : Bool) × (end ≡ line_end answers)) → (ps : List Place) → AllByRecursion IsNamed ps →
+    AllByRecursion KeepsRest (line_fates from by ends_of ps)
+rests_stay from own by ends_of is plain an_end_of [] named = tt
+rests_stay from own by ends_of is plain an_end_of (p ∷ ps) named =
+    (by_end (ends_of (key_of by p.name)) refl, rests_stay from own by ends_of is plain an_end_of ps named.1)
+  where
+    line : (answers : Bool) →
+        defining.read (place_line (47 ∷ own) (line_end answers) p.name (key_of by p.name)) ≡ Some ((p.name, own ++ key_of by p.name), line_end answers)
+    line answers =
+        defining_read p.name (own ++ key_of by p.name) (line_end answers) named.0
+        (regular_both own (key_of by p.name) plain (key_regular by p.name named.0))
+
+    by_end : (o : Option (List ℕ)) → ends_of (key_of by p.name) ≡ o → KeepsRest (p, fate_ending from by o p)
+    by_end None e = (p.text, refl, inl refl)
+    by_end (Some end) e =
+        let a = an_end_of (key_of by p.name) end e in (
+          place_line from end p.name (key_of by p.name),
+          refl,
+          inr (
+            (p.name, own ++ key_of by p.name),
+            a.0,
+            subst (λ (s : List ℕ). defining.read (place_line s end p.name (key_of by p.name)) ≡ Some ((p.name, own ++ key_of by p.name), line_end a.0)) (sym is)
+                (subst (λ (t : List ℕ). defining.read (place_line (47 ∷ own) t p.name (key_of by p.name)) ≡ Some ((p.name, own ++ key_of by p.name), line_end a.0))
+                (sym a.1) (line a.0)),
+          ),
+        )
 
 pub pooled_others_stay : PooledOthersStay
-pooled_others_stay by new text =
-    let d = document_of text in
-    let start = free_start text in
-    let own = entry_in start by new d.places in
-    let keys = keys_of start by d.places in
-    ap (λ (x : List ℕ). prolog (entries start own keys) ++ x) (fated_written (line_fates start by (line_ends own keys) d.places) d.last)
+pooled_others_stay = record {
+  bytes = λ by new text.
+      let d = document_of text in
+      let start = free_start text in
+      let entry = entry_in start by new d.places in
+      let keys = keys_of start by d.places in
+      ap (λ (x : List ℕ). prolog (entries start entry keys) ++ x) (fated_written (line_fates start by (line_ends entry keys) d.places) d.last)
+      ∙ ap (λ (x : List ℕ). prolog x ++ fated_bytes (place_fates by new text) d.last) (joined_parts (λ key. entry_part start key (entry key)) keys);
+  places = λ by new text. same_places _ (document_of text).places;
+  rests = λ by new text.
+      let ps = (document_of text).places in
+      let start = free_start text in
+      let s = slash (length text) 1 text in
+      rests_stay start s.0 by (line_ends (entry_in start by new ps) (keys_of start by ps)) s.1 s.2 (an_end (entry_in start by new ps) (keys_of start by ps)) ps
+      (places_named text);
+}
 
 pub one_pooled_by_keys : OnePooledByKeys
 one_pooled_by_keys by text a b h k =

@@ -162,7 +162,7 @@ slash_or_percent own inner e = omega (arith, heads 47 37 own inner e)
     heads a b xs ys k = cc
 
 -- so it begins with no font text
-no_font_in_line : (inner : List ℕ) → font_in (47 ∷ inner) ≡ None
+pub no_font_in_line : (inner : List ℕ) → font_in (47 ∷ inner) ≡ None
 no_font_in_line inner = by_font (font_in (47 ∷ inner)) refl
   where
     by_font : (o : Option FontText) → font_in (47 ∷ inner) ≡ o → o ≡ None

@@ -10,7 +10,7 @@ use Rattle.t1_document.specs.{Documents.{Place, Document, none_open, open_behind
 use Rattle.t1_document.proofs.{FontLemmas.{font_stands}, PlaceLemmas.{is_place}}
 
 -- a name that was read is that of a font
-spells_name : (p : Place) → spelled_name p.text ≡ Some p.name → SpellsPlace p
+pub spells_name : (p : Place) → spelled_name p.text ≡ Some p.name → SpellsPlace p
 unfolding spelled_name
 spells_name p e = by_read (read_font_widely p.text) refl e
   where

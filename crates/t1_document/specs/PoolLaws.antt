@@ -1,11 +1,12 @@
 -- What a pooled document finds, as laws, each the contract of a function in `laws`.
-use Rattle.std.specs.{Prelude.{◌≡◌, ℕ, false, List, [], ◌∷◌, ◌++◌, drop, Option, Some, None, Ok, if◌then◌else◌}, Str.{bytes_eq}}
-use Rattle.t1_grammar.specs.{Grammar.{fixed}, Places.{occurs}}
+use Rattle.std.specs.{Prelude.{◌≡◌, ◌⊎◌, ◌||◌, ℕ, Bool, true, false, List, [], ◌∷◌, ◌++◌, map, drop, codes, Option, Some, None, Ok, IsPermutation, if◌then◌else◌}, List.{AllByRecursion, concat}, Str.{bytes_eq}}
+use Rattle.t1_grammar.specs.{Grammar.{Grammar, pure, ◌>>=◌, ◌>>◌, run, fixed}, Places.{occurs}}
 use Rattle.t1_bytes.specs.Laws.{AreBytes}
 use Rattle.t1_font.specs.{FontValue.{FontValue}, ReadFont.{read_font_widely}}
-use Rattle.t1_document.specs.{declared.pooling.Key.{Key}, Documents.{Place, document_of}, Rewriting.{NewTexts, fated_bytes}, Joins.{Outcomes, AreOutcomes, new_texts}}
-use Rattle.t1_document.specs.Pooling.{free_start, key_of, keyed, Entry, entry_in, keys_of, line_ends, entries, prolog, line_fates, pooled_by}
-use Rattle.t1_document.specs.JoinLaws.{FontStaysIn}
+use Rattle.t1_text.specs.Words.{is_regular}
+use Rattle.t1_document.specs.{declared.pooling.Key.{Key}, Lines.{no_bytes}, Stretches.{Stretch, stretches}, Fonts.{FontText, font_in}, Documents.{Place, document_of}}
+use Rattle.t1_document.specs.{Rewriting.{NewTexts, Fate, fate_bytes, fated_bytes}, Joins.{Outcomes, AreOutcomes, places_of_all, new_texts}, JoinLaws.{FontStaysIn}}
+use Rattle.t1_document.specs.Pooling.{free_start, keyed, entry_in, entry_part, keys_of, line_ends, prolog, line_fates, pooled_by}
 
 -- ---- what `findfont` finds (PostScript Language Reference, third edition, 5.2)
 
@@ -25,33 +26,79 @@ own_name start key = drop 1 start ++ key
 abbrev pub KeepsOwn : List ℕ → Found → Found → Type 0
 KeepsOwn start before after = (key : List ℕ) → after (own_name start key) ≡ before (own_name start key)
 
+-- ---- what bytes define
+
+-- a line by which a name finds the font of another name, which must be found: both names
+unfoldable pub defining : Grammar (List ℕ × List ℕ)
+defining = do
+  fixed (codes "/")
+  name ← run is_regular
+  fixed (codes " /")
+  other ← run is_regular
+  fixed (codes " findfont definefont pop")
+  pure (name, other)
+
+-- such a line, and one by which the font of a name is undefined: the two names, and that one
+unfoldable pub renames : Grammar ((List ℕ × List ℕ) × List ℕ)
+renames = do
+  names ← defining
+  fixed (codes "\nsystemdict/undefinefont known{/")
+  lost ← run is_regular
+  fixed (codes " undefinefont}if\n")
+  pure (names, lost)
+
+-- a font text is run: the font that it spells is found under its name
+abbrev pub RunsFont : FontText → Found → Found → Type 0
+RunsFont f before after = (font : FontValue) × (read_font_widely f.text ≡ Ok font) × (after ≡ with_found f.name (Some font) before)
+
+-- what is found behind a line by which the first of two names finds what the second finds
+abbrev pub behind_line : List ℕ × List ℕ → Found → Found
+behind_line names before = with_found names.0 (before names.1) before
+
+-- a font text is run, or where there is none such a line; where there is neither, nothing is known
+abbrev pub RunsFront : Option FontText → Option ((List ℕ × List ℕ) × List ℕ) → Found → Found → Type 0
+RunsFront (Some f) line before after = RunsFont f before after
+RunsFront None (Some x) before after = after ≡ behind_line x.0 before
+RunsFront None None before after = Unit {0}
+
+-- the font text or the line is run that bytes begin with
+abbrev pub Runs : List ℕ → Found → Found → Type 0
+Runs bytes before after = RunsFront (font_in bytes) (defining.read bytes) before after
+
 -- ---- entries
 
--- An entry is run: the font that its text spells is found under the pool's name of its key. Under its own name anything may be found then, and under
--- other names what was.
-pub record Enters (start key : List ℕ) (e : Entry) (before after : Found) : Type 0 where
-  pub font : FontValue
-  pub spelled : read_font_widely e.text ≡ Ok font
-  pub own : after (own_name start key) ≡ Some font
-  pub others : (name : List ℕ) → bytes_eq (own_name start key) name ≡ false → bytes_eq e.name name ≡ false → after name ≡ before name
+-- behind a font text comes nothing but what takes the answer of its test
+abbrev pub takes_answer : List ℕ → Bool
+takes_answer rest = bytes_eq rest (codes "\n") || bytes_eq rest (codes "{restore}if\n")
 
--- the entry of a key is run, if there is one
-abbrev pub EntersOne : List ℕ → List ℕ → Option Entry → Found → Found → Type 0
-EntersOne start key None before after = KeepsOwn start before after
-EntersOne start key (Some e) before after = Enters start key e before after
+-- the font text of a part is run, and nothing else is; of any other part nothing is known
+abbrev pub RunsPart : Option FontText → Found → Found → Type 0
+RunsPart None before after = Unit {0}
+RunsPart (Some f) before after = takes_answer f.rest ≡ true → RunsFont f before after
 
--- the entries of keys are run, one behind the other
-abbrev pub EntersAll : List ℕ → (List ℕ → Option Entry) → List (List ℕ) → Found → Found → Type 0
-EntersAll start entry [] before after = KeepsOwn start before after
-EntersAll start entry (key ∷ keys) before after =
-    (between : Found) × EntersOne start key (entry key) before between × EntersAll start entry keys between after
+-- The two lines behind a part are run, and nothing else is: under the name whose font is undefined anything may be found then. Of any other bytes nothing
+-- is known.
+abbrev pub RunsLines : Option (((List ℕ × List ℕ) × List ℕ) × List ℕ) → Found → Found → Type 0
+RunsLines None before after = Unit {0}
+RunsLines (Some x) before after =
+    no_bytes x.1 ≡ true → (name : List ℕ) → bytes_eq x.0.1 name ≡ false → after name ≡ behind_line x.0.0 before name
+
+-- one part is run, and then what stands behind the mark that ends it; of any other stretches nothing is known
+abbrev pub RunsStretches : List ℕ → List Stretch → Found → Found → Type 0
+RunsStretches [] (s ∷ t ∷ []) before after = (between : Found) × RunsPart (font_in s.text) before between × RunsLines (renames.read t.text) between after
+RunsStretches front ss before after = Unit {0}
+
+-- the bytes of an entry are run, or there is none, and what is run leaves the pool's names
+abbrev pub EntersOne : List ℕ → List ℕ → Found → Found → Type 0
+EntersOne start [] before after = KeepsOwn start before after
+EntersOne start (b ∷ bs) before after = RunsStretches (stretches (b ∷ bs)).0 (stretches (b ∷ bs)).1 before after
+
+-- entries are run, one behind the other, and then what leaves the pool's names
+abbrev pub EntersAll : List ℕ → List (List ℕ) → Found → Found → Type 0
+EntersAll start [] before after = KeepsOwn start before after
+EntersAll start (part ∷ parts) before after = (between : Found) × EntersOne start part before between × EntersAll start parts between after
 
 -- ---- places
-
--- a font text is run, which defines the font that it spells, or a line, by which a name finds what the pool's name of its key finds
-abbrev pub Defines : List ℕ → List ℕ → Option (List ℕ) → Place → Found → Found → Type 0
-Defines start key None p before after = (font : FontValue) × (read_font_widely p.text ≡ Ok font) × (after ≡ with_found p.name (Some font) before)
-Defines start key (Some end) p before after = after ≡ with_found p.name (before (own_name start key)) before
 
 -- the name of a place finds a font in which the place's own font stays
 pub record FindsFont (p : Place) (found : Found) : Type 0 where
@@ -59,12 +106,27 @@ pub record FindsFont (p : Place) (found : Found) : Type 0 where
   pub is_found : found p.name ≡ Some font
   pub stays : FontStaysIn font p
 
--- Right behind each of these places its name finds a font in which the place's own stays, whatever was run before it that leaves the pool's names.
-abbrev pub AllFind : List ℕ → Key → NewTexts → List Place → Found → Type 0
-AllFind start by ends [] found = Unit {0}
-AllFind start by ends (p ∷ ps) found =
-    (before after : Found) → KeepsOwn start found before → Defines start (key_of by p.name) (ends (key_of by p.name)) p before after →
-    FindsFont p after × AllFind start by ends ps after
+-- Right behind the font text or the line that stands at each of these places the place's name finds a font in which the place's own stays, whatever was run
+-- before it that leaves the pool's names.
+abbrev pub AllFind : List ℕ → List (Place × Fate) → Found → Type 0
+AllFind start [] found = Unit {0}
+AllFind start (x ∷ xs) found =
+    (before after : Found) → KeepsOwn start found before → Runs (fate_bytes x.1 x.0) before after → FindsFont x.0 after × AllFind start xs after
+
+-- ---- pooled texts
+
+-- the entries of a text, each in its bytes, by key
+abbrev pub entry_parts : Key → NewTexts → List ℕ → List (List ℕ)
+entry_parts by new text =
+    map (λ key. entry_part (free_start text) key (entry_in (free_start text) by new (document_of text).places key))
+    (keys_of (free_start text) by (document_of text).places)
+
+-- the places of a text, each with what becomes of it
+abbrev pub place_fates : Key → NewTexts → List ℕ → List (Place × Fate)
+place_fates by new text =
+    line_fates (free_start text) by
+    (line_ends (entry_in (free_start text) by new (document_of text).places) (keys_of (free_start text) by (document_of text).places))
+    (document_of text).places
 
 -- ---- the laws
 
@@ -75,20 +137,25 @@ StartIsFree = (text : List ℕ) → occurs (fixed (free_start text)) text ≡ fa
 -- Where the entries of a pooled text are run and then its places, each place finds a font in which its own stays.
 abbrev pub PlacesFind : Type 0
 PlacesFind = (by : Key) (text : List ℕ) → AreBytes text → (outcomes : Outcomes) → AreOutcomes (keyed by (document_of text).places) outcomes →
-    (before after : Found) →
-    EntersAll (free_start text) (entry_in (free_start text) by (new_texts outcomes) (document_of text).places)
-    (keys_of (free_start text) by (document_of text).places) before after →
-    AllFind (free_start text) by
-    (line_ends (entry_in (free_start text) by (new_texts outcomes) (document_of text).places) (keys_of (free_start text) by (document_of text).places))
-    (document_of text).places after
+    (before after : Found) → EntersAll (free_start text) (entry_parts by (new_texts outcomes) text) before after →
+    AllFind (free_start text) (place_fates by (new_texts outcomes) text) after
 
--- The bytes of a pooled text are the entries and then, place by place, those before the place, its line or its font text, and its rest.
-abbrev pub PooledOthersStay : Type 0
-PooledOthersStay = (by : Key) (new : NewTexts) (text : List ℕ) → pooled_by by new text
-    ≡ prolog (entries (free_start text) (entry_in (free_start text) by new (document_of text).places) (keys_of (free_start text) by (document_of text).places))
-    ++ fated_bytes (line_fates (free_start text) by
-    (line_ends (entry_in (free_start text) by new (document_of text).places) (keys_of (free_start text) by (document_of text).places))
-    (document_of text).places) (document_of text).last
+-- the font text of a place, or a line and whether it leaves false on the operand stack
+abbrev pub IsTextOrLine : Place → List ℕ → Type 0
+IsTextOrLine p own =
+    (own ≡ p.text) ⊎ ((names : List ℕ × List ℕ) × (answers : Bool) × (defining.read own ≡ Some (names, if answers then codes " false" else [])))
+
+-- at a place stands its font text or a line, and then its rest
+abbrev pub KeepsRest : Place × Fate → Type 0
+KeepsRest x = (own : List ℕ) × (fate_bytes x.1 x.0 ≡ own ++ x.0.rest) × IsTextOrLine x.0 own
+
+-- The bytes of a pooled text are a first line and the entries, if there are any, and then, place by place, those before the place and what stands there,
+-- which is its font text or a line, and its rest; and the last bytes.
+pub record PooledOthersStay : Type 0 where
+  pub bytes : (by : Key) (new : NewTexts) (text : List ℕ) →
+      pooled_by by new text ≡ prolog (concat (entry_parts by new text)) ++ fated_bytes (place_fates by new text) (document_of text).last
+  pub places : (by : Key) (new : NewTexts) (text : List ℕ) → map (λ x. x.0) (place_fates by new text) ≡ (document_of text).places
+  pub rests : (by : Key) (new : NewTexts) (text : List ℕ) → AllByRecursion KeepsRest (place_fates by new text)
 
 -- the outcomes are those of the keys of a text, and the text pooled with them is this
 abbrev pub PooledByKeys : Key → List ℕ → List ℕ → Type 0
@@ -97,3 +164,8 @@ PooledByKeys by text out = (outcomes : Outcomes) × AreOutcomes (keyed by (docum
 -- a text is pooled to one text
 abbrev pub OnePooledByKeys : Type 0
 OnePooledByKeys = (by : Key) (text a b : List ℕ) → PooledByKeys by text a → PooledByKeys by text b → a ≡ b
+
+-- in another order documents get the same texts for their keys
+abbrev pub InAnyOrderByKeys : Type 0
+InAnyOrderByKeys = (by : Key) (documents others : List (List ℕ)) → AllByRecursion AreBytes documents → IsPermutation documents others → (a b : Outcomes) →
+    AreOutcomes (keyed by (places_of_all documents)) a → AreOutcomes (keyed by (places_of_all others)) b → (key : List ℕ) → new_texts a key ≡ new_texts b key

@@ -5,7 +5,7 @@ ghost use Rattle.t1_document.specs.Laws.{LevelRenews, CanonStands, OwnTextsStand
 ghost use Rattle.t1_document.specs.JoinLaws.{NewTextsDraw, NewTextsStand, OneOutcome, OnePooled, OneLevelled, PooledAgain, LevelledAgain, LevelledTogether};
 ghost use Rattle.t1_document.specs.JoinLaws.{InAnyOrder};
 ghost use Rattle.t1_document.specs.FamilyLaws.{AliasedIsRead, AliasedMarksStay, AliasedOthersStay, AliasesDraw, OneAliased, OneByFamilies, FamiliesAgain};
-ghost use Rattle.t1_document.specs.PoolLaws.{StartIsFree, PlacesFind, PooledOthersStay, OnePooledByKeys};
+ghost use Rattle.t1_document.specs.PoolLaws.{StartIsFree, PlacesFind, PooledOthersStay, OnePooledByKeys, InAnyOrderByKeys};
 
 /// The stretches of a text, joined, are the text.
 pub fn stretches_of_text()
@@ -160,14 +160,14 @@ pub fn start_is_free()
     ensures { StartIsFree }
 {}
 
-/// Where the entries of a pooled text are run, and then its places, the name of each place finds a font right behind it in which the
-/// place's own stays, whatever is run between that leaves the pool's names.
+/// Where the bytes of a pooled text's entries are run, and then those at its places, the name of each place finds a font right behind
+/// the font text or the line that stands there, in which the place's own stays, whatever is run between that leaves the pool's names.
 pub fn places_find()
     ensures { PlacesFind }
 {}
 
-/// The bytes of a pooled text are its entries and then, place by place, those before the place, its line or its font text, and its
-/// rest.
+/// The bytes of a pooled text are its entries and then, place by place, those before the place, its font text or a line, and its
+/// rest; and the last bytes.
 pub fn pooled_others_stay()
     ensures { PooledOthersStay }
 {}
@@ -175,4 +175,9 @@ pub fn pooled_others_stay()
 /// A text is pooled by keys to one text.
 pub fn one_pooled_by_keys()
     ensures { OnePooledByKeys }
+{}
+
+/// In any order documents get the same texts for their keys.
+pub fn in_any_order_by_keys()
+    ensures { InAnyOrderByKeys }
 {}
