@@ -1,6 +1,7 @@
 -- The loops that write entries and documents with lines.
 use Rattle.std.proofs.Common.{◌≡◌, ◌≤◌, ◌<◌, ◌+◌, ℕ, Bool, true, false, cond, List, [], ◌∷◌, ◌++◌, length, get_or, take, drop, map, Option, Some, None, is_some, refl, sym, ap, ◌∙◌, append_assoc, Bor}
-use Rattle.std.proofs.{Math.Bool.{or-false}, lemmas.Bool.{cond-true, cond-false}, lemmas.List.Elements.{filter-append}, lemmas.List.{append-nil, drop_more, drop_all, take_more, take_all, map-append}, lemmas.List.Folds.{list_any-append}, lemmas.Slice.Eq.{bytes_eq-Decides}}
+use Rattle.std.proofs.{Math.Bool.{or-false}, lemmas.Bool.{cond-true, cond-false}, lemmas.List.Elements.{filter-append}, lemmas.List.Folds.{list_any-append}}
+use Rattle.std.proofs.lemmas.{List.{append-nil, drop_more, drop_all, take_more, take_all, map-append}, Slice.Eq.{bytes_eq-Decides}}
 use Rattle.std.specs.{Prelude.{◌&&◌, ◌||◌, filter}, Str.{bytes_eq}}
 use Rattle.t1_document.specs.{declared.documents.Place.{Place as CodePlace}, Documents.{Place}, Rewriting.{NewTexts, Fate, fate_bytes, fated_bytes, is_seen}, Views.{place_view}}
 use Rattle.t1_document.specs.Pooling.{Entry, entry_part, end_by, end_added, line_ends, entries}
