@@ -389,22 +389,36 @@ def rows_of_rejoined():
     yield Row(["rejoin", "old", "one.cut", "absent"], 3, b"", b"failed: read\n")
 
 
+def entry(name, key, font, start=b"/pool:"):
+    """What stands before documents whose fonts of a key are this font, or the line that it has become."""
+    defined = b"%s%s /%s findfont definefont pop\nsystemdict/undefinefont known{/%s undefinefont}if\n" % (start, key, name, name)
+    return b"%!PS-Adobe-3.0\n%%BeginResource: font " + name + b"\n" + font + b"%%EndResource\n" + defined
+
+
+def lined(name, key, start=b"/pool:"):
+    """A line in place of a font, and its end."""
+    return b"/%s %s%s findfont definefont pop\n" % (name, start, key)
+
+
 def rows_of_pooled():
     """Documents that become one with each font once."""
-    given, empty = files(), b"%!PS\n%%BeginFont: Small\n%%EndFont\nshowpage\n"
-    both = document(BOTH)
+    given, name, other = files(), b"ABCDEF+Small", b"GHIJKL+Small"
+    both, line = entry(name, name, BOTH), document(lined(name, name))
     yield Row(["pool", "out", "one.ps"], 0, b"", b"", {"out": given["one.ps"]})
-    yield Row(["pool", "out", "one.ps", "one.ps"], 0, b"", b"", {"out": given["one.ps"] + empty})
-    yield Row(["pool", "out", "one.ps", "two.ps", "one.ps"], 0, b"", b"", {"out": both + empty + empty})
-    yield Row(["pool", "one.ps", "two.ps", "one.ps"], 0, b"", b"", {"one.ps": both + empty})
+    yield Row(["pool", "out", "one.ps", "one.ps"], 0, b"", b"", {"out": entry(name, name, PARTS[0]) + line + line})
+    yield Row(["pool", "out", "one.ps", "two.ps", "one.ps"], 0, b"", b"", {"out": both + line + line + line})
+    yield Row(["pool", "one.ps", "two.ps", "one.ps"], 0, b"", b"", {"one.ps": both + line + line})
     kept = given["one.ps"] + given["other.ps"]
     yield Row(["pool", "out", "one.ps", "other.ps"], 0, b"", b"kept ABCDEF+Small: shells differ in encoding\n", {"out": kept})
-    named = b"%!PS\n%%BeginFont: Small\n/GHIJKL+Small /ABCDEF+Small findfont definefont pop\n%%EndFont\nshowpage\n"
+    untagged = small_font(b"Small", [STUB] * 4 + [ACROSS, UP], {b"A": 4, b"B": 5})
+    family = entry(b"Small", b"Small", untagged) + document(lined(name, b"Small")) + document(lined(other, b"Small"))
     yield Row(["pool", "out", "one.ps", "tag.ps"], 0, b"", b"", {"out": given["one.ps"] + given["tag.ps"]})
-    yield Row(["pool", "--tags", "out", "one.ps", "tag.ps"], 0, b"", b"", {"out": both + named})
-    yield Row(["pool", "--tags", "out", "one.ps", "two.ps", "tag.ps"], 0, b"", b"", {"out": both + empty + named})
+    yield Row(["pool", "--tags", "out", "one.ps", "tag.ps"], 0, b"", b"", {"out": family})
+    later = entry(b"Small", b"Small", untagged, b"/pool::") + entry(name, name, lined(name, b"Small", b"/pool::")) + line + line
+    later += document(lined(other, b"Small", b"/pool::"))
+    yield Row(["pool", "--tags", "out", "one.ps", "two.ps", "tag.ps"], 0, b"", b"", {"out": later})
     apart = given["one.ps"] + given["tag.other.ps"]
-    yield Row(["pool", "--tags", "out", "one.ps", "tag.other.ps"], 0, b"", b"kept ABCDEF+Small: shells differ in encoding\n", {"out": apart})
+    yield Row(["pool", "--tags", "out", "one.ps", "tag.other.ps"], 0, b"", b"kept Small: shells differ in encoding\n", {"out": apart})
     yield Row(["pool", "out", "no.font", "one.ps"], 0, b"", b"", {"out": b"no font\n" + given["one.ps"]})
     yield Row(["pool", "old", "one.ps", "absent"], 3, b"", b"failed: read\n")
     yield Row(["pool", "no.folder/out", "one.ps"], 3, b"", b"failed: write\n")

@@ -286,9 +286,11 @@ class Memory(unittest.TestCase):
         self.assertEqual(self.sweep(lambda: t1subset.join(b"S 5 0B\n", b"")), b"S 5 0b\n")
 
     def test_each_call_over_documents(self) -> None:
-        bare = fonts.document(b"")
         one, two = (fonts.document(fonts.made([], glyphs)) for glyphs in (MADE, {**MADE, b"A": b"\x0e"}))
-        self.assertEqual(self.sweep(lambda: t1subset.pool([one, two])), two + bare)
+        before = b"%!PS-Adobe-3.0\n%%BeginResource: font Made\n" + fonts.made([], {**MADE, b"A": b"\x0e"}) + b"%%EndResource\n"
+        before += b"/pool:Made /Made findfont definefont pop\nsystemdict/undefinefont known{/Made undefinefont}if\n"
+        line = fonts.document(b"/Made /pool:Made findfont definefont pop\n")
+        self.assertEqual(self.sweep(lambda: t1subset.pool([one, two])), before + line + line)
         self.assertEqual(self.sweep(lambda: t1subset.level([one, two])), [two, two])
         self.assertEqual([it.glyphs for it in self.sweep(lambda: t1subset.fonts([one, two]))], [1, 2])
         self.assertEqual(self.sweep(lambda: t1subset.extract("Made", [one])), fonts.made([], MADE))

@@ -15,28 +15,34 @@ WHOLE, SOME, OTHER, BOTH = (
     document(font, b"Tiny")
     for font in (PFA, t1subset.subset(PFA, ["X"]), t1subset.subset(PFA, ["Y"]), t1subset.subset(PFA, ["Y", "X"]))
 )
-# The document without its font.
-BARE = document(b"", b"Tiny")
+# A document with a line in place of its font.
+LINED = document(b"/Tiny /pool:Tiny findfont definefont pop\n", b"Tiny")
 # Two fonts of one name that don't rejoin.
 UNLIKE = [document(made([STUB] * 4 + [subr], {b".notdef": EMPTY, b"A": calling(4)})) for subr in (ACROSS, UP)]
+
+
+def before(text: bytes) -> bytes:
+    """What stands before pooled documents whose font is that of this document."""
+    font = text[len(b"%!PS\n%%BeginFont: Tiny\n"):-len(b"%%EndFont\n")]
+    defined = b"/pool:Tiny /Tiny findfont definefont pop\nsystemdict/undefinefont known{/Tiny undefinefont}if\n"
+    return b"%!PS-Adobe-3.0\n%%BeginResource: font Tiny\n" + font + b"%%EndResource\n" + defined
 
 
 class Documents(unittest.TestCase):
     def test_pooled(self) -> None:
         self.assertEqual(t1subset.pool([SOME]), SOME)
-        self.assertEqual(t1subset.pool([SOME, OTHER, SOME]), BOTH + BARE + BARE)
-        self.assertEqual(t1subset.pool([SOME + OTHER]), BOTH + BARE)
-        self.assertEqual(t1subset.pool(it for it in (SOME, WHOLE)), WHOLE + BARE)
+        self.assertEqual(t1subset.pool([SOME, OTHER, SOME]), before(BOTH) + LINED * 3)
+        self.assertEqual(t1subset.pool([SOME + OTHER]), before(BOTH) + LINED * 2)
+        self.assertEqual(t1subset.pool(it for it in (SOME, WHOLE)), before(WHOLE) + LINED * 2)
         self.assertEqual(t1subset.pool([b"%!PS", b"showpage"]), b"%!PS\nshowpage")
         self.assertEqual(t1subset.pool([]), b"")
 
     def test_pooled_by_families(self) -> None:
         first, second = SOME.replace(b"/FontName /", b"/FontName /ABCDEF+"), OTHER.replace(b"/FontName /", b"/FontName /GHIJKL+")
-        named = document(b"/GHIJKL+Tiny /ABCDEF+Tiny findfont definefont pop\n", b"Tiny")
-        both = BOTH.replace(b"/FontName /", b"/FontName /ABCDEF+")
+        named = [document(b"/%s+Tiny /pool:Tiny findfont definefont pop\n" % tag, b"Tiny") for tag in (b"ABCDEF", b"GHIJKL")]
         self.assertEqual(t1subset.pool([first, second]), first + second)
-        self.assertEqual(t1subset.pool([first, second], tags=True), both + named)
-        self.assertEqual(t1subset.pool([SOME, OTHER], tags=True), BOTH + BARE)
+        self.assertEqual(t1subset.pool([first, second], tags=True), before(BOTH) + b"".join(named))
+        self.assertEqual(t1subset.pool([SOME, OTHER], tags=True), before(BOTH) + LINED * 2)
         self.assertEqual(t1subset.pool([], tags=True), b"")
 
     def test_levelled(self) -> None:

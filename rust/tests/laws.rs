@@ -2,7 +2,7 @@
 
 mod common;
 
-use common::{document, each_font, example, made, some_names, EMPTY, STUB};
+use common::{before_pooled, document, each_font, example, made, some_names, EMPTY, STUB};
 use std::thread;
 use t1subset::{
     check, convert, diff, extract, fonts, join, level, list, list_full, mend, mends, merge, pool, pool_tags, rejoin, show,
@@ -145,8 +145,10 @@ fn fonts_that_merge_differ_in_nothing() {
 fn fonts_of_documents_join() {
     let font = example("tiny.pfa");
     let cut = |names: &[&str]| document("Tiny", &subset(&font, names, Form::Pfa).unwrap());
-    let (one, other, both, bare) = (cut(&["X"]), cut(&["Y"]), cut(&["X", "Y"]), document("Tiny", b""));
-    assert!(pool(&[&one, &other, &one]).unwrap() == [&both[..], &bare, &bare].concat());
+    let (one, other, both) = (cut(&["X"]), cut(&["Y"]), cut(&["X", "Y"]));
+    let joined = subset(&font, &["X", "Y"], Form::Pfa).unwrap();
+    let (before, line) = (before_pooled("Tiny", &joined), document("Tiny", b"/Tiny /pool:Tiny findfont definefont pop\n"));
+    assert!(pool(&[&one, &other, &one]).unwrap() == [&before[..], &line, &line, &line].concat());
     assert!(pool(&[&one[..], b"showpage"]).unwrap() == [&one[..], b"showpage"].concat());
     assert!(level(&[&one[..], b"", &other]).unwrap() == [&both[..], b"", &both]);
     let none: [&[u8]; 0] = [];
@@ -164,10 +166,12 @@ fn fonts_of_families_join() {
         let text = String::from_utf8(subset(&font, names, Form::Pfa).unwrap()).unwrap();
         document("Tiny", text.replace("/FontName /", &format!("/FontName /{tag}")).as_bytes())
     };
-    let (one, other, both) = (cut(&["X"], "ABCDEF+"), cut(&["Y"], "GHIJKL+"), cut(&["X", "Y"], "ABCDEF+"));
-    let named = document("Tiny", b"/GHIJKL+Tiny /ABCDEF+Tiny findfont definefont pop\n");
+    let (one, other) = (cut(&["X"], "ABCDEF+"), cut(&["Y"], "GHIJKL+"));
+    let before = before_pooled("Tiny", &subset(&font, &["X", "Y"], Form::Pfa).unwrap());
+    let first = document("Tiny", b"/ABCDEF+Tiny /pool:Tiny findfont definefont pop\n");
+    let second = document("Tiny", b"/GHIJKL+Tiny /pool:Tiny findfont definefont pop\n");
     assert!(pool(&[&one, &other]).unwrap() == [&one[..], &other].concat());
-    assert!(pool_tags(&[&one, &other]).unwrap() == [&both[..], &named].concat());
+    assert!(pool_tags(&[&one, &other]).unwrap() == [&before[..], &first, &second].concat());
     let none: [&[u8]; 0] = [];
     assert_eq!(pool_tags(&none), Ok(Vec::new()));
 }

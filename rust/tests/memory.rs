@@ -2,7 +2,7 @@
 
 mod common;
 
-use common::{document, example, made, Tiny};
+use common::{before_pooled, document, example, made, Tiny};
 use std::cell::Cell;
 use std::ffi::c_void;
 use std::fmt::Debug;
@@ -117,7 +117,9 @@ fn calls_over_documents() {
     let pfa = example("tiny.pfa");
     let cut = |names: &[&str]| document("Tiny", &subset(&pfa, names, Form::Pfa).unwrap());
     let (documents, both) = ([cut(&["X"]), cut(&["Y"])], cut(&["X", "Y"]));
-    let pooled = [both.clone(), document("Tiny", b"")].concat();
+    let before = before_pooled("Tiny", &subset(&pfa, &["X", "Y"], Form::Pfa).unwrap());
+    let line = document("Tiny", b"/Tiny /pool:Tiny findfont definefont pop\n");
+    let pooled = [&before[..], &line, &line].concat();
     assert!(sweep(|| pool(&documents)).unwrap() == pooled);
     assert!(sweep(|| level(&documents)).unwrap() == [both.clone(), both.clone()]);
     assert_eq!(sweep(|| fonts(&documents)).unwrap().len(), 2);

@@ -1,8 +1,10 @@
--- Documents one behind the other, and lines of lists.
-use Rattle.std.proofs.Common.{◌≡◌, ◌≤◌, ◌<◌, ◌+◌, ℕ, Bool, true, false, cond, List, [], ◌∷◌, ◌++◌, length, get_or, drop, arith, sym, ap, ◌∙◌, append_assoc}
-use Rattle.std.proofs.lemmas.List.{length-append, drop_more, drop_all, append-nil}
-use Rattle.std.specs.List.{flat_map}
-use Rattle.t1_document.specs.Lines.{breaks, with_document, behind_documents}
+-- Documents one behind the other, lines of lists, and names as texts and with lines.
+use Rattle.std.proofs.Common.{◌≡◌, ◌≤◌, ◌<◌, ◌+◌, ℕ, Bool, true, false, cond, List, [], ◌∷◌, ◌++◌, length, get_or, take, drop, map}
+use Rattle.std.proofs.Common.{Option, Some, None, is_some, Bor, arith, refl, sym, ap, ◌∙◌, append_assoc}
+use Rattle.std.proofs.{Math.Bool.{or-false}, lemmas.List.{length-append, drop_more, drop_all, append-nil, take_more, map-append}, lemmas.List.Folds.{list_any-append}}
+use Rattle.std.specs.{Prelude.{◌||◌}, List.{flat_map}, Str.{bytes_eq}}
+use Rattle.t1_document.specs.{declared.texts.Texts.{Texts}, Lines.{breaks, with_document, behind_documents}, Rewriting.{is_seen}, Texts.{text_in, has_text}}
+use Rattle.t1_document.proofs.WriteLoop.{same_test}
 
 -- documents behind others are no shorter
 with_longer : (b : Bool) (text d : List ℕ) → length text ≤ length (cond b (text ++ d) ((text ++ 10 ∷ []) ++ d))
@@ -31,3 +33,43 @@ module _ {X : Type 0} (line : X → List ℕ) where
   pub lines_all : (xs : List X) (i : ℕ) (text : List ℕ) → length xs ≤ i → text ++ flat_map line (drop i xs) ≡ flat_map line xs → text ≡ flat_map line xs
   lines_all xs i text all so_far =
       sym (append-nil text) ∙ (ap (λ (l : List X). text ++ flat_map line l) (sym (drop_all i xs all)) ∙ so_far)
+
+-- ---- names as texts
+
+-- there is a text here, or there was one
+some_or : (b : Bool) (text : List ℕ) (o : Option (List ℕ)) → is_some (cond b (Some text) o) ≡ is_some o || b
+some_or true text None = refl
+some_or false text None = refl
+some_or true text (Some x) = refl
+some_or false text (Some x) = refl
+
+module _ (names : List (Bor (List ℕ))) where
+  -- so many of the names
+  abbrev first_of : ℕ → List (List ℕ)
+  first_of i = map (λ n. n.now) (take i names)
+
+  -- one name more
+  pub text_more : (i : ℕ) (d : Bor (List ℕ)) → i < length names → (t u : Texts) →
+      ((other : List ℕ) → has_text t other ≡ is_seen (first_of i) other) →
+      ((other : List ℕ) → text_in u other ≡ cond (bytes_eq (get_or names i d).now other) (Some (get_or names i d).now) (text_in t other)) →
+      (other : List ℕ) → has_text u other ≡ is_seen (first_of (i + 1)) other
+  text_more i d lt t u was put other =
+      let name = (get_or names i d).now in
+      ap (λ (o : Option (List ℕ)). is_some o) (put other)
+      ∙ (some_or (bytes_eq name other) name (text_in t other)
+      ∙ (ap (λ (b : Bool). b || bytes_eq name other) (was other)
+      ∙ (ap (λ (b : Bool). is_seen (first_of i) other || b) (sym (or-false (bytes_eq other name) ∙ same_test other name))
+      ∙ (sym (list_any-append (bytes_eq other) (first_of i) (name ∷ []))
+      ∙ ap (λ (ns : List (List ℕ)). is_seen ns other) (sym (ap (map (λ (n : Bor (List ℕ)). n.now)) (take_more names i d lt)
+      ∙ map-append (λ n. n.now) (take i names) (get_or names i d ∷ [])))))))
+
+  -- and its line
+  pub lines_more : (line : List ℕ → List ℕ) (i : ℕ) (d : Bor (List ℕ)) → i < length names → (old : List (List ℕ)) (own : List ℕ) (new : List (List ℕ)) →
+      old ≡ map line (first_of i) → own ≡ line (get_or names i d).now → new ≡ old ++ own ∷ [] → new ≡ map line (first_of (i + 1))
+  lines_more line i d lt old own new was is put =
+      put
+      ∙ (ap (λ (ls : List (List ℕ)). ls ++ own ∷ []) was
+      ∙ (ap (λ (l : List ℕ). map line (first_of i) ++ l ∷ []) is
+      ∙ (sym (map-append line (first_of i) ((get_or names i d).now ∷ []))
+      ∙ ap (map line) (sym (ap (map (λ (n : Bor (List ℕ)). n.now)) (take_more names i d lt)
+      ∙ map-append (λ n. n.now) (take i names) (get_or names i d ∷ []))))))

@@ -1,12 +1,14 @@
 //! The engines over documents: each font once, or one font at each place of a name.
-ghost use Rattle.std.specs.{Prelude.{Bool, ◌≡◌, ◌+◌, ◌≤◌, ◌++◌, map, length, Ok, OnOk, IfOk, IfErr, IfSome}, Option.{option_copied}};
+ghost use Rattle.std.specs.Prelude.{Bool, ℕ, List, Some, ◌≡◌, ◌+◌, ◌≤◌, ◌++◌, [], map, length, Ok, OnOk, IfOk, IfErr, IfSome, if◌then◌else◌};
+ghost use Rattle.std.specs.{Option.{option_copied}, List.{flat_map}};
 ghost use Rattle.t1_bytes.specs.Limits.{file_limit};
 ghost use Rattle.t1_subset.specs.NameSets.{lent};
-ghost use Rattle.t1_document.specs.{Lines.{one_text}, Documents.{document_of}, Groups.{outcome_in}, Joins.{kept_text, PooledBy}, Views.{place_view}};
-ghost use Rattle.t1_document.specs.{Families.{family_members}, FamilyLaws.{AliasedBy}};
+ghost use Rattle.t1_document.specs.{Lines.{one_text}, Documents.{document_of}, Groups.{outcome_in}, Joins.{kept_text, names_from}, Rewriting.{is_seen}};
+ghost use Rattle.t1_document.specs.{Texts.{has_text}, Views.{place_view}, PoolLaws.{PooledByKeys}};
+ghost use Rattle.t1_document.specs.{declared.joins.Outcome.TheVariants.{Stays}, declared.joins.Kept.TheVariants.{Barred}};
 ghost use Rattle.t1_cmd.specs.{Count.{calls_counted}, Inputs.{Say, input_of, values_of}, Files.{values_from, IsUnread, OfFiles, RefusesFiles}};
 ghost use Rattle.t1_cmd.specs.{Runs.{ended, InputEnds, RunEnds, Succeeds}, Answers.{MayRefuse}, Mergers.{inputs_of, InTurns, InputsStop}};
-ghost use Rattle.t1_cmd.specs.Documents.{text_input, PooledAs, PoolsTo, kept_line, kept_lines, TellsKept, TellsPooled};
+ghost use Rattle.t1_cmd.specs.Documents.{text_input, PooledAs, PoolsTo, kept_line, kept_lines, told_of, told_lines, new_lines, TellsKeys, TellsPooled};
 
 use crate::counting::Counted;
 use crate::faults::{FilesRefusal, Reason, RunFault};
@@ -17,7 +19,7 @@ use std::alloc::{AllocError, Global};
 use std::io::{Read, Write};
 use t1_bytes::FILE_LIMIT;
 use t1_document::{
-    Joins, Kept, Outcome, Place, join_fonts, members_of, names_of, push_document, read_document,
+    Joins, Kept, Key, Outcome, Place, PooledText, Texts, names_of, pool_document, push_document,
 };
 use t1_join::push_item;
 
@@ -127,6 +129,100 @@ pub(crate) fn kept_lines(
     Ok(lines)
 }
 
+// Names or lines, to be found again.
+fn texts_of<'a>(alloc: Global, names: &[&'a [u8]]) -> Result<Texts<'a>, AllocError>
+    ensures { IfOk result (λ t. (name : List ℕ) → has_text t name ≡ is_seen (map (λ k. k.now) names.now) name) }
+{
+    let mut texts = Texts::new(alloc);
+    'names: for name in names {
+        texts.put(*name, *name)?;
+    }
+    Ok(texts)
+}
+
+// The line of a name that keeps its fonts, or is left.
+fn told_line(
+    alloc: Global,
+    name: &[u8],
+    left: &Texts<'_>,
+    joins: &Joins<'_>,
+) -> Result<Vec<u8>, AllocError>
+    ensures { IfOk result (λ v. v.items
+        ≡ kept_line name.now (if has_text left.now name.now then Some (Stays Barred) else outcome_in joins.now name.now)) }
+{
+    let mut line = Vec::new(alloc);
+    match left.get(name) {
+        Some(_) => push_kept(alloc, &mut line, name, Some(&Outcome::Stays(Kept::Barred)))?,
+        None => push_kept(alloc, &mut line, name, joins.get(name))?,
+    }
+    Ok(line)
+}
+
+// The lines of the names that keep their fonts, or are left, and an empty one for each other name.
+fn lines_with(
+    alloc: Global,
+    places: &[Place<'_>],
+    left: &Texts<'_>,
+    joins: &Joins<'_>,
+) -> Result<Vec<Vec<u8>>, AllocError>
+    ensures { IfOk result (λ v. map (λ l. l.items) v.items ≡ map (λ name. kept_line name (if has_text left.now name
+        then Some (Stays Barred) else outcome_in joins.now name)) (names_from [] (map place_view places.now))) }
+{
+    let mut lines = Vec::new(alloc);
+    let names = names_of(alloc, places)?;
+    'names: for name in names.as_slice() {
+        let line = told_line(alloc, *name, left, joins)?;
+        push_item(&mut lines, line)?;
+    }
+    Ok(lines)
+}
+
+// The lines of the keys of a pooled text.
+fn told_lines(alloc: Global, pooled: &PooledText<'_>) -> Result<Vec<Vec<u8>>, AllocError>
+    ensures { IfOk result (λ v. map (λ l. l.items) v.items ≡ told_lines
+        (told_of (map (λ k. k.now) pooled.now.left.items) (outcome_in pooled.now.joins)) (map place_view pooled.now.places.items)) }
+{
+    let left = texts_of(alloc, pooled.left.as_slice())?;
+    let lines = lines_with(alloc, pooled.places.as_slice(), &left, &pooled.joins)?;
+    Ok(lines)
+}
+
+// Adds a line, unless it is told already.
+fn push_new(out: &mut Vec<u8>, told: &Texts<'_>, line: &[u8]) -> Result<(), AllocError>
+    ensures { OnOk result (out.new.items ≡ out.old.items ++ (if has_text told.now line.now then [] else line.now)) }
+{
+    match told.get(line) {
+        Some(_) => Ok(()),
+        None => out.extend_from_slice(line),
+    }
+}
+
+// Adds lines, without those that are told already.
+fn push_others(out: &mut Vec<u8>, told: &Texts<'_>, lines: &[Vec<u8>]) -> Result<(), AllocError>
+    ensures { OnOk result (out.new.items ≡ out.old.items
+        ++ flat_map (λ line. if has_text told.now line then [] else line) (map (λ l. l.items) lines.now)) }
+{
+    'lines: for line in lines {
+        push_new(out, told, line.as_slice())?;
+    }
+    Ok(())
+}
+
+// Adds lines, without those that are among others.
+fn push_lines(
+    alloc: Global,
+    out: &mut Vec<u8>,
+    told: &[Vec<u8>],
+    lines: &[Vec<u8>],
+) -> Result<(), AllocError>
+    ensures { OnOk result (out.new.items
+        ≡ out.old.items ++ new_lines (map (λ l. l.items) told.now) (map (λ l. l.items) lines.now)) }
+{
+    let told = lent(alloc, told)?;
+    let told = texts_of(alloc, told.as_slice())?;
+    push_others(out, &told, lines)
+}
+
 // ---- pooled
 
 /// Documents as one text, with each font once.
@@ -134,7 +230,7 @@ pub(crate) fn kept_lines(
 pub struct Pooled {
     /// The documents, one behind the other.
     pub text: Vec<u8>,
-    /// Lines of the names that keep their fonts.
+    /// Lines of the names, and of the families, that keep their fonts.
     pub kept: Vec<u8>,
 }
 
@@ -154,44 +250,48 @@ fn one_text(alloc: Global, documents: &[&[u8]]) -> Result<Vec<u8>, Reason>
     Ok(text)
 }
 
-// A text with one font for each name.
-fn pool_names(alloc: Global, text: &[u8]) -> Result<Pooled, AllocError>
-    ensures text { IfOk result (λ p. PooledBy text.now p.text.items) }
-    ensures kept { IfOk result (λ p. TellsKept (document_of text.now).places p.kept.items) }
-{
-    let document = read_document(alloc, text)?;
-    let joins = join_fonts(alloc, document.places.as_slice())?;
-    let kept = kept_lines(alloc, document.places.as_slice(), &joins)?;
-    let texts = document.new_texts(alloc, &joins)?;
-    let text = document.pool(alloc, &texts)?;
-    Ok(Pooled { text, kept })
+// A text with the fonts of each key once, and the lines of those that keep theirs.
+#[derive(Drop)]
+struct Told {
+    text: Vec<u8>,
+    lines: Vec<Vec<u8>>,
 }
 
-// A text with one font for each family, and the lines of those that keep their fonts.
-fn pool_families(alloc: Global, text: &[u8]) -> Result<Pooled, AllocError>
-    ensures text { IfOk result (λ p. AliasedBy text.now p.text.items) }
-    ensures kept { IfOk result (λ p. TellsKept (family_members (document_of text.now).places) p.kept.items) }
+// A text with the fonts of each key once.
+fn pool_keys(alloc: Global, by: Key, text: &[u8]) -> Result<Told, AllocError>
+    ensures text { IfOk result (λ t. PooledByKeys by text.now t.text.items) }
+    ensures lines { IfOk result (λ t. TellsKeys by text.now (map (λ l. l.items) t.lines.items)) }
 {
-    let document = read_document(alloc, text)?;
-    let members = members_of(alloc, document.places.as_slice())?;
-    let joins = join_fonts(alloc, members.as_slice())?;
-    let kept = kept_lines(alloc, members.as_slice(), &joins)?;
-    let text = document.alias(alloc, &joins)?;
-    Ok(Pooled { text, kept })
+    let pooled = pool_document(alloc, by, text)?;
+    let lines = told_lines(alloc, &pooled)?;
+    Ok(Told {
+        text: pooled.text,
+        lines,
+    })
 }
 
-// A text with each font once: one for each name, or also one for names that are equal without their tags.
-fn pool_text(alloc: Global, tags: bool, text: &[u8]) -> Result<Pooled, AllocError>
-    ensures text { IfOk result (λ p. PooledAs tags text.now p.text.items) }
-    ensures kept { IfOk result (λ p. TellsPooled tags text.now p.kept.items) }
+// A text with each font once: one for each name, and then also one for names that are equal without their tags.
+fn pool_text(alloc: Global, tags: bool, text: Vec<u8>) -> Result<Pooled, AllocError>
+    ensures text { IfOk result (λ p. PooledAs tags text.items p.text.items) }
+    ensures kept { IfOk result (λ p. TellsPooled tags text.items p.kept.items) }
 {
-    let pooled = pool_names(alloc, text)?;
+    let names = pool_keys(alloc, Key::Name, text.as_slice())?;
+    drop(text);
+    let mut kept = Vec::new(alloc);
+    push_lines(alloc, &mut kept, &[], names.lines.as_slice())?;
     if !tags {
-        return Ok(pooled);
+        return Ok(Pooled {
+            text: names.text,
+            kept,
+        });
     }
-    let families = pool_families(alloc, pooled.text.as_slice())?;
-    let mut kept = pooled.kept;
-    kept.extend_from_slice(families.kept.as_slice())?;
+    let families = pool_keys(alloc, Key::Family, names.text.as_slice())?;
+    push_lines(
+        alloc,
+        &mut kept,
+        names.lines.as_slice(),
+        families.lines.as_slice(),
+    )?;
     Ok(Pooled {
         text: families.text,
         kept,
@@ -208,7 +308,7 @@ fn pool(alloc: Global, tags: bool, documents: &[&[u8]]) -> Result<Pooled, Reason
         Ok(text) => text,
         Err(reason) => return Err(reason),
     };
-    Ok(pool_text(alloc, tags, text.as_slice())?)
+    Ok(pool_text(alloc, tags, text)?)
 }
 
 /// Documents in memory, one behind the other, with each font once, and a line for each name that keeps its fonts, as [`run_pool`]
@@ -266,11 +366,13 @@ fn write_pooled<R: Read, W: Write>(
 
 /// Writes documents one behind the other, with each font once, and answers a line for each name that keeps its fonts.
 ///
-/// An LF stands between two documents where no line ends there. With `tags` names that are equal without their tags, which are one
-/// family, also have one font ([`members_of`](t1_document::members_of), [`Document::alias`](t1_document::Document::alias)), and a
-/// line is answered for the leader of each family that keeps its fonts. The places of fonts are those of
-/// [`read_document`](t1_document::read_document), and what becomes of them is told by [`join_fonts`](t1_document::join_fonts) and
-/// [`Document::pool`](t1_document::Document::pool).
+/// An LF stands between two documents where no line ends there. The fonts of a name stand once, before the first document, and each
+/// place of the name has a line by which it finds them ([`pool_document`](t1_document::pool_document) by
+/// [`Key::Name`](t1_document::Key::Name)). With `tags` what comes out is pooled once more, by families
+/// ([`Key::Family`](t1_document::Key::Family)): names that are equal without their tags have one font.
+///
+/// A name keeps its fonts if they don't rejoin, or if they do and can't stand before the documents, or a line can't stand at a place.
+/// With `tags` the lines of the families that keep theirs stand behind those of the names, but no line stands twice.
 ///
 /// The inputs are read one after the other. [`Reason::TooLong`] is answered if one of them, or all together, are over the file
 /// limit. Nothing else is refused but for want of memory.

@@ -1,7 +1,8 @@
 -- The loops that write entries and documents with lines.
 use Rattle.std.proofs.Common.{◌≡◌, ◌≤◌, ◌<◌, ◌+◌, ℕ, Bool, true, false, cond, List, [], ◌∷◌, ◌++◌, length, get_or, take, drop, map, Option, Some, None, is_some, refl, sym, ap, ◌∙◌, append_assoc, Bor}
-use Rattle.std.proofs.{Math.Bool.{or-false}, lemmas.List.{append-nil, drop_more, drop_all, take_more, take_all, map-append}, lemmas.List.Folds.{list_any-append}, lemmas.Slice.Eq.{bytes_eq-Decides}}
-use Rattle.std.specs.{Prelude.{◌&&◌, ◌||◌}, Str.{bytes_eq}}
+use Rattle.std.proofs.{Math.Bool.{or-false}, lemmas.Bool.{cond-true, cond-false}, lemmas.List.Elements.{filter-append}, lemmas.List.Folds.{list_any-append}}
+use Rattle.std.proofs.lemmas.{List.{append-nil, drop_more, drop_all, take_more, take_all, map-append}, Slice.Eq.{bytes_eq-Decides}}
+use Rattle.std.specs.{Prelude.{◌&&◌, ◌||◌, filter}, Str.{bytes_eq}}
 use Rattle.t1_document.specs.{declared.documents.Place.{Place as CodePlace}, Documents.{Place}, Rewriting.{NewTexts, Fate, fate_bytes, fated_bytes, is_seen}, Views.{place_view}}
 use Rattle.t1_document.specs.Pooling.{Entry, entry_part, end_by, end_added, line_ends, entries}
 use Rattle.t1_document.proofs.WriteLoop.{same_test}
@@ -115,3 +116,29 @@ module _ (start : List ℕ) (entry : List ℕ → Option Entry) (keys : List (Bo
     sym (append-nil out) ∙ (ap (λ (ks : List (Bor (List ℕ))). out ++ entries start entry (values ks)) (sym (drop_all i keys le)) ∙ was.bytes),
     λ name. was.each name ∙ ap (λ (ks : List (Bor (List ℕ))). line_ends entry (values ks) name) (take_all i keys le),
   )
+
+-- ---- keys of some kind
+
+module _ (f : List ℕ → Bool) (keys : List (Bor (List ℕ))) where
+  -- those of one key more
+  sorted_more : (i : ℕ) (d : Bor (List ℕ)) → i < length keys → filter f (values (take (i + 1) keys))
+      ≡ filter f (values (take i keys)) ++ filter f ((get_or keys i d).now ∷ [])
+  sorted_more i d h =
+      ap (filter f) (ap values (take_more keys i d h) ∙ map-append (λ k. k.now) (take i keys) (get_or keys i d ∷ []))
+      ∙ filter-append f (values (take i keys)) ((get_or keys i d).now ∷ [])
+
+  -- a key of this kind
+  pub key_kept : (i : ℕ) (d : Bor (List ℕ)) → i < length keys → (out more : List (List ℕ)) → f (get_or keys i d).now ≡ true →
+      out ≡ filter f (values (take i keys)) → more ≡ out ++ (get_or keys i d).now ∷ [] → more ≡ filter f (values (take (i + 1) keys))
+  key_kept i d h out more t was put =
+      put
+      ∙ (ap (λ (ks : List (List ℕ)). ks ++ (get_or keys i d).now ∷ []) was
+      ∙ (ap (λ (ks : List (List ℕ)). filter f (values (take i keys)) ++ ks) (sym (cond-true _ ((get_or keys i d).now ∷ []) [] t)) ∙ sym (sorted_more i d h)))
+
+  -- another
+  pub key_passed : (i : ℕ) (d : Bor (List ℕ)) → i < length keys → (out : List (List ℕ)) → f (get_or keys i d).now ≡ false →
+      out ≡ filter f (values (take i keys)) → out ≡ filter f (values (take (i + 1) keys))
+  key_passed i d h out t was =
+      was
+      ∙ (sym (append-nil (filter f (values (take i keys))))
+      ∙ (ap (λ (ks : List (List ℕ)). filter f (values (take i keys)) ++ ks) (sym (cond-false _ ((get_or keys i d).now ∷ []) [] t)) ∙ sym (sorted_more i d h)))

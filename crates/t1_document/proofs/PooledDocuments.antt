@@ -1,7 +1,7 @@
 -- Documents with entries before them and lines at their places: what the code writes is what was to be written.
-use Rattle.std.proofs.Common.{◌≡◌, ℕ, List, ◌++◌, Option, sym, ap, ◌∙◌}
-use Rattle.t1_document.specs.{declared.pooling.Key.{Key}, Documents.{Document}, Rewriting.{NewTexts, fated_bytes}}
-use Rattle.t1_document.specs.Pooling.{Entry, entry_in, keys_of, entries, line_ends, prolog, line_fates, document_pooled}
+use Rattle.std.{proofs.Common.{◌≡◌, ℕ, List, [], ◌++◌, Option, sym, ap, ◌∙◌}, specs.Prelude.{filter}}
+use Rattle.t1_document.specs.{declared.pooling.Key.{Key}, Documents.{Place, Document}, Rewriting.{NewTexts, fated_bytes}, Joins.{names_from}}
+use Rattle.t1_document.specs.Pooling.{Entry, entry_in, keyed, keys_of, places_by, entries, line_ends, prolog, line_fates, document_pooled, is_left, left_keys}
 use Rattle.t1_document.proofs.Rewritten.{fated_written}
 
 module _ (start : List ℕ) (by : Key) (new : NewTexts) (d : Document) where
@@ -27,3 +27,19 @@ module _ (start : List ℕ) (by : Key) (new : NewTexts) (d : Document) where
       ∙ (ap (λ (x : List ℕ). x ++ fated_bytes (line_fates start by ends d.places) d.last) (o ∙ ap prolog parts)
       ∙ (ap (λ (f : NewTexts). prolog (entries start own (keys_of start by d.places)) ++ fated_bytes (line_fates start by f d.places) d.last) each
       ∙ ap (λ (x : List ℕ). prolog (entries start own (keys_of start by d.places)) ++ x) (sym (fated_written (line_fates start by own_ends d.places) d.last))))
+
+  -- the keys that are left, of those that have no lines
+  pub left_so : (entry : List ℕ → Option Entry) (keys all left : List (List ℕ)) (groups : List ℕ → List Place) (ends : NewTexts) →
+      ((key : List ℕ) → entry key ≡ own key) → keys ≡ keys_of start by d.places → ((key : List ℕ) → groups key ≡ places_by by key d.places) →
+      ((name : List ℕ) → ends name ≡ line_ends entry keys name) → all ≡ names_from [] (keyed by d.places) →
+      left ≡ filter (λ key. is_left (new key) (groups key) (ends key)) all → left ≡ left_keys start by new d.places
+  left_so entry keys all left groups ends e k g n a l =
+      let same : entry ≡ own = λ i key. e key i in
+      let each : ends ≡ own_ends =
+      λ i name. (n name
+      ∙ (ap (λ (f : List ℕ → Option Entry). line_ends f keys name) same ∙ ap (λ (ks : List (List ℕ)). line_ends own ks name) k)) i in
+      let there : groups ≡ (λ key. places_by by key d.places) = λ i key. g key i in
+      l
+      ∙ (ap (λ (f : List ℕ → List Place). filter (λ key. is_left (new key) (f key) (ends key)) all) there
+      ∙ (ap (λ (f : NewTexts). filter (λ key. is_left (new key) (places_by by key d.places) (f key)) all) each
+      ∙ ap (λ (ks : List (List ℕ)). filter (λ key. is_left (new key) (places_by by key d.places) (own_ends key)) ks) a))

@@ -209,6 +209,27 @@ line_fate start by ends p = fate_ending start by (ends (key_of by p.name)) p
 abbrev pub line_fates : List ℕ → Key → NewTexts → List Place → List (Place × Fate)
 line_fates start by ends ps = map (λ p. (p, line_fate start by ends p)) ps
 
+-- there is more than one place
+abbrev pub is_several : List Place → Bool
+is_several [] = false
+is_several (p ∷ []) = false
+is_several (p ∷ q ∷ ps) = true
+
+-- a text, and no end of lines
+abbrev pub has_no_lines : Option (List ℕ) → Option (List ℕ) → Bool
+has_no_lines None end = false
+has_no_lines (Some text) None = true
+has_no_lines (Some text) (Some end) = false
+
+-- a key with this text and these places keeps its font texts all the same, as it has no lines
+abbrev pub is_left : Option (List ℕ) → List Place → Option (List ℕ) → Bool
+is_left text ps end = is_several ps && has_no_lines text end
+
+-- the keys among places that have a new text and several places, and no lines, in the order of their first places
+abbrev pub left_keys : List ℕ → Key → NewTexts → List Place → List (List ℕ)
+left_keys start by new ps =
+    filter (λ key. is_left (new key) (places_by by key ps) (line_ends (entry_in start by new ps) (keys_of start by ps) key)) (names_from [] (keyed by ps))
+
 -- a document in which places of keys that have entries have lines
 abbrev pub lined : List ℕ → Key → NewTexts → Document → Document
 lined start by new d = fated (line_fates start by (line_ends (entry_in start by new d.places) (keys_of start by d.places)) d.places) d.last

@@ -1,14 +1,15 @@
 //! Documents in which each font stands once, before the first of them, and is found under a name of the pool's own.
 
-ghost use Rattle.std.specs.{Prelude.{◌≡◌, ◌++◌, [], map, IfOk, OnOk, if◌then◌else◌}, List.{list_any}};
+ghost use Rattle.std.specs.{Prelude.{◌≡◌, ◌++◌, ◌∷◌, [], map, filter, IfOk, OnOk, if◌then◌else◌}, List.{list_any}, Option.{option_map}};
 ghost use Rattle.t1_document.specs.{Documents.{document_of}, Rewriting.{fate_bytes, fated_bytes}, Joins.{new_texts, names_from, AreOutcomes}};
-ghost use Rattle.t1_document.specs.{Groups.{outcome_in}, Texts.{text_in}, Views.{place_view, document_view}};
-ghost use Rattle.t1_document.specs.Pooling.{key_of, keyed, clashes, prolog, line_fate, line_fates, document_pooled, pooled_by};
+ghost use Rattle.t1_document.specs.{Groups.{outcome_in, places_in}, Texts.{text_in}, Views.{place_view, document_view}};
+ghost use Rattle.t1_document.specs.Pooling.{free_start, key_of, keyed, clashes, prolog, line_fate, line_fates, document_pooled, pooled_by};
+ghost use Rattle.t1_document.specs.Pooling.{is_several, has_no_lines, is_left, left_keys};
 
 use crate::documents::{Document, Place, read_document};
 use crate::entries::parts_of;
 use crate::families::family;
-use crate::groups::groups_by;
+use crate::groups::{Groups, groups_by};
 use crate::joins::{Joins, join_fonts};
 use crate::names::names_of;
 use crate::own_names::{clashes, free_start, push_line};
@@ -62,20 +63,12 @@ fn any_clashes(start: &[u8], places: &[Place<'_>]) -> bool
     false
 }
 
-/// The keys of places, which stand under their keys, too.
-fn keys_of<'a>(
-    alloc: Global,
-    start: &[u8],
-    places: &[Place<'a>],
-    keyed: &[Place<'a>],
-) -> Result<Vec<&'a [u8]>, AllocError>
-    ensures { IfOk result (λ v. map (λ k. k.now) v.items ≡ (if list_any (λ p. clashes start.now p.name) (map place_view places.now)
-        then [] else names_from [] (map place_view keyed.now))) }
+/// Those of all keys that may have entries: none where the name of a place clashes.
+fn keys_of<'k, 'a>(start: &[u8], places: &[Place<'_>], all: &'k [&'a [u8]]) -> &'k [&'a [u8]]
+    ensures { map (λ k. k.now) result.now ≡ (if list_any (λ p. clashes start.now p.name) (map place_view places.now)
+        then [] else map (λ k. k.now) all.now) }
 {
-    if any_clashes(start, places) {
-        return Ok(Vec::new(alloc));
-    }
-    names_of(alloc, keyed)
+    if any_clashes(start, places) { &[] } else { all }
 }
 
 /// What stands before the documents.
@@ -129,6 +122,57 @@ fn push_lined(
     Ok(())
 }
 
+/// Whether there is more than one place.
+fn is_several(places: &[Place<'_>]) -> bool
+    ensures { result ≡ is_several (map place_view places.now) }
+{
+    matches!(places, [_, _, ..])
+}
+
+/// Whether there is a text, and no end of lines.
+fn has_no_lines(text: Option<&[u8]>, end: Option<&[u8]>) -> bool
+    ensures { result ≡ has_no_lines (option_map (λ t. t.now) text.entry) (option_map (λ t. t.now) end.entry) }
+{
+    matches!((text, end), (Some(_), None))
+}
+
+/// Whether a key that has a text keeps its font texts at several places.
+fn is_left(key: &[u8], ends: &Texts<'_>, joins: &Joins<'_>, groups: &Groups<'_>) -> bool
+    ensures { result ≡ is_left (new_texts (outcome_in joins.now) key.now) (places_in groups.now key.now) (text_in ends.now key.now) }
+{
+    match groups.get(key) {
+        Some(places) => is_several(places) && has_no_lines(joins.text(key), ends.get(key)),
+        None => false,
+    }
+}
+
+/// Those of keys that do.
+fn left_keys<'a>(
+    alloc: Global,
+    keys: &[&'a [u8]],
+    ends: &Texts<'_>,
+    joins: &Joins<'_>,
+    groups: &Groups<'_>,
+) -> Result<Vec<&'a [u8]>, AllocError>
+    ensures { IfOk result (λ v. map (λ k. k.now) v.items ≡ filter (λ key.
+        is_left (new_texts (outcome_in joins.now) key) (places_in groups.now key) (text_in ends.now key)) (map (λ k. k.now) keys.now)) }
+{
+    let mut left = Vec::new(alloc);
+    'keys: for key in keys {
+        if is_left(*key, ends, joins, groups) {
+            left.push(*key)?;
+        }
+    }
+    Ok(left)
+}
+
+/// What a document becomes, and the keys that are left as they are.
+#[derive(Drop)]
+struct Lined<'a> {
+    text: Vec<u8>,
+    left: Vec<&'a [u8]>,
+}
+
 impl<'a> Document<'a> {
     /// The document with entries before it, where the pool's names have this start and fonts come to this.
     fn pooled(
@@ -138,18 +182,22 @@ impl<'a> Document<'a> {
         by: Key,
         places: &[Place<'a>],
         joins: &Joins<'_>,
-    ) -> Result<Vec<u8>, AllocError>
+    ) -> Result<Lined<'a>, AllocError>
         requires { map place_view places.now ≡ keyed by (document_view self.now).places }
-        ensures { IfOk result (λ v. v.items
+        ensures text { IfOk result (λ l. l.text.items
             ≡ document_pooled start.now by (new_texts (outcome_in joins.now)) (document_view self.now)) }
+        ensures left { IfOk result (λ l. map (λ k. k.now) l.left.items
+            ≡ left_keys start.now by (new_texts (outcome_in joins.now)) (document_view self.now).places) }
     {
         let own = self.places.as_slice();
         let groups = groups_by(alloc, by, own)?;
-        let keys = keys_of(alloc, start, own, places)?;
-        let parts = parts_of(alloc, start, keys.as_slice(), joins, &groups)?;
-        let mut out = prolog(alloc, parts.bytes.as_slice())?;
-        push_lined(&mut out, start, by, &parts.ends, own, self.last)?;
-        Ok(out)
+        let all = names_of(alloc, places)?;
+        let keys = keys_of(start, own, all.as_slice());
+        let parts = parts_of(alloc, start, keys, joins, &groups)?;
+        let left = left_keys(alloc, all.as_slice(), &parts.ends, joins, &groups)?;
+        let mut text = prolog(alloc, parts.bytes.as_slice())?;
+        push_lined(&mut text, start, by, &parts.ends, own, self.last)?;
+        Ok(Lined { text, left })
     }
 }
 
@@ -162,6 +210,8 @@ pub struct PooledText<'a> {
     pub places: Vec<Place<'a>>,
     /// What the fonts of each key come to.
     pub joins: Joins<'a>,
+    /// The keys that have a new text and several places and keep their font texts all the same, in the order of their first places.
+    pub left: Vec<&'a [u8]>,
 }
 
 /// A text with the fonts of each key once.
@@ -184,15 +234,18 @@ pub fn pool_document(alloc: Global, by: Key, text: &[u8]) -> Result<PooledText<'
     ensures joins { IfOk result (λ p. AreOutcomes (keyed by (document_of text.now).places) (outcome_in p.joins)) }
     ensures places { IfOk result (λ p. map place_view p.places.items ≡ keyed by (document_of text.now).places) }
     ensures text { IfOk result (λ p. p.text.items ≡ pooled_by by (new_texts (outcome_in p.joins)) text.now) }
+    ensures left { IfOk result (λ p. map (λ k. k.now) p.left.items
+        ≡ left_keys (free_start text.now) by (new_texts (outcome_in p.joins)) (document_of text.now).places) }
 {
     let document = read_document(alloc, text)?;
     let places = keyed(alloc, by, document.places.as_slice())?;
     let joins = join_fonts(alloc, places.as_slice())?;
     let start = free_start(alloc, text)?;
-    let text = document.pooled(alloc, &start, by, places.as_slice(), &joins)?;
+    let lined = document.pooled(alloc, &start, by, places.as_slice(), &joins)?;
     Ok(PooledText {
-        text,
+        text: lined.text,
         places,
         joins,
+        left: lined.left,
     })
 }

@@ -167,6 +167,14 @@ pub fn document(name: &str, font: &[u8]) -> Vec<u8> {
     [b"%!PS\n%%BeginFont: ", name.as_bytes(), b"\n", font, b"%%EndFont\n"].concat()
 }
 
+/// What stands before pooled documents whose fonts of a name are this font.
+pub fn before_pooled(name: &str, font: &[u8]) -> Vec<u8> {
+    let defined = format!("/pool:{name} /{name} findfont definefont pop\n");
+    let loses = format!("systemdict/undefinefont known{{/{name} undefinefont}}if\n");
+    let begin = format!("%!PS-Adobe-3.0\n%%BeginResource: font {name}\n");
+    [begin.as_bytes(), font, b"%%EndResource\n", defined.as_bytes(), loses.as_bytes()].concat()
+}
+
 /// Tiny in both forms, and those of some installed fonts that the library reads.
 pub fn each_font() -> Vec<(String, Vec<u8>)> {
     let mut fonts = every_font();

@@ -34,6 +34,20 @@ fn painted(alloc: Global) -> Result<Vec<u8>, Fail> {
     joined(alloc, &[BEGIN, &whole[..91], b"2", &whole[92..], END])
 }
 
+/// What stands before pooled documents with these names of Tiny.
+fn before(alloc: Global, names: &[&[u8]]) -> Result<Vec<u8>, Fail> {
+    let mut cut = used();
+    t1subset_subset(alloc, PFA, names, 0, &mut cut);
+    joined(alloc, &[FIRST, cut.bytes, DEFINED])
+}
+
+const FIRST: &[u8] = b"%!PS-Adobe-3.0\n%%BeginResource: font Tiny\n";
+
+const DEFINED: &[u8] = b"%%EndResource
+/pool:Tiny /Tiny findfont definefont pop
+systemdict/undefinefont known{/Tiny undefinefont}if
+";
+
 /// So many documents, these two in turn.
 fn in_turn<'a>(
     alloc: Global,
@@ -67,22 +81,26 @@ fn all_gave(answers: &[Answer], count: usize, text: &[u8]) -> bool {
     answers.len() == count
 }
 
+const LINE: &[u8] = b"/Tiny /pool:Tiny findfont definefont pop\n";
+
 #[test]
 fn pooled(rt: HostRuntime) -> Result<(), Fail> {
     let one = document(rt.alloc(), &[b"X"])?;
     let other = document(rt.alloc(), &[b"Y"])?;
-    let both = document(rt.alloc(), &[b"X", b"Y"])?;
-    let empty = joined(rt.alloc(), &[BEGIN, END])?;
+    let both = before(rt.alloc(), &[b"X", b"Y"])?;
+    let line = joined(rt.alloc(), &[BEGIN, LINE, END])?;
     for count in [0, 1, 2, 3, 50] {
         let documents = in_turn(rt.alloc(), one.as_slice(), other.as_slice(), count)?;
         let mut want = Vec::new(rt.alloc());
-        for at in 0..count {
-            let font = if count == 1 {
+        if count > 1 {
+            want.extend_from_slice(both.as_slice())?;
+        }
+        for _ in 0..count {
+            want.extend_from_slice(if count == 1 {
                 one.as_slice()
             } else {
-                both.as_slice()
-            };
-            want.extend_from_slice(if at == 0 { font } else { empty.as_slice() })?;
+                line.as_slice()
+            })?;
         }
         let mut a = used();
         let code = t1subset_pool(rt.alloc(), documents.as_slice(), &mut a);
@@ -111,13 +129,13 @@ fn pooled_by_families(rt: HostRuntime) -> Result<(), Fail> {
     let alloc = rt.alloc();
     let one = tagged(alloc, document(alloc, &[b"X"])?.as_slice(), b"ABCDEF+")?;
     let other = tagged(alloc, document(alloc, &[b"Y"])?.as_slice(), b"GHIJKL+")?;
-    let both = tagged(
+    let both = before(alloc, &[b"X", b"Y"])?;
+    let first = b"/ABCDEF+Tiny /pool:Tiny findfont definefont pop\n";
+    let second = b"/GHIJKL+Tiny /pool:Tiny findfont definefont pop\n";
+    let want = joined(
         alloc,
-        document(alloc, &[b"X", b"Y"])?.as_slice(),
-        b"ABCDEF+",
+        &[both.as_slice(), BEGIN, first, END, BEGIN, second, END],
     )?;
-    let line = b"/GHIJKL+Tiny /ABCDEF+Tiny findfont definefont pop\n";
-    let want = joined(alloc, &[both.as_slice(), BEGIN, line, END])?;
     let mut a = used();
     let code = t1subset_pool_tags(alloc, &[one.as_slice(), other.as_slice()], &mut a);
     assert!(rt; gave(code, &a, (0, 0, -1, want.as_slice())));

@@ -106,8 +106,19 @@ pub fn level_into(alloc: Global, documents: &[&[u8]], want: &[&[u8]]) -> bool {
     are_same(levelled(alloc, documents), joined(alloc, want))
 }
 
-/// A place for Tiny that has no font any more.
-const EMPTY: &[u8] = b"%!PS\n%%BeginFont: Tiny\n%%EndFont\nshowpage";
+/// What stands before the first document up to Tiny's text.
+const ENTRY: &[u8] = b"%!PS-Adobe-3.0\n%%BeginResource: font Tiny\n";
+
+/// What follows that text up to the first document.
+const ENTRY_END: &[u8] = b"
+%%EndResource
+/pool:Tiny /Tiny findfont definefont pop
+systemdict/undefinefont known{/Tiny undefinefont}if
+";
+
+/// A document with a line in place of Tiny's text.
+const LINED: &[u8] =
+    b"%!PS\n%%BeginFont: Tiny\n/Tiny /pool:Tiny findfont definefont pop{restore}if\n%%EndFont\nshowpage";
 
 /// Whether they are pooled to this, and the calls make of them what the engines make.
 fn pools(alloc: Global, documents: &[&[u8]], want: &[&[u8]]) -> bool {
@@ -120,7 +131,11 @@ fn what_is_wrong<'a>(alloc: Global, a: &'a [u8], b: &'a [u8]) -> &'static str {
         "none"
     } else if !pools(alloc, &[a], &[a]) {
         "one"
-    } else if !pools(alloc, &[a, b, a], &[b, b"\n", EMPTY, b"\n", EMPTY]) {
+    } else if !pools(
+        alloc,
+        &[a, b, a],
+        &[ENTRY, whole(), ENTRY_END, LINED, b"\n", LINED, b"\n", LINED],
+    ) {
         "three"
     } else if !level_into(alloc, &[], &[]) {
         "none, levelled"
@@ -166,10 +181,34 @@ fn other_fonts_are_kept(rt: HostRuntime) -> Result<(), Fail> {
     Ok(())
 }
 
-const ALIAS: &[u8] =
-    b"%!PS\n%%BeginFont: Tiny\n/GHIJKL+Tiny /ABCDEF+Tiny findfont definefont pop\n%%EndFont\nshowpage";
+/// Documents with lines in place of fonts of a family.
+const A_IS_TINY: &[u8] =
+    b"%!PS\n%%BeginFont: Tiny\n/ABCDEF+Tiny /pool:Tiny findfont definefont pop{restore}if\n%%EndFont\nshowpage";
 
-const FAMILY_KEPT: &[u8] = b"kept ABCDEF+Tiny: shells differ in head\n";
+const G_IS_TINY: &[u8] =
+    b"%!PS\n%%BeginFont: Tiny\n/GHIJKL+Tiny /pool:Tiny findfont definefont pop{restore}if\n%%EndFont\nshowpage";
+
+/// The end of the family's entry where a name of it has an entry already, which follows.
+const FAMILY_END: &[u8] = b"
+%%EndResource
+/pool::Tiny /Tiny findfont definefont pop
+systemdict/undefinefont known{/Tiny undefinefont}if
+%!PS-Adobe-3.0
+%%BeginResource: font ABCDEF+Tiny
+/ABCDEF+Tiny /pool::Tiny findfont definefont pop
+%%EndResource
+/pool:ABCDEF+Tiny /ABCDEF+Tiny findfont definefont pop
+systemdict/undefinefont known{/ABCDEF+Tiny undefinefont}if
+";
+
+/// Documents with lines behind these entries: of the name, and of the family.
+const A_IS_A: &[u8] =
+    b"%!PS\n%%BeginFont: Tiny\n/ABCDEF+Tiny /pool:ABCDEF+Tiny findfont definefont pop{restore}if\n%%EndFont\nshowpage";
+
+const G_IS_LATER: &[u8] =
+    b"%!PS\n%%BeginFont: Tiny\n/GHIJKL+Tiny /pool::Tiny findfont definefont pop{restore}if\n%%EndFont\nshowpage";
+
+const FAMILY_KEPT: &[u8] = b"kept Tiny: shells differ in head\n";
 
 /// Whether documents are pooled to this, and this is told, by the engine and by the call, where names that are equal without
 /// their tags are one.
@@ -192,13 +231,34 @@ fn what_of_tags_is_wrong<'a>(
         "none"
     } else if !families_are(alloc, &[a], &[a]) {
         "one"
-    } else if !families_are(alloc, &[a, g], &[b, b"\n", ALIAS]) {
+    } else if !families_are(
+        alloc,
+        &[a, g],
+        &[ENTRY, whole(), ENTRY_END, A_IS_TINY, b"\n", G_IS_TINY],
+    ) {
         "two names"
-    } else if !families_are(alloc, &[a, b, g], &[b, b"\n", EMPTY, b"\n", ALIAS]) {
+    } else if !families_are(
+        alloc,
+        &[a, b, g],
+        &[
+            ENTRY,
+            whole(),
+            FAMILY_END,
+            A_IS_A,
+            b"\n",
+            A_IS_A,
+            b"\n",
+            G_IS_LATER,
+        ],
+    ) {
         "two names, one of them twice"
     } else if !families_are(alloc, &[a, o], &[a, b"\n", o, FAMILY_KEPT]) {
         "fonts that don't rejoin"
-    } else if !families_are(alloc, &[g, o, a], &[g, b"\n", o, b"\n", a, NAME_KEPT]) {
+    } else if !families_are(
+        alloc,
+        &[g, o, a],
+        &[g, b"\n", o, b"\n", a, NAME_KEPT, FAMILY_KEPT],
+    ) {
         "a name that keeps its fonts"
     } else {
         ""
@@ -234,11 +294,10 @@ fn are_many(alloc: Global, count: usize) -> Result<bool, AllocError> {
     let text = document(alloc, whole())?;
     let mut documents = Vec::new(alloc);
     documents.resize(count, text.as_slice())?;
-    let rest = count
-        .saturating_sub(1)
-        .saturating_mul(EMPTY.len().saturating_add(1));
+    let lined = count.saturating_mul(LINED.len().saturating_add(1));
     let all = count.saturating_mul(text.len().saturating_add(1));
-    let want = (text.len().saturating_add(rest), all);
+    let entry = joined(alloc, &[ENTRY, whole(), ENTRY_END])?;
+    let want = (entry.len().saturating_add(lined).saturating_sub(1), all);
     let documents = documents.as_slice();
     Ok(files_are_alike(alloc, documents) && lengths(alloc, documents)? == want)
 }
@@ -370,7 +429,7 @@ fn both_become(alloc: Global, a: &[u8], b: &[u8], want: &[u8]) -> Result<bool, A
 fn becomes_one(alloc: Global, cut: &[u8]) -> Result<bool, AllocError> {
     let a = document(alloc, cut)?;
     let b = document(alloc, whole())?;
-    let want = joined(alloc, &[b.as_slice(), b"\n", EMPTY])?;
+    let want = joined(alloc, &[ENTRY, whole(), ENTRY_END, LINED, b"\n", LINED])?;
     both_become(alloc, a.as_slice(), b.as_slice(), want.as_slice())
 }
 

@@ -54,7 +54,7 @@ fn a_place_two_documents_deep(rt: HostRuntime) -> Result<(), Fail> {
 #[test]
 fn a_name_and_a_family_both_kept(rt: HostRuntime) -> Result<(), Fail> {
     const BOTH: &[u8] =
-        b"kept GHIJKL+Tiny: shells differ in head\nkept ABCDEF+Tiny: shells differ in head\n";
+        b"kept GHIJKL+Tiny: shells differ in head\nkept Tiny: shells differ in head\n";
     let alloc = rt.alloc();
     let cut = part(alloc);
     let other = other(alloc)?;
@@ -65,6 +65,65 @@ fn a_name_and_a_family_both_kept(rt: HostRuntime) -> Result<(), Fail> {
     let (g, o, a, q) = (g.as_slice(), o.as_slice(), a.as_slice(), q.as_slice());
     let want = &[g, b"\n", o, b"\n", a, b"\n", q, BOTH];
     assert!(rt; families_are(alloc, &[g, o, a, q], want));
+    Ok(())
+}
+
+/// A document with Tiny that asks for the fonts that are loaded, but not whether it is one of them.
+fn asking(alloc: Global) -> Result<Vec<u8>, AllocError> {
+    let text = joined(alloc, &[b"%!\n/x FontDirectory def\n", whole()])?;
+    document(alloc, text.as_slice())
+}
+
+const LEFT: &[u8] = b"kept Tiny: the joined font does not fit a place\n";
+
+// meets run_pool Ok at 2, 4 documents
+#[test]
+fn names_that_are_left(rt: HostRuntime) -> Result<(), Fail> {
+    const OTHERS: &[u8] = b"kept GHIJKL+Tiny: shells differ in head\n";
+    let alloc = rt.alloc();
+    let other = other(alloc)?;
+    let d = asking(alloc)?;
+    let g = tagged(alloc, whole(), b"GHIJKL+")?;
+    let o = tagged(alloc, other.as_slice(), b"GHIJKL+")?;
+    let (d, g, o) = (d.as_slice(), g.as_slice(), o.as_slice());
+    let two = [d, b"\n", d, LEFT];
+    assert!(rt; pool_into(alloc, &[d, d], &two), "by names");
+    assert!(rt; families_are(alloc, &[d, d], &two), "told once");
+    let four = [d, b"\n", g, b"\n", o, b"\n", d, LEFT, OTHERS];
+    assert!(rt;
+        pool_into(alloc, &[d, g, o, d], &four),
+        "in the order of the names"
+    );
+    Ok(())
+}
+
+// meets run_pool Ok at 2 documents
+#[test]
+fn a_family_that_is_left(rt: HostRuntime) -> Result<(), Fail> {
+    const OWN: &[u8] = b"kept pool:Tiny: the joined font does not fit a place\n";
+    let alloc = rt.alloc();
+    let cut = part(alloc);
+    let a = tagged(alloc, cut.as_slice(), b"ABCDEF+pool:")?;
+    let g = tagged(alloc, whole(), b"GHIJKL+pool:")?;
+    let (a, g) = (a.as_slice(), g.as_slice());
+    assert!(rt; pool_into(alloc, &[a, g], &[a, b"\n", g]), "by names");
+    assert!(rt;
+        families_are(alloc, &[a, g], &[a, b"\n", g, OWN]),
+        "by families"
+    );
+    Ok(())
+}
+
+// meets run_pool Ok at 2 documents
+#[test]
+fn a_line_that_is_told_once(rt: HostRuntime) -> Result<(), Fail> {
+    const ONCE: &[u8] = b"kept Tiny: shells differ in head\n";
+    let alloc = rt.alloc();
+    let other = other(alloc)?;
+    let a = document(alloc, whole())?;
+    let c = document(alloc, other.as_slice())?;
+    let (a, c) = (a.as_slice(), c.as_slice());
+    assert!(rt; families_are(alloc, &[a, c], &[a, b"\n", c, ONCE]));
     Ok(())
 }
 

@@ -6,10 +6,15 @@ use std::alloc::{AllocError, Global};
 use std::test::Fail;
 use t1_document::{Key, pool_document};
 
-/// What is told of the keys of a text, and the pooled text.
+/// What is told of the keys of a text, behind it those that are left, and the pooled text.
 fn pooled(alloc: Global, by: Key, text: &[u8]) -> Result<(Vec<u8>, Vec<u8>), AllocError> {
     let pooled = pool_document(alloc, by, text)?;
-    let told = lines(alloc, pooled.places.as_slice(), &pooled.joins)?;
+    let mut told = lines(alloc, pooled.places.as_slice(), &pooled.joins)?;
+    for key in pooled.left.as_slice() {
+        told.extend_from_slice(b"left ")?;
+        told.extend_from_slice(*key)?;
+        told.push(b'\n')?;
+    }
     let text = joined(alloc, &[pooled.text.as_slice()])?;
     Ok((told, text))
 }
@@ -195,7 +200,7 @@ fn one_name_of_a_family(rt: HostRuntime) -> Result<(), Fail> {
     let one = tagged(alloc, x.as_slice(), b"ABCDEF+pool:")?;
     let other = tagged(alloc, whole.as_slice(), b"GHIJKL+pool:")?;
     let clash = [BEGIN, one.as_slice(), END, BEGIN, other.as_slice(), END];
-    let told = b"pool:Tiny joined\n";
+    let told = b"pool:Tiny joined\nleft pool:Tiny\n";
     assert!(rt;
         stays(alloc, Key::Family, &clash, told)?,
         "a name as the pool's"
@@ -232,9 +237,38 @@ fn fonts_with_a_test(rt: HostRuntime) -> Result<(), Fail> {
     assert!(rt; tested, "the test");
     let asks = [BEGIN, b, END, BEGIN, b, END];
     assert!(rt;
-        stays(alloc, Key::Name, &asks, b"Tiny same\n")?,
+        stays(alloc, Key::Name, &asks, b"Tiny same\nleft Tiny\n")?,
         "another question"
     );
+    Ok(())
+}
+
+// meets pool_document Ok at 4, 5 places
+#[test]
+fn keys_that_are_left(rt: HostRuntime) -> Result<(), Fail> {
+    let alloc = rt.alloc();
+    let whole = whole(alloc)?;
+    let otherwise = tiny(alloc, b"%!\n/x FontDirectory def")?;
+    let a = tagged(alloc, otherwise.as_slice(), b"ABCDEF+")?;
+    let g = tagged(alloc, otherwise.as_slice(), b"GHIJKL+")?;
+    let (a, b, g) = (a.as_slice(), whole.as_slice(), g.as_slice());
+    let text = [
+        BEGIN, g, END, BEGIN, b, END, BEGIN, a, END, BEGIN, a, END, BEGIN, g, END,
+    ];
+    let told =
+        b"GHIJKL+Tiny same\nTiny same\nABCDEF+Tiny same\nleft GHIJKL+Tiny\nleft ABCDEF+Tiny\n";
+    let left = stays(alloc, Key::Name, &text, told)?;
+    assert!(rt; left, "in the order of their first places");
+    let text = [BEGIN, a, END, BEGIN, b, END, BEGIN, a, END, BEGIN, b, END];
+    let told: &[u8] = b"ABCDEF+Tiny same\nTiny same\nleft ABCDEF+Tiny\n";
+    let want = [
+        FIRST, ENTRY, b, ENTRY_END, LOSES, BEGIN, a, END, BEGIN, LINE, END, BEGIN, a, END, BEGIN,
+        LINE, END,
+    ];
+    let (lines, once) = pooled(alloc, Key::Name, joined(alloc, &text)?.as_slice())?;
+    let want = joined(alloc, &want)?;
+    assert!(rt; lines.as_slice() == told, "beside another key");
+    assert!(rt; once.as_slice() == want.as_slice(), "the other key");
     Ok(())
 }
 
