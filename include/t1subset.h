@@ -78,6 +78,7 @@ enum t1subset_number {
     T1SUBSET_NO_CODE = 5,               /* "no code N": the first code for which the Encoding has no name; told before names */
     T1SUBSET_NO_FONT = 6,               /* "no font NAME": no document has a font of this name */
     T1SUBSET_TOO_MANY_TOKENS = 7,       /* "too many tokens": more than the limits allow; told after names, mostly before conflicts */
+    T1SUBSET_NO_DOCUMENT = 8,           /* "no document: WHAT": a file carries no PostScript document; answer->input is its place */
 
     /* A file spells no font. answer->input is its place. Offsets count from 0: in the file for a segment, in the clear
      * text for the Encoding, else in the decrypted private text. */

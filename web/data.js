@@ -48,6 +48,9 @@ const REFUSALS = {
     "The font has no glyph of this name, the first missing one that was asked for. t1subset list prints the names.",
   "no font NAME":
     "No place of a font in the documents has this name. t1subset fonts prints the names.",
+  "no document: WHAT":
+    "A document begins with %!, behind the words of a print job (^D, the universal exit, lines of PJL) or in an EPS file for DOS, and one job " +
+    "holds one document. WHAT says what the file is: convert a PDF file with pdftops, decompress a packed file, split a file of several jobs.",
   "no code N":
     "The font's Encoding has no name for this code, the first such code that was asked for. t1subset list prints the codes; ask for the glyph by " +
     "its name.",

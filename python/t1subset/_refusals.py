@@ -24,6 +24,8 @@ class Number(enum.IntEnum):
     """no font NAME, in documents"""
     TOO_MANY_TOKENS = 7
     """too many tokens: more than a call with `tokens` may execute"""
+    NO_DOCUMENT = 8
+    """no document: what a file is that carries no PostScript document"""
 
     BAD_SEGMENT = 10
     """bad segment at N"""

@@ -49,6 +49,8 @@ numbers! {
     NoFont = 6,
     /// `too many tokens`: more than the [`Limits`](crate::Limits) allow.
     TooManyTokens = 7,
+    /// `no document: WHAT`: a file carries no PostScript document.
+    NoDocument = 8,
     /// `bad segment at N`, an offset in the file.
     BadSegment = 10,
     /// `no eexec`: no Type 1 font program, perhaps TrueType or CFF.

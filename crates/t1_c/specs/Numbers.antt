@@ -5,7 +5,7 @@ use Rattle.t1_bytes.specs.{declared.form.Form.{Form}, declared.form.Form.TheVari
 use Rattle.t1_font.specs.declared.fault.ReadFault.{ReadFault}
 use Rattle.t1_subset.specs.{declared.conflict.ShellPart.{ShellPart}, declared.conflict.Conflict.{Conflict}}
 use Rattle.t1_join.specs.{declared.listing.ListFault.{ListFault}, declared.listing.JoinFault.{JoinFault}}
-use Rattle.t1_cmd.specs.{declared.faults.Reason.{Reason}, declared.faults.Reason.TheVariants.{TooLong, Memory, List, Join, Font, NoGlyph, NoCode, NoFont, TooManyTokens, Lacks, Merge}}
+use Rattle.t1_cmd.specs.{declared.faults.Reason.{Reason}, declared.faults.Reason.TheVariants.{TooLong, Memory, List, Join, Font, NoGlyph, NoCode, NoFont, Document, TooManyTokens, Lacks, Merge}}
 use Rattle.t1_font.specs.declared.fault.ReadFault.TheVariants as fault
 use Rattle.t1_subset.specs.declared.conflict.ShellPart.TheVariants as part
 use Rattle.t1_subset.specs.declared.conflict.Conflict.TheVariants as conflict
@@ -52,6 +52,9 @@ no_font = 6
 
 abbrev pub too_many_tokens : ℕ
 too_many_tokens = 7
+
+abbrev pub no_document : ℕ
+no_document = 8
 
 abbrev pub bad_segment : ℕ
 bad_segment = 10
@@ -179,6 +182,7 @@ number_of (Font f) = font_number f
 number_of (NoGlyph name) = no_glyph
 number_of (NoCode code) = no_code
 number_of (NoFont name) = no_font
+number_of (Document why) = no_document
 number_of TooManyTokens = too_many_tokens
 number_of (Lacks glyph index) = glyph_lacks_subr
 number_of (Merge c) = merge_number c

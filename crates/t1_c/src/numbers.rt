@@ -100,6 +100,7 @@ pub(crate) fn number_of(reason: &Reason) -> u32
         Reason::NoCode { .. } => 5,
         Reason::NoFont { .. } => 6,
         Reason::TooManyTokens => 7,
+        Reason::Document(_) => 8,
         Reason::Lacks { .. } => 37,
         Reason::Merge(conflict) => merge_number(conflict),
     }

@@ -11,7 +11,8 @@ use Rattle.t1_subset.specs.declared.fault.RejoinFault.TheVariants as fault
 use Rattle.t1_subset.specs.declared.fault.SubsetFault.{SubsetFault}
 use Rattle.t1_subset.specs.declared.fault.SubsetFault.TheVariants as subset
 use Rattle.t1_cmd.specs.{declared.counting.Counted.{Counted}, declared.faults.Reason.{Reason}}
-use Rattle.t1_cmd.specs.{declared.faults.Reason.TheVariants.{TooLong, Memory, List as ListReason, Join as JoinReason, Font, NoGlyph, NoCode, NoFont, TooManyTokens, Lacks, Merge}}
+use Rattle.t1_cmd.specs.declared.faults.Reason.TheVariants.{TooLong, Memory, List as ListReason, Join as JoinReason, Font, NoGlyph, NoCode}
+use Rattle.t1_cmd.specs.declared.faults.Reason.TheVariants.{NoFont, Document as DocumentReason, TooManyTokens, Lacks, Merge}
 use Rattle.t1_cmd.specs.{declared.faults.RunFault.{RunFault}}
 use Rattle.t1_cmd.specs.{declared.faults.RunFault.TheVariants.{Refused, Read, Write}, declared.faults.FilesRefusal.{FilesRefusal}, Count.{inner_of}, Inputs.{Input, IsRefused, FirstWith, values_of}}
 use Rattle.t1_cmd.specs.{Answers.{MayRefuse, Prints, if_there, OfOne, OfThere}, Runs.{AppendsPrefix, RefusedTogether, Stops, RunEnds}, Files.{OfFiles, RefusedAt, RefusesFiles}}
@@ -31,6 +32,7 @@ without tokens P (Err (JoinReason f)) h = h.0
 without tokens P (Err (Font f)) h = h.0
 without tokens P (Err (NoGlyph n)) h = h.0
 without tokens P (Err (NoCode code)) h = h.0
+without tokens P (Err (DocumentReason why)) h = h.0
 without tokens P (Err (NoFont n)) h = h.0
 without tokens P (Err TooManyTokens) h = absurd h
 without tokens P (Err (Lacks g k)) h = h.0
@@ -196,6 +198,7 @@ module _ {A : Type 0} (input : List ℕ → Result A Reason) (P Q : List A → R
   stops_too is (Font f) h = stops_so is (Font f) h
   stops_too is (NoGlyph n) h = stops_so is (NoGlyph n) h
   stops_too is (NoCode code) h = stops_so is (NoCode code) h
+  stops_too is (DocumentReason why) h = stops_so is (DocumentReason why) h
   stops_too is (NoFont n) h = stops_so is (NoFont n) h
   stops_too is TooManyTokens h = stops_so is TooManyTokens h
   stops_too is (Lacks g k) h = stops_so is (Lacks g k) h

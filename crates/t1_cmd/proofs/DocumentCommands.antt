@@ -1,20 +1,9 @@
--- Documents within the file limit, and the commands about them.
-use Rattle.std.proofs.{Common.{◌≡◌, ◌<◌, ◌≤◌, ℕ, Bool, arith, sym, ◌∙◌, List, length, Ok, Err}, lemmas.Bool.{cond-true, cond-false, lt-ltb, le-ltb}, lemmas.Option.{none-some}}
-use Rattle.std.specs.Prelude.{nat_lt}
-use Rattle.t1_bytes.specs.Limits.{file_limit}
+-- The commands about documents.
+use Rattle.std.proofs.{Common.{◌≡◌, ℕ, Bool, arith, sym, ◌∙◌, List, Ok, Err}, lemmas.Option.{none-some}}
 use Rattle.t1_cmd.specs.{declared.faults.Reason.{Reason}}
-use Rattle.t1_cmd.specs.{declared.faults.Reason.TheVariants.{TooLong, Memory, List as ListReason, Join as JoinReason, Font, NoGlyph, NoCode, NoFont, TooManyTokens, Lacks, Merge}}
-use Rattle.t1_cmd.specs.{Documents.{text_input, PoolsTo}, FontPlaces.{ListsTo}, Extracts.{ExtractsTo}}
-
--- ---- one document
-
--- a document over the limit
-pub too_long : (text : List ℕ) → file_limit < length text → text_input text ≡ Err TooLong
-too_long text lt = cond-true (nat_lt file_limit (length text)) _ _ (lt-ltb file_limit (length text) lt)
-
--- a document within it
-pub fits : (text : List ℕ) → length text ≤ file_limit → text_input text ≡ Ok text
-fits text le = cond-false (nat_lt file_limit (length text)) _ _ (le-ltb file_limit (length text) le)
+use Rattle.t1_cmd.specs.declared.faults.Reason.TheVariants.{TooLong, Memory, List as ListReason, Join as JoinReason, Font, NoGlyph, NoCode}
+use Rattle.t1_cmd.specs.declared.faults.Reason.TheVariants.{NoFont, Document as DocumentReason, TooManyTokens, Lacks, Merge}
+use Rattle.t1_cmd.specs.{Documents.{PoolsTo}, FontPlaces.{ListsTo}, Extracts.{ExtractsTo}}
 
 -- ---- what has a text is refused for want of memory alone
 
@@ -26,6 +15,7 @@ pools_apart tags ds text (JoinReason f) h k = absurd k
 pools_apart tags ds text (Font f) h k = absurd k
 pools_apart tags ds text (NoGlyph n) h k = absurd k
 pools_apart tags ds text (NoCode code) h k = absurd k
+pools_apart tags ds text (DocumentReason why) h k = absurd k
 pools_apart tags ds text (NoFont n) h k = absurd k
 pools_apart tags ds text TooManyTokens h k = absurd k
 pools_apart tags ds text (Lacks g q) h k = absurd k
@@ -42,6 +32,7 @@ extracts_apart name ds text (JoinReason f) h k = absurd k
 extracts_apart name ds text (Font f) h k = absurd k
 extracts_apart name ds text (NoGlyph n) h k = absurd k
 extracts_apart name ds text (NoCode code) h k = absurd k
+extracts_apart name ds text (DocumentReason why) h k = absurd k
 extracts_apart name ds text (NoFont n) h k = absurd (none-some h.0 (sym k.1 ∙ h.1))
 extracts_apart name ds text TooManyTokens h k = absurd k
 extracts_apart name ds text (Lacks g q) h k = absurd k

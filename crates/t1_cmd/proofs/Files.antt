@@ -4,7 +4,9 @@ use Rattle.std.proofs.{Common.{is_err, false}, lemmas.List.{append-nil}}
 use Rattle.std.specs.Borrow.{Bor}
 use Rattle.t1_subset.specs.NameSets.{lent}
 use Rattle.t1_cmd.specs.{declared.faults.FilesRefusal.{FilesRefusal}, declared.faults.Reason.{Reason}}
-use Rattle.t1_cmd.specs.{declared.faults.Reason.TheVariants.{TooLong, Memory, List as ListReason, Join as JoinReason, Font, NoGlyph, NoCode, NoFont, TooManyTokens, Lacks, Merge}, Answers.{MayRefuse}}
+use Rattle.t1_cmd.specs.declared.faults.Reason.TheVariants.{TooLong, Memory, List as ListReason, Join as JoinReason, Font, NoGlyph, NoCode}
+use Rattle.t1_cmd.specs.declared.faults.Reason.TheVariants.{NoFont, Document as DocumentReason, TooManyTokens, Lacks, Merge}
+use Rattle.t1_cmd.specs.{Answers.{MayRefuse}}
 use Rattle.t1_cmd.specs.Files.{Values, value_before, values_from, IsUnread, IsRefusalAt, OfFiles, RefusedAt}
 use Rattle.t1_cmd.proofs.Refusals.{refuses, by_answer}
 
@@ -123,6 +125,7 @@ module _ {A : Type 0} (understand : List ℕ → Result A Reason) where
   refused_file files place (Font f) e at h = unread_at files e (Some place) (Font f) at.0 at.1 h
   refused_file files place (NoGlyph n) e at h = unread_at files e (Some place) (NoGlyph n) at.0 at.1 h
   refused_file files place (NoCode code) e at h = unread_at files e (Some place) (NoCode code) at.0 at.1 h
+  refused_file files place (DocumentReason why) e at h = unread_at files e (Some place) (DocumentReason why) at.0 at.1 h
   refused_file files place (NoFont n) e at h = unread_at files e (Some place) (NoFont n) at.0 at.1 h
   refused_file files place TooManyTokens e at h = unread_at files e (Some place) TooManyTokens at.0 at.1 h
   refused_file files place (Lacks g k) e at h = unread_at files e (Some place) (Lacks g k) at.0 at.1 h

@@ -2,7 +2,8 @@
 use Rattle.std.{proofs.{Common.{◌≡◌, ℕ, List, [], ◌∷◌, ◌++◌, map, refl, ap, Option, Some, None, Result, Ok, Err, IfErr, IsSome, IsOkUnless}, lemmas.Bool.{false≢true}}, specs.List.{flat_map}}
 use Rattle.t1_document.specs.{Documents.{Place, Document, document_of}, Rewriting.{NewTexts, document_levelled, levelled}, Joins.{places_of_all}}
 use Rattle.t1_cmd.specs.{declared.faults.Reason.{Reason}}
-use Rattle.t1_cmd.specs.{declared.faults.Reason.TheVariants.{TooLong, Memory, List as ListReason, Join as JoinReason, Font, NoGlyph, NoCode, NoFont, TooManyTokens, Lacks, Merge}}
+use Rattle.t1_cmd.specs.declared.faults.Reason.TheVariants.{TooLong, Memory, List as ListReason, Join as JoinReason, Font, NoGlyph, NoCode}
+use Rattle.t1_cmd.specs.declared.faults.Reason.TheVariants.{NoFont, Document as DocumentReason, TooManyTokens, Lacks, Merge}
 use Rattle.t1_cmd.specs.{declared.faults.RunFault.{RunFault}, declared.faults.RunFault.TheVariants.{Refused, Read, Write}, Inputs.{Input, AllQuiet, values_of}, Mergers.{InputsStop}}
 use Rattle.t1_cmd.proofs.RunLemmas.{first_refused, first_failed}
 
@@ -33,6 +34,7 @@ module _ {A : Type 0} (understand : List ℕ → Result A Reason) (is : List Inp
   memory_alone (Refused (Font f)) h = absurd (first_refused understand (Font f) is xs h known)
   memory_alone (Refused (NoGlyph n)) h = absurd (first_refused understand (NoGlyph n) is xs h known)
   memory_alone (Refused (NoCode code)) h = absurd (first_refused understand (NoCode code) is xs h known)
+  memory_alone (Refused (DocumentReason why)) h = absurd (first_refused understand (DocumentReason why) is xs h known)
   memory_alone (Refused (NoFont n)) h = absurd (first_refused understand (NoFont n) is xs h known)
   memory_alone (Refused TooManyTokens) h = absurd (first_refused understand TooManyTokens is xs h known)
   memory_alone (Refused (Lacks g k)) h = absurd (first_refused understand (Lacks g k) is xs h known)

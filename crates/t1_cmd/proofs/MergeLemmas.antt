@@ -5,7 +5,8 @@ use Rattle.t1_font.specs.FontValue.{FontValue}
 use Rattle.t1_subset.{specs.{declared.conflict.Conflict.{Conflict as Refusal}, Merger.{NotMerged}}, proofs.Answered.{never_stops}}
 use Rattle.t1_algebra.specs.Merges.{ComesTo}
 use Rattle.t1_cmd.specs.{declared.faults.Reason.{Reason}}
-use Rattle.t1_cmd.specs.{declared.faults.Reason.TheVariants.{TooLong, Memory, List as ListReason, Join as JoinReason, Font, NoGlyph, NoCode, NoFont, TooManyTokens, Lacks, Merge}}
+use Rattle.t1_cmd.specs.declared.faults.Reason.TheVariants.{TooLong, Memory, List as ListReason, Join as JoinReason, Font, NoGlyph, NoCode}
+use Rattle.t1_cmd.specs.declared.faults.Reason.TheVariants.{NoFont, Document as DocumentReason, TooManyTokens, Lacks, Merge}
 use Rattle.t1_cmd.specs.{declared.faults.RunFault.{RunFault}, declared.faults.RunFault.TheVariants.{Refused, Read, Write}, Inputs.{Input}, Runs.{Stops}, Mergers.{InputsStop, IsTold, MergesToFile}}
 use Rattle.t1_subset.specs.declared.conflict.Conflict.TheVariants as refusal
 
@@ -27,6 +28,7 @@ merges_apart form fs text (JoinReason f) h k = absurd k
 merges_apart form fs text (Font f) h k = absurd k
 merges_apart form fs text (NoGlyph n) h k = absurd k
 merges_apart form fs text (NoCode code) h k = absurd k
+merges_apart form fs text (DocumentReason why) h k = absurd k
 merges_apart form fs text (NoFont n) h k = absurd k
 merges_apart form fs text TooManyTokens h k = absurd k
 merges_apart form fs text (Lacks g q) h k = absurd k
@@ -45,6 +47,7 @@ inputs_stop input Answers is (Refused (JoinReason f)) h = inl h
 inputs_stop input Answers is (Refused (Font f)) h = inl h
 inputs_stop input Answers is (Refused (NoGlyph n)) h = inl h
 inputs_stop input Answers is (Refused (NoCode code)) h = inl h
+inputs_stop input Answers is (Refused (DocumentReason why)) h = inl h
 inputs_stop input Answers is (Refused (NoFont n)) h = inl h
 inputs_stop input Answers is (Refused TooManyTokens) h = inl h
 inputs_stop input Answers is (Refused (Lacks g k)) h = inl h

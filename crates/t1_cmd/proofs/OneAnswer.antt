@@ -3,7 +3,8 @@ use Rattle.std.proofs.Common.{◌≡◌, ℕ, refl, sym, ◌∙◌, subst, List,
 use Rattle.std.specs.{Prelude.{IfOk, IfErr, MatchResult}, Io.KnownBytes.{Appends}}
 use Rattle.t1_font.specs.FontValue.{FontValue}
 use Rattle.t1_cmd.specs.{declared.counting.Counted.{Counted}, declared.faults.Reason.{Reason}}
-use Rattle.t1_cmd.specs.{declared.faults.Reason.TheVariants.{TooLong, Memory, List as ListReason, Join as JoinReason, Font, NoGlyph, NoCode, NoFont, TooManyTokens, Lacks, Merge}}
+use Rattle.t1_cmd.specs.declared.faults.Reason.TheVariants.{TooLong, Memory, List as ListReason, Join as JoinReason, Font, NoGlyph, NoCode}
+use Rattle.t1_cmd.specs.declared.faults.Reason.TheVariants.{NoFont, Document as DocumentReason, TooManyTokens, Lacks, Merge}
 use Rattle.t1_cmd.specs.{declared.faults.RunFault.{RunFault}}
 use Rattle.t1_cmd.specs.{declared.faults.RunFault.TheVariants.{Refused, Read, Write}, declared.faults.FilesRefusal.{FilesRefusal}, Count.{inner_of}}
 use Rattle.t1_cmd.specs.{Inputs.{Input, HasFailed, IsRefused, FirstWith, values_of}, Files.{Values, values_from, OfFiles, RefusedAt, RefusesFiles}}
@@ -73,6 +74,7 @@ module _ (input : List ℕ → Result FontValue Reason) (Answers : List FontValu
       only_memory (Font x) d = refused_so (Font x) d
       only_memory (NoGlyph x) d = refused_so (NoGlyph x) d
       only_memory (NoCode code) d = refused_so (NoCode code) d
+      only_memory (DocumentReason why) d = refused_so (DocumentReason why) d
       only_memory (NoFont x) d = refused_so (NoFont x) d
       only_memory TooManyTokens d = refused_so TooManyTokens d
       only_memory (Lacks g k) d = refused_so (Lacks g k) d

@@ -1,7 +1,8 @@
 -- Readers that are read one after the other: what they have said so far, and how they stop.
 use Rattle.std.proofs.Common.{◌≡◌, ◌<◌, ◌≤◌, ◌+◌, ℕ, zero, suc, refl, sym, ◌∙◌, ap, subst, List, [], ◌∷◌, ◌++◌, length, get_or, set, inl, inr, Option, Result, Ok, IfSome, arith}
 use Rattle.t1_cmd.specs.{declared.counting.Counted.{Counted}}
-use Rattle.t1_cmd.specs.{declared.faults.Reason.TheVariants.{TooLong, Memory, List as ListReason, Join as JoinReason, Font, NoGlyph, NoCode, NoFont, TooManyTokens, Lacks, Merge}}
+use Rattle.t1_cmd.specs.declared.faults.Reason.TheVariants.{TooLong, Memory, List as ListReason, Join as JoinReason, Font, NoGlyph, NoCode}
+use Rattle.t1_cmd.specs.declared.faults.Reason.TheVariants.{NoFont, Document as DocumentReason, TooManyTokens, Lacks, Merge}
 use Rattle.t1_cmd.specs.{declared.faults.RunFault.{RunFault}, declared.faults.RunFault.TheVariants.{Refused, Read, Write}, Count.{inner_of, calls_counted}}
 use Rattle.t1_cmd.specs.{Inputs.{Input, input_of, HasFailed, IsRefused, FirstWith, Say}, Runs.{InputStops}, declared.faults.Reason.{Reason}, Mergers.{inputs_of, InTurns, InputsStop}}
 use Rattle.t1_cmd.proofs.RunLemmas.{says_understood}
@@ -75,6 +76,7 @@ module _ {A : Type 0} (input : List ℕ → Result A Reason) {X : Type 0} (remai
   stops i os ns fs r x (Refused (Font f)) h l e s = first_with (IsRefused input (Font f)) i os ns fs r x h l e s
   stops i os ns fs r x (Refused (NoGlyph f)) h l e s = first_with (IsRefused input (NoGlyph f)) i os ns fs r x h l e s
   stops i os ns fs r x (Refused (NoCode code)) h l e s = first_with (IsRefused input (NoCode code)) i os ns fs r x h l e s
+  stops i os ns fs r x (Refused (DocumentReason why)) h l e s = first_with (IsRefused input (DocumentReason why)) i os ns fs r x h l e s
   stops i os ns fs r x (Refused (NoFont f)) h l e s = first_with (IsRefused input (NoFont f)) i os ns fs r x h l e s
   stops i os ns fs r x (Refused TooManyTokens) h l e s = first_with (IsRefused input TooManyTokens) i os ns fs r x h l e s
   stops i os ns fs r x (Refused (Lacks g k)) h l e s = first_with (IsRefused input (Lacks g k)) i os ns fs r x h l e s

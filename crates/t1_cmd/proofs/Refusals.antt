@@ -1,7 +1,8 @@
 -- What refuses a value, a file, or the input that has the file.
 use Rattle.std.proofs.Common.{◌≡◌, ℕ, List, subst, sym, Option, Some, None, Result, Err, IfSome}
 use Rattle.t1_cmd.specs.{declared.faults.Reason.{Reason}}
-use Rattle.t1_cmd.specs.{declared.faults.Reason.TheVariants.{TooLong, Memory, List as ListReason, Join as JoinReason, Font, NoGlyph, NoCode, NoFont, TooManyTokens, Lacks, Merge}}
+use Rattle.t1_cmd.specs.declared.faults.Reason.TheVariants.{TooLong, Memory, List as ListReason, Join as JoinReason, Font, NoGlyph, NoCode}
+use Rattle.t1_cmd.specs.declared.faults.Reason.TheVariants.{NoFont, Document as DocumentReason, TooManyTokens, Lacks, Merge}
 use Rattle.t1_cmd.specs.{declared.faults.RunFault.TheVariants.{Refused}, Inputs.{Input, Holds, Say}, Answers.{MayRefuse}, Runs.{InputStops, Stops}}
 use Rattle.t1_cmd.proofs.RunLemmas.{stops_together}
 
@@ -14,6 +15,7 @@ refuses P (JoinReason f) h = h
 refuses P (Font f) h = h
 refuses P (NoGlyph n) h = h
 refuses P (NoCode code) h = h
+refuses P (DocumentReason why) h = h
 refuses P (NoFont n) h = h
 refuses P TooManyTokens h = h
 refuses P (Lacks g k) h = h
@@ -29,6 +31,7 @@ by_answer P Q (JoinReason e) m f h = f (JoinReason e) h
 by_answer P Q (Font e) m f h = f (Font e) h
 by_answer P Q (NoGlyph n) m f h = f (NoGlyph n) h
 by_answer P Q (NoCode code) m f h = f (NoCode code) h
+by_answer P Q (DocumentReason why) m f h = f (DocumentReason why) h
 by_answer P Q (NoFont n) m f h = f (NoFont n) h
 by_answer P Q TooManyTokens m f h = f TooManyTokens h
 by_answer P Q (Lacks g k) m f h = f (Lacks g k) h
@@ -53,6 +56,7 @@ module _ {A : Type 0} (understand : List ℕ → Result A Reason) where
   input_stops i (Font f) h = h
   input_stops i (NoGlyph n) h = h
   input_stops i (NoCode code) h = h
+  input_stops i (DocumentReason why) h = h
   input_stops i (NoFont n) h = h
   input_stops i TooManyTokens h = h
   input_stops i (Lacks g k) h = h

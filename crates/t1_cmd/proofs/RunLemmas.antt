@@ -2,7 +2,8 @@
 use Rattle.std.proofs.Common.{◌≡◌, ◌<◌, ℕ, refl, sym, ◌∙◌, ap, subst, List, [], ◌∷◌, ◌++◌, ◌⊎◌, inl, inr, ⊎_elim, Option, None, Some, Result, Ok, Err, IfSome, arith}
 use Rattle.std.specs.{Prelude.{OnOk, OnErr, IfErr, IsOk, IsOkUnless, option_and_then}, Result.{result_ok}, Io.KnownBytes.{Appends}}
 use Rattle.t1_cmd.specs.{declared.counting.Counted.{Counted}, declared.faults.Reason.{Reason}}
-use Rattle.t1_cmd.specs.{declared.faults.Reason.TheVariants.{TooLong, Memory, List as ListReason, Join as JoinReason, Font, NoGlyph, NoCode, NoFont, TooManyTokens, Lacks, Merge}}
+use Rattle.t1_cmd.specs.declared.faults.Reason.TheVariants.{TooLong, Memory, List as ListReason, Join as JoinReason, Font, NoGlyph, NoCode}
+use Rattle.t1_cmd.specs.declared.faults.Reason.TheVariants.{NoFont, Document as DocumentReason, TooManyTokens, Lacks, Merge}
 use Rattle.t1_cmd.specs.{declared.faults.RunFault.{RunFault}}
 use Rattle.t1_cmd.specs.{declared.faults.RunFault.TheVariants.{Refused, Read, Write}, Count.{inner_of, failed_of, last_count}}
 use Rattle.t1_cmd.specs.Inputs.{Input, Rose, RoseByOne, HasFailed, AllQuiet, Understood, AllUnderstood, IsRefused, FirstWith, value_and, values_of, Say}
@@ -107,6 +108,7 @@ module _ {A : Type 0} (understand : List ℕ → Result A Reason) where
     stops_after front i rest (Refused (Font f)) h s = inl (first_at (IsRefused understand (Font f)) front i rest h s)
     stops_after front i rest (Refused (NoGlyph n)) h s = inl (first_at (IsRefused understand (NoGlyph n)) front i rest h s)
     stops_after front i rest (Refused (NoCode code)) h s = inl (first_at (IsRefused understand (NoCode code)) front i rest h s)
+    stops_after front i rest (Refused (DocumentReason why)) h s = inl (first_at (IsRefused understand (DocumentReason why)) front i rest h s)
     stops_after front i rest (Refused (NoFont n)) h s = inl (first_at (IsRefused understand (NoFont n)) front i rest h s)
     stops_after front i rest (Refused TooManyTokens) h s = inl (first_at (IsRefused understand TooManyTokens) front i rest h s)
     stops_after front i rest (Refused (Lacks g k)) h s = inl (first_at (IsRefused understand (Lacks g k)) front i rest h s)
@@ -136,6 +138,7 @@ module _ {A : Type 0} (understand : List ℕ → Result A Reason) where
         by (Font f) b = inr (together (Font f) b)
         by (NoGlyph n) b = inr (together (NoGlyph n) b)
         by (NoCode code) b = inr (together (NoCode code) b)
+        by (DocumentReason why) b = inr (together (DocumentReason why) b)
         by (NoFont n) b = inr (together (NoFont n) b)
         by TooManyTokens b = inr (together TooManyTokens b)
         by (Lacks g k) b = inr (together (Lacks g k) b)
@@ -186,6 +189,7 @@ module _ {A : Type 0} (understand : List ℕ → Result A Reason) where
         at xs e text a q same low (Err (Refused (Font f))) h = ap Refused (refused xs text (Font f) e a h.1)
         at xs e text a q same low (Err (Refused (NoGlyph n))) h = ap Refused (refused xs text (NoGlyph n) e a h.1)
         at xs e text a q same low (Err (Refused (NoCode code))) h = ap Refused (refused xs text (NoCode code) e a h.1)
+        at xs e text a q same low (Err (Refused (DocumentReason why))) h = ap Refused (refused xs text (DocumentReason why) e a h.1)
         at xs e text a q same low (Err (Refused (NoFont n))) h = ap Refused (refused xs text (NoFont n) e a h.1)
         at xs e text a q same low (Err (Refused TooManyTokens)) h = ap Refused (refused xs text TooManyTokens e a h.1)
         at xs e text a q same low (Err (Refused (Lacks g k))) h = ap Refused (refused xs text (Lacks g k) e a h.1)

@@ -7,7 +7,8 @@ use Rattle.t1_font.{specs.{FontValue.{FontValue}, IsFont.{IsFont}, Canon.{canon,
 use Rattle.t1_subset.{specs.{declared.conflict.Conflict.{Conflict as Refusal}, Merger.{NotMerged}}, proofs.Answered.{of_all_subsets}}
 use Rattle.t1_algebra.{specs.{Interpreter.{Names}, Profile.{profile}, Keep.{subset, IsOf}, Groupings.{union_all}}, proofs.{Fonts.{subset_is_font}, Headline.{subset_again}}}
 use Rattle.t1_cmd.specs.{declared.counting.Counted.{Counted}, declared.faults.Reason.{Reason}}
-use Rattle.t1_cmd.specs.{declared.faults.Reason.TheVariants.{TooLong, Memory, List as ListReason, Join as JoinReason, Font, NoGlyph, NoCode, NoFont, TooManyTokens, Lacks, Merge}}
+use Rattle.t1_cmd.specs.declared.faults.Reason.TheVariants.{TooLong, Memory, List as ListReason, Join as JoinReason, Font, NoGlyph, NoCode}
+use Rattle.t1_cmd.specs.declared.faults.Reason.TheVariants.{NoFont, Document as DocumentReason, TooManyTokens, Lacks, Merge}
 use Rattle.t1_cmd.specs.{declared.faults.RunFault.{RunFault}}
 use Rattle.t1_cmd.specs.{Inputs.{Input, values_of, value_and}, Answers.{with_reason}, declared.faults.FilesRefusal.{FilesRefusal}, Files.{Values, value_before, values_from, OfFiles, RefusesFiles}}
 use Rattle.t1_cmd.specs.{Runs.{RunEnds}, Fonts.{font_input, font_reason}, Mergers.{IsTold, MergesToFile}, WrittenSubsets.{AreSubsetFiles, OfUnion, IsSubset, AreSubsets, WritesUnion}}
@@ -52,6 +53,7 @@ module _ (f : FontValue) (h : IsFont f) where
     refused_so (Font x) d = absurd d
     refused_so (NoGlyph x) d = absurd d
     refused_so (NoCode code) d = absurd d
+    refused_so (DocumentReason why) d = absurd d
     refused_so (NoFont x) d = absurd d
     refused_so TooManyTokens d = absurd d
     refused_so (Lacks g k) d = absurd d

@@ -6,11 +6,17 @@ use Rattle.t1_document.specs.{declared.joins.Outcome.{Outcome}, declared.joins.O
 use Rattle.t1_document.specs.{declared.pooling.Key.{Key}, declared.pooling.Key.TheVariants.{Name, Family}, Lines.{one_text}, Documents.{Place, document_of}}
 use Rattle.t1_document.specs.{Joins.{Outcomes, AreOutcomes, kept_text, names_from, new_texts}, Rewriting.{is_seen}}
 use Rattle.t1_document.specs.{Pooling.{free_start, keyed, left_keys}, PoolLaws.{PooledByKeys}}
-use Rattle.t1_cmd.specs.{declared.faults.Reason.{Reason}, declared.faults.Reason.TheVariants.{TooLong}, Answers.{within_limit}}
+use Rattle.t1_jobs.specs.{declared.jobs.NoDocument.{NoDocument}, Jobs.{Job, job_of}}
+use Rattle.t1_cmd.specs.{declared.faults.Reason.{Reason}, declared.faults.Reason.TheVariants.{TooLong, Document as DocumentReason}, Answers.{within_limit}}
 
--- the bytes of a document
+-- the document of a job, or why there is none
+abbrev pub document_said : Result Job NoDocument → Result (List ℕ) Reason
+document_said (Ok job) = Ok job.document
+document_said (Err why) = Err (DocumentReason why)
+
+-- the document that a file carries
 abbrev pub text_input : List ℕ → Result (List ℕ) Reason
-text_input = within_limit (λ bytes. Ok bytes)
+text_input = within_limit (λ bytes. document_said (job_of bytes))
 
 -- ---- pooled
 

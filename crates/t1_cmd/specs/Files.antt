@@ -28,6 +28,10 @@ module _ {A : Type 0} (understand : List ℕ → Result A Reason) where
   IsUnread files (Some place) reason = values_from 0 files ≡ Err (place, reason)
   IsUnread files None reason = reason ≡ Memory
 
+  -- all files say something, and that has this fact
+  abbrev pub SaidBy : (List A → Type 0) → List (List ℕ) → Type 0
+  SaidBy Has files = (values : List A) × (values_from 0 files ≡ Ok values) × Has values
+
   module _ (Answers : List A → Result (List ℕ) Reason → Type 0) (files : List (List ℕ)) where
     -- all files say something, and this answers it
     abbrev pub OfFiles : Result (List ℕ) Reason → Type 0

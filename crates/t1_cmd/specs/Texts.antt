@@ -2,9 +2,11 @@
 use Rattle.std.specs.{Prelude.{ℕ, List, [], ◌∷◌, ◌++◌, codes}, Fmt.{decimal}}
 use Rattle.t1_font.specs.FaultTexts.{fault_text}
 use Rattle.t1_join.specs.{Shown.{shown}, FaultTexts.{list_text, join_text}}
+use Rattle.t1_jobs.specs.Jobs.{no_document_text}
 use Rattle.t1_subset.specs.FaultTexts.{conflict_text}
 use Rattle.t1_cmd.specs.{declared.faults.Reason.{Reason}}
-use Rattle.t1_cmd.specs.{declared.faults.Reason.TheVariants.{TooLong, Memory, List as ListReason, Join as JoinReason, Font, NoGlyph, NoCode, NoFont, TooManyTokens, Lacks, Merge}}
+use Rattle.t1_cmd.specs.declared.faults.Reason.TheVariants.{TooLong, Memory, List as ListReason, Join as JoinReason, Font, NoGlyph, NoCode}
+use Rattle.t1_cmd.specs.declared.faults.Reason.TheVariants.{NoFont, Document as DocumentReason, TooManyTokens, Lacks, Merge}
 use Rattle.t1_cmd.specs.{declared.faults.RunFault.{RunFault}, declared.faults.RunFault.TheVariants.{Refused, Read, Write}}
 
 -- what is printed of a reason
@@ -17,6 +19,7 @@ reason_text (Font f) = fault_text f
 reason_text (NoGlyph name) = codes "no glyph " ++ shown name
 reason_text (NoCode code) = codes "no code " ++ decimal code
 reason_text (NoFont name) = codes "no font " ++ shown name
+reason_text (DocumentReason why) = no_document_text why
 reason_text TooManyTokens = codes "too many tokens"
 reason_text (Lacks glyph index) = codes "glyph " ++ (shown glyph ++ (codes " lacks subr " ++ decimal index))
 reason_text (Merge e) = conflict_text e

@@ -5,7 +5,7 @@ ghost use Rattle.t1_cmd.specs.{declared.faults.Reason.{Reason}, Answers.{MayRefu
 ghost use Rattle.t1_cmd.specs.{Runs.{RunEnds}, Documents.{text_input}};
 
 use crate::counting::Counted;
-use crate::documents::{each_fits, lent, read_texts};
+use crate::documents::{documents_in, lent, read_texts};
 use crate::faults::{FilesRefusal, Reason, RunFault};
 use crate::writing::write_text;
 use std::alloc::Global;
@@ -31,11 +31,11 @@ pub(crate) fn text_of_documents<T: DocumentsCommand>(
         (λ text. OfFiles text_input (T.Answers command.now) (lent documents.now) (Ok text.items)) }
     ensures refused { IfErr result (RefusesFiles text_input (T.Answers command.now) (lent documents.now)) }
 {
-    match each_fits(documents) {
-        Ok(()) => {}
+    let carried = match documents_in(alloc, documents) {
+        Ok(carried) => carried,
         Err(refusal) => return Err(refusal),
-    }
-    match command.text(alloc, documents) {
+    };
+    match command.text(alloc, carried.as_slice()) {
         Ok(text) => Ok(text),
         Err(reason) => Err(FilesRefusal {
             place: None,

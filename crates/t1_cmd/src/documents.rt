@@ -1,18 +1,19 @@
 //! The engines over documents: each font once, or one font at each place of a name.
-ghost use Rattle.std.specs.Prelude.{Bool, ℕ, List, Some, ◌≡◌, ◌+◌, ◌≤◌, ◌++◌, [], map, length, Ok, OnOk, IfOk, IfErr, IfSome, if◌then◌else◌};
+ghost use Rattle.std.specs.Prelude.{Bool, ℕ, List, Some, ◌≡◌, ◌+◌, ◌≤◌, ◌++◌, [], map, length, Ok, Err, OnOk, IfOk, IfErr, IfSome, MatchResult, if◌then◌else◌};
 ghost use Rattle.std.specs.{Option.{option_copied}, List.{flat_map}};
 ghost use Rattle.t1_bytes.specs.Limits.{file_limit};
 ghost use Rattle.t1_subset.specs.NameSets.{lent};
 ghost use Rattle.t1_document.specs.{Lines.{one_text}, Documents.{document_of}, Groups.{outcome_in}, Joins.{kept_text, names_from}, Rewriting.{is_seen}};
 ghost use Rattle.t1_document.specs.{Texts.{has_text}, Views.{place_view}, PoolLaws.{PooledByKeys}};
 ghost use Rattle.t1_document.specs.{declared.joins.Outcome.TheVariants.{Stays}, declared.joins.Kept.TheVariants.{Barred}};
-ghost use Rattle.t1_cmd.specs.{Count.{calls_counted}, Inputs.{Say, input_of, values_of}, Files.{values_from, IsUnread, OfFiles, RefusesFiles}};
-ghost use Rattle.t1_cmd.specs.{Runs.{ended, InputEnds, RunEnds, Succeeds}, Answers.{MayRefuse}, Mergers.{inputs_of, InTurns, InputsStop}};
+ghost use Rattle.t1_cmd.specs.{Count.{calls_counted, inner_of}, Inputs.{Say, input_of, values_of}, Files.{values_from, IsUnread, SaidBy, OfFiles, RefusesFiles}};
+ghost use Rattle.t1_cmd.specs.{Runs.{ended, InputStops, InputEnds, RunEnds, Succeeds}, Answers.{MayRefuse}, Mergers.{inputs_of, InTurns, InputsStop}};
 ghost use Rattle.t1_cmd.specs.Documents.{text_input, PooledAs, PoolsTo, kept_line, kept_lines, told_of, told_lines, new_lines, TellsKeys, TellsPooled};
 
 use crate::counting::Counted;
 use crate::faults::{FilesRefusal, Reason, RunFault};
 use crate::reading::read_all;
+use crate::several::refused_at;
 use crate::texts::push_shown;
 use crate::writing::write_text;
 use std::alloc::{AllocError, Global};
@@ -21,17 +22,57 @@ use t1_bytes::FILE_LIMIT;
 use t1_document::{
     Joins, Kept, Key, Outcome, Place, PooledText, Texts, names_of, pool_document, push_document,
 };
+use t1_jobs::job_of;
 use t1_join::push_item;
 
 // ---- reading
 
-// The bytes of the document that a reader has.
+// The document that a file carries.
+fn carried_in(file: &[u8]) -> Result<&[u8], Reason>
+    ensures { MatchResult result (λ d. text_input file.now ≡ Ok d.now) (λ e. text_input file.now ≡ Err e) }
+{
+    if file.len() > FILE_LIMIT {
+        return Err(Reason::TooLong);
+    }
+    match job_of(file) {
+        Ok(job) => Ok(job.document),
+        Err(why) => Err(Reason::Document(why)),
+    }
+}
+
+// The same in a vector of its own.
+fn document_in(alloc: Global, file: &[u8]) -> Result<Vec<u8>, Reason>
+    ensures document { IfOk result (λ d. text_input file.now ≡ Ok d.items) }
+    ensures refused { IfErr result (MayRefuse (λ a. a ≡ text_input file.now)) }
+{
+    match carried_in(file) {
+        Ok(document) => Ok(document.to_vec(alloc)?),
+        Err(reason) => Err(reason),
+    }
+}
+
+// All the bytes of a reader.
+fn read_file<R: Read>(alloc: Global, reader: &mut Counted<R>) -> Result<Vec<u8>, RunFault>
+    ensures file { IfOk result
+        (λ file. IfSome (R.remaining (inner_of reader.old)) (λ bytes. file.items ≡ bytes)) }
+    ensures refused { IfErr result
+        (InputStops text_input (input_of R.remaining reader.old reader.new)) }
+    ensures turns { calls_counted reader.new ≤ calls_counted reader.old + (file_limit + 1) }
+{
+    read_all(alloc, reader, FILE_LIMIT)
+}
+
+// The document that a reader's file carries.
 fn read_text<R: Read>(alloc: Global, reader: &mut Counted<R>) -> Result<Vec<u8>, RunFault>
     ensures ends { InputEnds text_input (λ v. v.items)
         (input_of R.remaining reader.old reader.new) result }
     ensures turns { calls_counted reader.new ≤ calls_counted reader.old + (file_limit + 1) }
 {
-    read_all(alloc, reader, FILE_LIMIT)
+    let file = read_file(alloc, reader)?;
+    match document_in(alloc, file.as_slice()) {
+        Ok(document) => Ok(document),
+        Err(reason) => Err(RunFault::Refused(reason)),
+    }
 }
 
 // The documents that the readers have, one after the other.
@@ -56,20 +97,25 @@ pub(crate) fn read_texts<R: Read>(
     Ok(texts)
 }
 
-// That each of some documents is within the file limit.
-pub(crate) fn each_fits(documents: &[&[u8]]) -> Result<(), FilesRefusal>
-    ensures fit { OnOk result (values_from text_input 0 (lent documents.now) ≡ Ok (lent documents.now)) }
-    ensures refused { IfErr result (λ e. IsUnread text_input (lent documents.now) e.place e.reason) }
+// The documents that files carry.
+pub(crate) fn documents_in<'a>(
+    alloc: Global,
+    files: &[&'a [u8]],
+) -> Result<Vec<&'a [u8]>, FilesRefusal>
+    ensures documents { IfOk result (λ ds. values_from text_input 0 (lent files.now) ≡ Ok (lent ds.items)) }
+    ensures refused { IfErr result (λ e. IsUnread text_input (lent files.now) e.place e.reason) }
 {
-    'documents: for place in 0..documents.len() {
-        if documents[place].len() > FILE_LIMIT {
-            return Err(FilesRefusal {
-                place: Some(place),
-                reason: Reason::TooLong,
-            });
+    let mut documents = Vec::new(alloc);
+    'files: for place in 0..files.len() {
+        let document = match carried_in(files[place]) {
+            Ok(document) => document,
+            Err(reason) => return Err(refused_at(place, reason)),
+        };
+        if documents.push(document).is_err() {
+            return Err(refused_at(place, Reason::Memory));
         }
     }
-    Ok(())
+    Ok(documents)
 }
 
 // Documents, lent.
@@ -316,18 +362,18 @@ fn pool(alloc: Global, tags: bool, documents: &[&[u8]]) -> Result<Pooled, Reason
 ///
 /// # Errors
 ///
-/// [`Reason::TooLong`] with the place of the first document that is over the file limit, and without a place if all together are;
-/// [`Reason::Memory`] if a growth was refused.
+/// [`Reason::TooLong`] or [`Reason::Document`] with the place of the first file that is over the file limit or carries no document, and
+/// [`Reason::TooLong`] without a place if all documents together are over it; [`Reason::Memory`] if a growth was refused.
 pub fn pool_files(alloc: Global, tags: bool, documents: &[&[u8]]) -> Result<Pooled, FilesRefusal>
     ensures text { IfOk result (λ p. OfFiles text_input (PoolsTo tags) (lent documents.now) (Ok p.text.items)) }
-    ensures kept { IfOk result (λ p. TellsPooled tags (one_text (lent documents.now)) p.kept.items) }
+    ensures kept { IfOk result (λ p. SaidBy text_input (λ ds. TellsPooled tags (one_text ds) p.kept.items) (lent documents.now)) }
     ensures refused { IfErr result (RefusesFiles text_input (PoolsTo tags) (lent documents.now)) }
 {
-    match each_fits(documents) {
-        Ok(()) => {}
+    let carried = match documents_in(alloc, documents) {
+        Ok(carried) => carried,
         Err(refusal) => return Err(refusal),
-    }
-    match pool(alloc, tags, documents) {
+    };
+    match pool(alloc, tags, carried.as_slice()) {
         Ok(pooled) => Ok(pooled),
         Err(reason) => Err(FilesRefusal {
             place: None,
@@ -374,8 +420,10 @@ fn write_pooled<R: Read, W: Write>(
 /// A name keeps its fonts if they don't rejoin, or if they do and can't stand before the documents, or a line can't stand at a place.
 /// With `tags` the lines of the families that keep theirs stand behind those of the names, but no line stands twice.
 ///
+/// A file may carry its document in a print job or in an EPS file for DOS ([`job_of`]); what stands around it is left out.
+///
 /// The inputs are read one after the other. [`Reason::TooLong`] is answered if one of them, or all together, are over the file
-/// limit. Nothing else is refused but for want of memory.
+/// limit, and [`Reason::Document`] if one carries no document. Nothing else is refused but for want of memory.
 pub fn run_pool<R: Read, W: Write>(
     alloc: Global,
     tags: bool,

@@ -6,6 +6,7 @@ use std::alloc::{AllocError, Global};
 use std::fmt;
 use std::marker::Model;
 use t1_font::ReadFault;
+use t1_jobs::NoDocument;
 use t1_join::{JoinFault, ListFault, Shown};
 use t1_subset::Conflict;
 use thiserror::Error;
@@ -64,6 +65,8 @@ pub enum Reason {
     NoCode { code: u8 },
     /// No document has a font of this name.
     NoFont { name: Name },
+    /// A file carries no PostScript document.
+    Document(NoDocument),
     /// The glyphs that have to be run execute more tokens than the budget has.
     TooManyTokens,
     /// Of fonts that are rejoined, the first that lacks a Subr which its glyph executes and another of the fonts has: a stub there
@@ -89,6 +92,7 @@ impl fmt::Display for Reason {
             Reason::NoGlyph { name } => write!(f, "no glyph {}", Shown(name.as_bytes())),
             Reason::NoCode { code } => write!(f, "no code {code}"),
             Reason::NoFont { name } => write!(f, "no font {}", Shown(name.as_bytes())),
+            Reason::Document(why) => write!(f, "{why}"),
             Reason::TooManyTokens => f.write_str("too many tokens"),
             Reason::Lacks { glyph, index } => {
                 write!(f, "glyph {} lacks subr {index}", Shown(glyph.as_bytes()))

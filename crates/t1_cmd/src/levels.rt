@@ -4,10 +4,10 @@ ghost use Rattle.t1_subset.specs.NameSets.{lent};
 ghost use Rattle.t1_document.specs.{Documents.{document_of}, Rewriting.{document_levelled}, Texts.{text_in}, Views.{document_view}};
 ghost use Rattle.t1_document.specs.Joins.{places_of_all, LevelsTo};
 ghost use Rattle.t1_cmd.specs.{declared.faults.Reason.TheVariants.{Memory}, declared.faults.RunFault.TheVariants.{Refused}, Inputs.{AllQuiet, values_of}};
-ghost use Rattle.t1_cmd.specs.{Files.{values_from, IsUnread}, Mergers.{inputs_of, InTurns, InputsStop}, Documents.{text_input, TellsKept}};
+ghost use Rattle.t1_cmd.specs.{Files.{SaidBy, IsUnread}, Mergers.{inputs_of, InTurns, InputsStop}, Documents.{text_input, TellsKept}};
 
 use crate::counting::Counted;
-use crate::documents::{each_fits, kept_lines, lent, read_texts};
+use crate::documents::{documents_in, kept_lines, lent, read_texts};
 use crate::faults::{FilesRefusal, Reason, RunFault};
 use std::alloc::{AllocError, Global};
 use std::io::Read;
@@ -97,16 +97,15 @@ fn level(alloc: Global, texts: &[&[u8]]) -> Result<Levelled, AllocError>
 /// [`Reason::TooLong`] with the place of the first document that is over the file limit; [`Reason::Memory`] if a growth was
 /// refused.
 pub fn level_files(alloc: Global, documents: &[&[u8]]) -> Result<Levelled, FilesRefusal>
-    ensures fit { OnOk result (values_from text_input 0 (lent documents.now) ≡ Ok (lent documents.now)) }
-    ensures levels { IfOk result (λ l. LevelsTo (lent documents.now) (map (λ t. t.items) l.texts.items)) }
-    ensures kept { IfOk result (λ l. TellsKept (places_of_all (lent documents.now)) l.kept.items) }
+    ensures levels { IfOk result (λ l. SaidBy text_input (λ ds. LevelsTo ds (map (λ t. t.items) l.texts.items)) (lent documents.now)) }
+    ensures kept { IfOk result (λ l. SaidBy text_input (λ ds. TellsKept (places_of_all ds) l.kept.items) (lent documents.now)) }
     ensures refused { IfErr result (λ e. IsUnread text_input (lent documents.now) e.place e.reason) }
 {
-    match each_fits(documents) {
-        Ok(()) => {}
+    let carried = match documents_in(alloc, documents) {
+        Ok(carried) => carried,
         Err(refusal) => return Err(refusal),
-    }
-    match level(alloc, documents) {
+    };
+    match level(alloc, carried.as_slice()) {
         Ok(levelled) => Ok(levelled),
         Err(_) => Err(FilesRefusal {
             place: None,

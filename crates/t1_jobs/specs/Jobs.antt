@@ -3,7 +3,7 @@ use Rattle.std.specs.Prelude.{ℕ, ◌-◌, Bool, List, ◌++◌, length, take, 
 use Rattle.std.specs.{Option.{option_and_then, option_map}, Result.{result_ok}}
 use Rattle.t1_jobs.specs.{declared.jobs.NoDocument.{NoDocument}}
 use Rattle.t1_jobs.specs.declared.jobs.NoDocument.TheVariants.{IsA, BadHeader, JobEnds}
-use Rattle.t1_jobs.specs.{Kinds.{begins_with, file_kind}, Words.{behind_words, document_len}, Dos.{dos_mark, dos_postscript, with_postscript}}
+use Rattle.t1_jobs.specs.{Kinds.{begins_with, file_kind, kind_text}, Words.{behind_words, document_len}, Dos.{dos_mark, dos_postscript, with_postscript}}
 
 -- a document, and how many bytes stand before it and behind it in its job
 pub record Job : Type 0 where
@@ -58,3 +58,11 @@ dos_with_document file document (Some job) = option_and_then (with_postscript fi
 -- a file that carries this document in place of its own, where there is one; none where the header of an EPS file for DOS can't say how long it is
 abbrev pub with_document : List ℕ → List ℕ → Option (List ℕ)
 with_document file document = if is_dos file then dos_with_document file document (dos_postscript file) else job_with_document file document
+
+-- ---- what is printed
+
+-- what is printed where a file carries no document
+abbrev pub no_document_text : NoDocument → List ℕ
+no_document_text (IsA kind) = codes "no document: " ++ kind_text kind
+no_document_text BadHeader = codes "no document: an EPS file for DOS without its PostScript"
+no_document_text JobEnds = codes "no document: a job ends inside"

@@ -8,6 +8,7 @@ use crate::dos::{DOS_MARK, dos_postscript, with_postscript};
 use crate::kinds::{FileKind, begins_with, file_kind};
 use crate::words::{behind_words, document_len};
 use std::alloc::{AllocError, Global};
+use std::fmt;
 
 /// The document that a file carries, and how many bytes stand before it and behind it in its job: the words of a printer.
 #[derive(Clone, Copy)]
@@ -29,6 +30,23 @@ pub enum NoDocument {
     BadHeader,
     /// Behind the end of a job inside it something else begins.
     JobEnds,
+}
+
+impl fmt::Display for NoDocument {
+    ghost use Rattle.std.specs.Prelude.{Some};
+    ghost use Rattle.t1_jobs.specs.Jobs.{no_document_text};
+
+    ghost output = { λ why. Some (no_document_text why) };
+
+    fn fmt<W: fmt::Write>(&self, f: &mut fmt::Formatter<W>) -> fmt::Result {
+        match self {
+            NoDocument::IsA(kind) => write!(f, "no document: {kind}"),
+            NoDocument::BadHeader => f.write_str(
+                "no document: an EPS file for DOS without its PostScript",
+            ),
+            NoDocument::JobEnds => f.write_str("no document: a job ends inside"),
+        }
+    }
 }
 
 /// The document of a job that begins with words before this text.

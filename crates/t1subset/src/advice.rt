@@ -64,6 +64,10 @@ The font has no glyph of this name, the first missing one that was asked for. t1
 const NO_FONT_NAME: &str = "\
 No place of a font in the documents has this name. t1subset fonts prints the names.";
 
+const NO_DOCUMENT_WHAT: &str = "\
+A document begins with %!, behind the words of a print job (^D, the universal exit, lines of PJL) or in an EPS file for DOS, and one job holds one \
+document. WHAT says what the file is: convert a PDF file with pdftops, decompress a packed file, split a file of several jobs.";
+
 const NO_CODE_N: &str = "\
 The font's Encoding has no name for this code, the first such code that was asked for. t1subset list prints the codes; ask for the glyph by its name.";
 
@@ -172,6 +176,7 @@ fn of_reason(reason: &Reason) -> &'static str {
         Reason::NoGlyph { .. } => NO_GLYPH_NAME,
         Reason::NoFont { .. } => NO_FONT_NAME,
         Reason::NoCode { .. } => NO_CODE_N,
+        Reason::Document(_) => NO_DOCUMENT_WHAT,
         Reason::TooManyTokens => TOO_MANY_TOKENS,
         Reason::Lacks { .. } => GLYPH_NAME_LACKS_SUBR_N,
         Reason::Merge(conflict) => of_conflict(conflict),
