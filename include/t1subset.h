@@ -203,16 +203,15 @@ uint32_t t1subset_diff_within(const uint8_t *first, size_t first_size, const uin
 uint32_t t1subset_join(const uint8_t *first, size_t first_size, const uint8_t *second, size_t second_size, t1subset_answer *answer);
 
 /* PostScript documents, one behind the other, with each font once. Where a font may stand says t1subset(1), under pool. Fonts
- * of one name that are the same or rejoin become one font, which keeps the name: it stands at the first place of the name
- * that is in no embedded document and at each place before, and later places are emptied. The fonts of any other name
- * stay: t1subset_fonts says why fonts don't rejoin. Every other byte stays, and an LF stands between two documents where no line
- * ends there. What a first place defines has to be in force at the later ones: a restore between them would take it away.
+ * of one name that are the same or rejoin become one font, which keeps the name: if the name has several places, it stands
+ * before the first document, as "/pool:NAME", and each place has the line "/NAME /pool:NAME findfont definefont pop" in its
+ * stead. The fonts of any other name stay: t1subset_fonts says why fonts don't rejoin. Every other byte stays, and an LF stands
+ * between two documents where no line ends there.
  * The only refusals are T1SUBSET_MEMORY and T1SUBSET_FILE_TOO_LONG, of a document, or of all together (input -1). */
 uint32_t t1subset_pool(const t1subset_bytes *documents, size_t count, t1subset_answer *answer);
 
-/* The same, where names that are equal without the tags that they begin with, six capitals and "+", also have one font: of these
- * names the first that stands in no embedded document leads, and behind it each place of another has, in place of its font, the
- * line "/NAME /LEADER findfont definefont pop". Names whose fonts don't rejoin under the leader's stay. */
+/* The same, and then once more with names that are equal without the tags that they begin with, six capitals and "+": these have
+ * one font if their fonts rejoin, whose name before the first document has no tags. */
 uint32_t t1subset_pool_tags(const t1subset_bytes *documents, size_t count, t1subset_answer *answer);
 
 /* Documents in which each place of a name has the joined font, so that any of them may be printed without the others.

@@ -113,16 +113,15 @@ OUT comes first: `t1subset pool a.ps b.ps` overwrites a.ps.
 Writes PostScript documents one behind the other to OUT, with each font once.
 A font stands between a line %%BeginFont, %%BeginResource or %%BeginProcSet and
 the line that ends it; its cipher is hexadecimal. Fonts that have one name are
-rejoined, and keep it. Behind the first place of a name that is in no embedded
-document, later places lose the font and what follows it there. Nothing else
-changes. The fonts of a name that don't rejoin stay as they are, and a line on
-standard error tells why. What a first place defines has to be in force at the
-later ones: with a `restore` between them use the documents as they are. OUT is
-opened only when the result is complete.
+rejoined, and keep it. Where a name has several places, its font stands before
+the first document, under the name /pool:NAME, and each place has the line
+`/NAME /pool:NAME findfont definefont pop` in place of its font. Nothing else
+changes. The fonts of a name that don't rejoin, or don't fit there, stay as they
+are, and a line on standard error tells why. OUT is opened only when the result
+is complete.
 
-With --tags, names that are equal without their tags, six capitals and `+`, are
-one: a later place with another such name becomes the line
-`/NAME /FIRST findfont definefont pop`.
+With --tags, names that are equal without their tags, six capitals and `+`, then
+have one font, too: /pool:NAME, without the tags.
 
 Examples: t1subset pool all.ps one.ps two.ps
           t1subset pool --tags all.ps one.ps two.ps";
