@@ -7,16 +7,26 @@ use Rattle.t1_document.specs.{declared.pooling.Key.{Key}, declared.pooling.Key.T
 use Rattle.t1_document.specs.{Joins.{Outcomes, AreOutcomes, kept_text, names_from, new_texts}, Rewriting.{is_seen}}
 use Rattle.t1_document.specs.{Pooling.{free_start, keyed, left_keys}, PoolLaws.{PooledByKeys}}
 use Rattle.t1_jobs.specs.{declared.jobs.NoDocument.{NoDocument}, Jobs.{Job, job_of}}
+use Rattle.t1_cmd.specs.{declared.documents.Taken.{Taken}, declared.documents.Taken.TheVariants.{Document, File}}
 use Rattle.t1_cmd.specs.{declared.faults.Reason.{Reason}, declared.faults.Reason.TheVariants.{TooLong, Document as DocumentReason}, Answers.{within_limit}}
 
--- the document of a job, or why there is none
-abbrev pub document_said : Result Job NoDocument → Result (List ℕ) Reason
-document_said (Ok job) = Ok job.document
-document_said (Err why) = Err (DocumentReason why)
+-- the document of a job, or the file in which that job is; or why there is none
+abbrev pub taken_of : Taken → List ℕ → Result Job NoDocument → Result (List ℕ) Reason
+taken_of taken file (Err why) = Err (DocumentReason why)
+taken_of Document file (Ok job) = Ok job.document
+taken_of File file (Ok job) = Ok file
+
+-- what is taken of a file that carries a document
+abbrev pub taken_input : Taken → List ℕ → Result (List ℕ) Reason
+taken_input taken = within_limit (λ bytes. taken_of taken bytes (job_of bytes))
 
 -- the document that a file carries
 abbrev pub text_input : List ℕ → Result (List ℕ) Reason
-text_input = within_limit (λ bytes. document_said (job_of bytes))
+text_input = taken_input Document
+
+-- the file itself
+abbrev pub file_input : List ℕ → Result (List ℕ) Reason
+file_input = taken_input File
 
 -- ---- pooled
 

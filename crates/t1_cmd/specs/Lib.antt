@@ -20,5 +20,6 @@ pub mod Cuts
 pub mod CodeLists
 pub mod FullText
 pub mod Documents
+pub mod Levels
 pub mod FontPlaces
 pub mod Extracts

@@ -5,7 +5,7 @@ ghost use Rattle.t1_cmd.specs.{declared.faults.Reason.{Reason}, Answers.{MayRefu
 ghost use Rattle.t1_cmd.specs.{Runs.{RunEnds}, Documents.{text_input}};
 
 use crate::counting::Counted;
-use crate::documents::{documents_in, lent, read_texts};
+use crate::documents::{Taken, all_taken, lent, read_texts};
 use crate::faults::{FilesRefusal, Reason, RunFault};
 use crate::writing::write_text;
 use std::alloc::Global;
@@ -31,7 +31,7 @@ pub(crate) fn text_of_documents<T: DocumentsCommand>(
         (λ text. OfFiles text_input (T.Answers command.now) (lent documents.now) (Ok text.items)) }
     ensures refused { IfErr result (RefusesFiles text_input (T.Answers command.now) (lent documents.now)) }
 {
-    let carried = match documents_in(alloc, documents) {
+    let carried = match all_taken(alloc, Taken::Document, documents) {
         Ok(carried) => carried,
         Err(refusal) => return Err(refusal),
     };
@@ -55,7 +55,7 @@ pub(crate) fn run_documents<T: DocumentsCommand, R: Read, W: Write>(
         (inputs_of R.remaining readers.old readers.new) writer.old writer.new result }
     ensures turns { InTurns readers.old readers.new }
 {
-    let texts = match read_texts(alloc, readers) {
+    let texts = match read_texts(alloc, Taken::Document, readers) {
         Ok(texts) => texts,
         Err(fault) => return Err(fault),
     };

@@ -8,7 +8,7 @@ ghost use Rattle.t1_document.specs.{Texts.{has_text}, Views.{place_view}, PoolLa
 ghost use Rattle.t1_document.specs.{declared.joins.Outcome.TheVariants.{Stays}, declared.joins.Kept.TheVariants.{Barred}};
 ghost use Rattle.t1_cmd.specs.{Count.{calls_counted, inner_of}, Inputs.{Say, input_of, values_of}, Files.{values_from, IsUnread, SaidBy, OfFiles, RefusesFiles}};
 ghost use Rattle.t1_cmd.specs.{Runs.{ended, InputStops, InputEnds, RunEnds, Succeeds}, Answers.{MayRefuse}, Mergers.{inputs_of, InTurns, InputsStop}};
-ghost use Rattle.t1_cmd.specs.Documents.{text_input, PooledAs, PoolsTo, kept_line, kept_lines, told_of, told_lines, new_lines, TellsKeys, TellsPooled};
+ghost use Rattle.t1_cmd.specs.Documents.{taken_input, text_input, PooledAs, PoolsTo, kept_line, kept_lines, told_of, told_lines, new_lines, TellsKeys, TellsPooled};
 
 use crate::counting::Counted;
 use crate::faults::{FilesRefusal, Reason, RunFault};
@@ -27,68 +27,89 @@ use t1_join::push_item;
 
 // ---- reading
 
-// The document that a file carries.
-fn carried_in(file: &[u8]) -> Result<&[u8], Reason>
-    ensures { MatchResult result (λ d. text_input file.now ≡ Ok d.now) (λ e. text_input file.now ≡ Err e) }
+// What is taken of a file that carries a document.
+#[derive(Clone, Copy)]
+pub(crate) enum Taken {
+    // The document.
+    Document,
+    // All of the file.
+    File,
+}
+
+// What is taken of a file that carries a document.
+fn taken_from(taken: Taken, file: &[u8]) -> Result<&[u8], Reason>
+    ensures { MatchResult result (λ d. taken_input taken file.now ≡ Ok d.now) (λ e. taken_input taken file.now ≡ Err e) }
 {
     if file.len() > FILE_LIMIT {
         return Err(Reason::TooLong);
     }
     match job_of(file) {
-        Ok(job) => Ok(job.document),
+        Ok(job) => Ok(match taken {
+            Taken::Document => job.document,
+            Taken::File => file,
+        }),
         Err(why) => Err(Reason::Document(why)),
     }
 }
 
 // The same in a vector of its own.
-fn document_in(alloc: Global, file: &[u8]) -> Result<Vec<u8>, Reason>
-    ensures document { IfOk result (λ d. text_input file.now ≡ Ok d.items) }
-    ensures refused { IfErr result (MayRefuse (λ a. a ≡ text_input file.now)) }
+fn taken_copy(alloc: Global, taken: Taken, file: &[u8]) -> Result<Vec<u8>, Reason>
+    ensures bytes { IfOk result (λ d. taken_input taken file.now ≡ Ok d.items) }
+    ensures refused { IfErr result (MayRefuse (λ a. a ≡ taken_input taken file.now)) }
 {
-    match carried_in(file) {
-        Ok(document) => Ok(document.to_vec(alloc)?),
+    match taken_from(taken, file) {
+        Ok(bytes) => Ok(bytes.to_vec(alloc)?),
         Err(reason) => Err(reason),
     }
 }
 
 // All the bytes of a reader.
-fn read_file<R: Read>(alloc: Global, reader: &mut Counted<R>) -> Result<Vec<u8>, RunFault>
+fn read_file<R: Read>(
+    alloc: Global,
+    taken: Taken,
+    reader: &mut Counted<R>,
+) -> Result<Vec<u8>, RunFault>
     ensures file { IfOk result
         (λ file. IfSome (R.remaining (inner_of reader.old)) (λ bytes. file.items ≡ bytes)) }
     ensures refused { IfErr result
-        (InputStops text_input (input_of R.remaining reader.old reader.new)) }
+        (InputStops (taken_input taken) (input_of R.remaining reader.old reader.new)) }
     ensures turns { calls_counted reader.new ≤ calls_counted reader.old + (file_limit + 1) }
 {
     read_all(alloc, reader, FILE_LIMIT)
 }
 
-// The document that a reader's file carries.
-fn read_text<R: Read>(alloc: Global, reader: &mut Counted<R>) -> Result<Vec<u8>, RunFault>
-    ensures ends { InputEnds text_input (λ v. v.items)
+// What is taken of a reader's file.
+fn read_text<R: Read>(
+    alloc: Global,
+    taken: Taken,
+    reader: &mut Counted<R>,
+) -> Result<Vec<u8>, RunFault>
+    ensures ends { InputEnds (taken_input taken) (λ v. v.items)
         (input_of R.remaining reader.old reader.new) result }
     ensures turns { calls_counted reader.new ≤ calls_counted reader.old + (file_limit + 1) }
 {
-    let file = read_file(alloc, reader)?;
-    match document_in(alloc, file.as_slice()) {
-        Ok(document) => Ok(document),
+    let file = read_file(alloc, taken, reader)?;
+    match taken_copy(alloc, taken, file.as_slice()) {
+        Ok(bytes) => Ok(bytes),
         Err(reason) => Err(RunFault::Refused(reason)),
     }
 }
 
-// The documents that the readers have, one after the other.
+// What is taken of the readers' files, one after the other.
 pub(crate) fn read_texts<R: Read>(
     alloc: Global,
+    taken: Taken,
     readers: &mut [Counted<R>],
 ) -> Result<Vec<Vec<u8>>, RunFault>
     ensures says { IfOk result
-        (λ texts. Say text_input (inputs_of R.remaining readers.old readers.new) (map (λ v. v.items) texts.items)) }
+        (λ texts. Say (taken_input taken) (inputs_of R.remaining readers.old readers.new) (map (λ v. v.items) texts.items)) }
     ensures stops { IfErr result
-        (λ e. InputsStop text_input (inputs_of R.remaining readers.old readers.new) e) }
+        (λ e. InputsStop (taken_input taken) (inputs_of R.remaining readers.old readers.new) e) }
     ensures turns { InTurns readers.old readers.new }
 {
     let mut texts = Vec::new(alloc);
     'readers: for i in 0..readers.len() {
-        let text = match read_text(alloc, &mut readers[i]) {
+        let text = match read_text(alloc, taken, &mut readers[i]) {
             Ok(text) => text,
             Err(fault) => return Err(fault),
         };
@@ -97,25 +118,26 @@ pub(crate) fn read_texts<R: Read>(
     Ok(texts)
 }
 
-// The documents that files carry.
-pub(crate) fn documents_in<'a>(
+// What is taken of files.
+pub(crate) fn all_taken<'a>(
     alloc: Global,
+    taken: Taken,
     files: &[&'a [u8]],
 ) -> Result<Vec<&'a [u8]>, FilesRefusal>
-    ensures documents { IfOk result (λ ds. values_from text_input 0 (lent files.now) ≡ Ok (lent ds.items)) }
-    ensures refused { IfErr result (λ e. IsUnread text_input (lent files.now) e.place e.reason) }
+    ensures bytes { IfOk result (λ ds. values_from (taken_input taken) 0 (lent files.now) ≡ Ok (lent ds.items)) }
+    ensures refused { IfErr result (λ e. IsUnread (taken_input taken) (lent files.now) e.place e.reason) }
 {
-    let mut documents = Vec::new(alloc);
+    let mut all = Vec::new(alloc);
     'files: for place in 0..files.len() {
-        let document = match carried_in(files[place]) {
-            Ok(document) => document,
+        let bytes = match taken_from(taken, files[place]) {
+            Ok(bytes) => bytes,
             Err(reason) => return Err(refused_at(place, reason)),
         };
-        if documents.push(document).is_err() {
+        if all.push(bytes).is_err() {
             return Err(refused_at(place, Reason::Memory));
         }
     }
-    Ok(documents)
+    Ok(all)
 }
 
 // Documents, lent.
@@ -369,7 +391,7 @@ pub fn pool_files(alloc: Global, tags: bool, documents: &[&[u8]]) -> Result<Pool
     ensures kept { IfOk result (λ p. SaidBy text_input (λ ds. TellsPooled tags (one_text ds) p.kept.items) (lent documents.now)) }
     ensures refused { IfErr result (RefusesFiles text_input (PoolsTo tags) (lent documents.now)) }
 {
-    let carried = match documents_in(alloc, documents) {
+    let carried = match all_taken(alloc, Taken::Document, documents) {
         Ok(carried) => carried,
         Err(refusal) => return Err(refusal),
     };
@@ -395,7 +417,7 @@ fn write_pooled<R: Read, W: Write>(
         (λ documents. TellsPooled tags (one_text documents) lines.items)) }
     ensures turns { InTurns readers.old readers.new }
 {
-    let texts = match read_texts(alloc, readers) {
+    let texts = match read_texts(alloc, Taken::Document, readers) {
         Ok(texts) => texts,
         Err(fault) => return Err(fault),
     };

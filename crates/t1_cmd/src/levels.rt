@@ -1,17 +1,19 @@
 //! The engine that levels documents: each place of a name gets one font.
 ghost use Rattle.std.specs.{Prelude.{◌≡◌, [], map, Ok, IfOk, IfErr, IfSome, OnOk, IsSome, IsOkUnless}, List.{flat_map}};
 ghost use Rattle.t1_subset.specs.NameSets.{lent};
-ghost use Rattle.t1_document.specs.{Documents.{document_of}, Rewriting.{document_levelled}, Texts.{text_in}, Views.{document_view}};
-ghost use Rattle.t1_document.specs.Joins.{places_of_all, LevelsTo};
+ghost use Rattle.t1_document.specs.{Documents.{document_of}, Texts.{text_in}, Views.{document_view}};
+ghost use Rattle.t1_document.specs.Joins.{places_of_all};
+ghost use Rattle.t1_cmd.specs.Levels.{carried, levelled_file, LevelsFiles};
 ghost use Rattle.t1_cmd.specs.{declared.faults.Reason.TheVariants.{Memory}, declared.faults.RunFault.TheVariants.{Refused}, Inputs.{AllQuiet, values_of}};
-ghost use Rattle.t1_cmd.specs.{Files.{SaidBy, IsUnread}, Mergers.{inputs_of, InTurns, InputsStop}, Documents.{text_input, TellsKept}};
+ghost use Rattle.t1_cmd.specs.{Files.{SaidBy, IsUnread}, Mergers.{inputs_of, InTurns, InputsStop}, Documents.{file_input, TellsKept}};
 
 use crate::counting::Counted;
-use crate::documents::{documents_in, kept_lines, lent, read_texts};
+use crate::documents::{Taken, all_taken, kept_lines, lent, read_texts};
 use crate::faults::{FilesRefusal, Reason, RunFault};
 use std::alloc::{AllocError, Global};
 use std::io::Read;
 use t1_document::{Document, Texts, join_fonts, read_document};
+use t1_jobs::{job_of, with_document};
 use t1_join::push_item;
 
 /// Documents whose fonts of a name are one font at each place.
@@ -55,37 +57,71 @@ pub(crate) fn all_places<'a>(
     Ok(Document { places, last: &[] })
 }
 
-// Each document with new texts.
+// The document that a file carries; no bytes where it carries none.
+fn carried(file: &[u8]) -> &[u8]
+    ensures { result.now ≡ carried file.now }
+{
+    match job_of(file) {
+        Ok(job) => job.document,
+        Err(_) => b"",
+    }
+}
+
+// The documents that files carry.
+fn all_carried<'a>(alloc: Global, files: &[&'a [u8]]) -> Result<Vec<&'a [u8]>, AllocError>
+    ensures { IfOk result (λ ds. lent ds.items ≡ map carried (lent files.now)) }
+{
+    let mut documents = Vec::with_capacity(alloc, files.len())?;
+    'files: for file in files {
+        documents.push(carried(file))?;
+    }
+    Ok(documents)
+}
+
+// A file with its document levelled.
+fn level_file(
+    alloc: Global,
+    file: &[u8],
+    document: &Document<'_>,
+    new: &Texts<'_>,
+) -> Result<Vec<u8>, AllocError>
+    requires { document_view document.now ≡ document_of (carried file.now) }
+    ensures { IfOk result (λ v. v.items ≡ levelled_file (text_in new.now) file.now) }
+{
+    let text = document.level(alloc, new)?;
+    with_document(alloc, file, text.as_slice())
+}
+
+// Each file with its document levelled.
 fn each_level(
     alloc: Global,
+    files: &[&[u8]],
     documents: &[Document<'_>],
     new: &Texts<'_>,
 ) -> Result<Vec<Vec<u8>>, AllocError>
-    ensures { IfOk result (λ v. map (λ t. t.items) v.items
-        ≡ map (document_levelled (text_in new.now)) (map document_view documents.now)) }
+    requires { map document_view documents.now ≡ map (λ f. document_of (carried f)) (lent files.now) }
+    ensures { IfOk result (λ v. map (λ t. t.items) v.items ≡ map (levelled_file (text_in new.now)) (lent files.now)) }
 {
-    let mut texts = Vec::with_capacity(alloc, documents.len())?;
-    'documents: for document in documents {
-        let text = match document.level(alloc, new) {
-            Ok(text) => text,
-            Err(fault) => return Err(fault),
-        };
+    let mut texts = Vec::with_capacity(alloc, files.len())?;
+    'files: for i in 0..files.len() {
+        let text = level_file(alloc, files[i], &documents[i], new)?;
         push_item(&mut texts, text)?;
     }
     Ok(texts)
 }
 
-// Documents whose fonts of a name are one font at each place.
-fn level(alloc: Global, texts: &[&[u8]]) -> Result<Levelled, AllocError>
-    ensures levels { IfOk result (λ l. LevelsTo (lent texts.now) (map (λ t. t.items) l.texts.items)) }
-    ensures kept { IfOk result (λ l. TellsKept (places_of_all (lent texts.now)) l.kept.items) }
+// Files whose documents have one font of a name at each place.
+fn level(alloc: Global, files: &[&[u8]]) -> Result<Levelled, AllocError>
+    ensures levels { IfOk result (λ l. LevelsFiles (lent files.now) (map (λ t. t.items) l.texts.items)) }
+    ensures kept { IfOk result (λ l. TellsKept (places_of_all (map carried (lent files.now))) l.kept.items) }
 {
-    let documents = documents_of(alloc, texts)?;
+    let texts = all_carried(alloc, files)?;
+    let documents = documents_of(alloc, texts.as_slice())?;
     let all = all_places(alloc, documents.as_slice())?;
     let joins = join_fonts(alloc, all.places.as_slice())?;
     let kept = kept_lines(alloc, all.places.as_slice(), &joins)?;
     let new = all.new_texts(alloc, &joins)?;
-    let texts = each_level(alloc, documents.as_slice(), &new)?;
+    let texts = each_level(alloc, files, documents.as_slice(), &new)?;
     Ok(Levelled { texts, kept })
 }
 
@@ -94,18 +130,18 @@ fn level(alloc: Global, texts: &[&[u8]]) -> Result<Levelled, AllocError>
 ///
 /// # Errors
 ///
-/// [`Reason::TooLong`] with the place of the first document that is over the file limit; [`Reason::Memory`] if a growth was
-/// refused.
+/// [`Reason::TooLong`] or [`Reason::Document`] with the place of the first file that is over the file limit or carries no document;
+/// [`Reason::Memory`] if a growth was refused.
 pub fn level_files(alloc: Global, documents: &[&[u8]]) -> Result<Levelled, FilesRefusal>
-    ensures levels { IfOk result (λ l. SaidBy text_input (λ ds. LevelsTo ds (map (λ t. t.items) l.texts.items)) (lent documents.now)) }
-    ensures kept { IfOk result (λ l. SaidBy text_input (λ ds. TellsKept (places_of_all ds) l.kept.items) (lent documents.now)) }
-    ensures refused { IfErr result (λ e. IsUnread text_input (lent documents.now) e.place e.reason) }
+    ensures levels { IfOk result (λ l. SaidBy file_input (λ fs. LevelsFiles fs (map (λ t. t.items) l.texts.items)) (lent documents.now)) }
+    ensures kept { IfOk result (λ l. SaidBy file_input (λ fs. TellsKept (places_of_all (map carried fs)) l.kept.items) (lent documents.now)) }
+    ensures refused { IfErr result (λ e. IsUnread file_input (lent documents.now) e.place e.reason) }
 {
-    let carried = match documents_in(alloc, documents) {
-        Ok(carried) => carried,
+    let files = match all_taken(alloc, Taken::File, documents) {
+        Ok(files) => files,
         Err(refusal) => return Err(refusal),
     };
-    match level(alloc, carried.as_slice()) {
+    match level(alloc, files.as_slice()) {
         Ok(levelled) => Ok(levelled),
         Err(_) => Err(FilesRefusal {
             place: None,
@@ -116,15 +152,15 @@ pub fn level_files(alloc: Global, documents: &[&[u8]]) -> Result<Levelled, Files
 
 // The documents that readers have, levelled.
 fn read_levelled<R: Read>(alloc: Global, readers: &mut [Counted<R>]) -> Result<Levelled, RunFault>
-    ensures levels { IfOk result (λ l. IfSome (values_of text_input (inputs_of R.remaining readers.old readers.new))
-        (λ documents. LevelsTo documents (map (λ t. t.items) l.texts.items))) }
-    ensures told { IfOk result (λ l. IfSome (values_of text_input (inputs_of R.remaining readers.old readers.new))
-        (λ documents. TellsKept (places_of_all documents) l.kept.items)) }
+    ensures levels { IfOk result (λ l. IfSome (values_of file_input (inputs_of R.remaining readers.old readers.new))
+        (λ files. LevelsFiles files (map (λ t. t.items) l.texts.items))) }
+    ensures told { IfOk result (λ l. IfSome (values_of file_input (inputs_of R.remaining readers.old readers.new))
+        (λ files. TellsKept (places_of_all (map carried files)) l.kept.items)) }
     ensures stops { IfErr result
-        (λ e. InputsStop text_input (inputs_of R.remaining readers.old readers.new) e) }
+        (λ e. InputsStop file_input (inputs_of R.remaining readers.old readers.new) e) }
     ensures turns { InTurns readers.old readers.new }
 {
-    let texts = match read_texts(alloc, readers) {
+    let texts = match read_texts(alloc, Taken::File, readers) {
         Ok(texts) => texts,
         Err(fault) => return Err(fault),
     };
@@ -137,18 +173,19 @@ fn read_levelled<R: Read>(alloc: Global, readers: &mut [Counted<R>]) -> Result<L
 ///
 /// Each document is read by itself ([`read_document`]), and the fonts of a name are those of all documents
 /// ([`join_fonts`](t1_document::join_fonts)). Nothing but the font texts of names that don't keep theirs changes
-/// ([`Document::level`]).
+/// ([`Document::level`]). What stands around a document in its file, as the words of a print job or the header of an EPS file for DOS,
+/// stays, too ([`with_document`]).
 ///
-/// The inputs are read one after the other. [`Reason::TooLong`] is answered if one of them is over the file limit. Nothing else
-/// is refused but for want of memory.
+/// The inputs are read one after the other. [`Reason::TooLong`] is answered if one of them is over the file limit, and
+/// [`Reason::Document`] if one carries no document. Nothing else is refused but for want of memory.
 pub fn run_level<R: Read>(alloc: Global, readers: &mut [Counted<R>]) -> Result<Levelled, RunFault>
-    ensures levels { IfOk result (λ l. IfSome (values_of text_input (inputs_of R.remaining readers.old readers.new))
-        (λ documents. LevelsTo documents (map (λ t. t.items) l.texts.items))) }
-    ensures told { IfOk result (λ l. IfSome (values_of text_input (inputs_of R.remaining readers.old readers.new))
-        (λ documents. TellsKept (places_of_all documents) l.kept.items)) }
+    ensures levels { IfOk result (λ l. IfSome (values_of file_input (inputs_of R.remaining readers.old readers.new))
+        (λ files. LevelsFiles files (map (λ t. t.items) l.texts.items))) }
+    ensures told { IfOk result (λ l. IfSome (values_of file_input (inputs_of R.remaining readers.old readers.new))
+        (λ files. TellsKept (places_of_all (map carried files)) l.kept.items)) }
     ensures stops { IfErr result
-        (λ e. InputsStop text_input (inputs_of R.remaining readers.old readers.new) e) }
-    ensures succeeds { IsSome (values_of text_input (inputs_of R.remaining readers.old readers.new))
+        (λ e. InputsStop file_input (inputs_of R.remaining readers.old readers.new) e) }
+    ensures succeeds { IsSome (values_of file_input (inputs_of R.remaining readers.old readers.new))
         → AllQuiet (inputs_of R.remaining readers.old readers.new) → IsOkUnless result (Refused Memory) }
     ensures turns { InTurns readers.old readers.new }
 {

@@ -1,6 +1,5 @@
 -- The document that a file carries, and what stands around it.
 use Rattle.std.specs.Prelude.{ℕ, ◌-◌, Bool, List, ◌++◌, length, take, drop, codes, Option, Some, None, Result, Ok, Err, if◌then◌else◌}
-use Rattle.std.specs.{Option.{option_and_then, option_map}, Result.{result_ok}}
 use Rattle.t1_jobs.specs.{declared.jobs.NoDocument.{NoDocument}}
 use Rattle.t1_jobs.specs.declared.jobs.NoDocument.TheVariants.{IsA, BadHeader, JobEnds}
 use Rattle.t1_jobs.specs.{Kinds.{begins_with, file_kind, kind_text}, Words.{behind_words, document_len}, Dos.{dos_mark, dos_postscript, with_postscript}}
@@ -46,17 +45,31 @@ job_of file = job_by (is_dos file) file
 abbrev pub job_around : List ℕ → List ℕ → Job → List ℕ
 job_around job document j = take j.before job ++ (document ++ drop (length job - j.behind) job)
 
--- the same, if it carries one
-abbrev pub job_with_document : List ℕ → List ℕ → Option (List ℕ)
-job_with_document job document = option_map (job_around job document) (result_ok (in_job job))
+-- the same where there is one; else the document alone
+abbrev pub around_if : List ℕ → List ℕ → Result Job NoDocument → List ℕ
+around_if job document (Ok j) = job_around job document j
+around_if job document (Err why) = document
 
--- an EPS file for DOS whose PostScript carries this document in place of its own
-abbrev pub dos_with_document : List ℕ → List ℕ → Option (List ℕ) → Option (List ℕ)
-dos_with_document file document None = None
-dos_with_document file document (Some job) = option_and_then (with_postscript file) (job_with_document job document)
+-- a job that carries this document in place of its own
+abbrev pub job_with_document : List ℕ → List ℕ → List ℕ
+job_with_document job document = around_if job document (in_job job)
 
--- a file that carries this document in place of its own, where there is one; none where the header of an EPS file for DOS can't say how long it is
-abbrev pub with_document : List ℕ → List ℕ → Option (List ℕ)
+-- a file, or else its PostScript alone
+abbrev pub file_or : Option (List ℕ) → List ℕ → List ℕ
+file_or None postscript = postscript
+file_or (Some file) postscript = file
+
+-- an EPS file for DOS with this PostScript, or the PostScript alone where its header can't say how long that is
+abbrev pub dos_or_postscript : List ℕ → List ℕ → List ℕ
+dos_or_postscript file postscript = file_or (with_postscript file postscript) postscript
+
+-- an EPS file for DOS whose PostScript carries this document in place of its own; where it lacks its PostScript, the document alone
+abbrev pub dos_with_document : List ℕ → List ℕ → Option (List ℕ) → List ℕ
+dos_with_document file document None = document
+dos_with_document file document (Some job) = dos_or_postscript file (job_with_document job document)
+
+-- a file that carries this document in place of its own
+abbrev pub with_document : List ℕ → List ℕ → List ℕ
 with_document file document = if is_dos file then dos_with_document file document (dos_postscript file) else job_with_document file document
 
 -- ---- what is printed

@@ -1,7 +1,7 @@
 //! The document that a file carries, and what stands around it.
 
-ghost use Rattle.std.specs.{Prelude.{◌≡◌, ◌++◌, Ok, Err, IfOk, MatchResult}, Option.{option_map}};
-ghost use Rattle.t1_jobs.specs.{Jobs.{job_with, job_behind, in_job, job_of, job_around, job_with_document, dos_with_document, with_document}};
+ghost use Rattle.std.specs.{Prelude.{◌≡◌, ◌++◌, Ok, Err, IfOk, MatchResult}};
+ghost use Rattle.t1_jobs.specs.{Jobs.{job_with, job_behind, in_job, job_of, job_around, job_with_document, dos_or_postscript, dos_with_document, with_document}};
 ghost use Rattle.t1_jobs.specs.{Dos.{dos_postscript}, Views.{job_view}};
 
 use crate::dos::{DOS_MARK, dos_postscript, with_postscript};
@@ -118,47 +118,42 @@ fn job_around(
     Ok(out)
 }
 
-/// The same, if it carries one.
-fn job_with_document(
-    alloc: Global,
-    bytes: &[u8],
-    document: &[u8],
-) -> Result<Option<Vec<u8>>, AllocError>
-    ensures { IfOk result (λ o. option_map (λ v. v.items) o ≡ job_with_document bytes.now document.now) }
+/// A job that carries this document in place of its own.
+fn job_with_document(alloc: Global, bytes: &[u8], document: &[u8]) -> Result<Vec<u8>, AllocError>
+    ensures { IfOk result (λ v. v.items ≡ job_with_document bytes.now document.now) }
 {
     match in_job(bytes) {
-        Ok(job) => Ok(Some(job_around(alloc, bytes, document, job)?)),
-        Err(_) => Ok(None),
+        Ok(job) => job_around(alloc, bytes, document, job),
+        Err(_) => Vec::from_slice(alloc, document),
+    }
+}
+
+/// An EPS file for DOS with this PostScript, or the PostScript alone.
+fn dos_or_postscript(alloc: Global, file: &[u8], postscript: Vec<u8>) -> Result<Vec<u8>, AllocError>
+    ensures { IfOk result (λ v. v.items ≡ dos_or_postscript file.now postscript.items) }
+{
+    match with_postscript(alloc, file, postscript.as_slice())? {
+        Some(made) => Ok(made),
+        None => Ok(postscript),
     }
 }
 
 /// An EPS file for DOS whose PostScript carries this document in place of its own.
-fn dos_with_document(
-    alloc: Global,
-    file: &[u8],
-    document: &[u8],
-) -> Result<Option<Vec<u8>>, AllocError>
-    ensures { IfOk result (λ o. option_map (λ v. v.items) o ≡ dos_with_document file.now document.now (dos_postscript file.now)) }
+fn dos_with_document(alloc: Global, file: &[u8], document: &[u8]) -> Result<Vec<u8>, AllocError>
+    ensures { IfOk result (λ v. v.items ≡ dos_with_document file.now document.now (dos_postscript file.now)) }
 {
-    let Some(job) = dos_postscript(file) else {
-        return Ok(None);
-    };
-    match job_with_document(alloc, job, document)? {
-        Some(job) => with_postscript(alloc, file, job.as_slice()),
-        None => Ok(None),
+    match dos_postscript(file) {
+        Some(job) => dos_or_postscript(alloc, file, job_with_document(alloc, job, document)?),
+        None => Vec::from_slice(alloc, document),
     }
 }
 
 /// A file that carries this document in place of its own; what stands around it stays.
 ///
-/// `None` if the file carries no document ([`job_of`]), or if it is an EPS file for DOS and the header can't say how long it would be:
-/// more than 2^32 bytes.
-pub fn with_document(
-    alloc: Global,
-    file: &[u8],
-    document: &[u8],
-) -> Result<Option<Vec<u8>>, AllocError>
-    ensures { IfOk result (λ o. option_map (λ v. v.items) o ≡ with_document file.now document.now) }
+/// It is the document alone if the file carries none ([`job_of`]). Of an EPS file for DOS whose PostScript would be longer than its
+/// header can say, more than 2^32 bytes, the PostScript is left.
+pub fn with_document(alloc: Global, file: &[u8], document: &[u8]) -> Result<Vec<u8>, AllocError>
+    ensures { IfOk result (λ v. v.items ≡ with_document file.now document.now) }
 {
     if begins_with(DOS_MARK, file) {
         dos_with_document(alloc, file, document)

@@ -117,11 +117,10 @@ const REPLACED: &[(&[u8], &[u8])] = &[
     ),
 ];
 
-/// Whether a file with this document in place of its own is this, or there is none.
-fn is_replaced(alloc: Global, file: &[u8], document: &[u8], want: Option<&[u8]>) -> bool {
+/// Whether a file with this document in place of its own is this.
+fn is_replaced(alloc: Global, file: &[u8], document: &[u8], want: &[u8]) -> bool {
     match with_document(alloc, file, document) {
-        Ok(Some(made)) => want == Some(made.as_slice()),
-        Ok(None) => want.is_none(),
+        Ok(made) => made.as_slice() == want,
         Err(_) => false,
     }
 }
@@ -130,10 +129,10 @@ fn is_replaced(alloc: Global, file: &[u8], document: &[u8], want: Option<&[u8]>)
 #[test]
 fn documents_replaced(rt: HostRuntime) {
     for &(file, want) in REPLACED {
-        assert!(rt; is_replaced(rt.alloc(), file, b"%!PS 2\r\n", Some(want)));
+        assert!(rt; is_replaced(rt.alloc(), file, b"%!PS 2\r\n", want));
     }
     for &(file, _) in NONE {
-        assert!(rt; is_replaced(rt.alloc(), file, b"%!PS 2\r\n", None));
+        assert!(rt; is_replaced(rt.alloc(), file, b"%!PS 2\r\n", b"%!PS 2\r\n"));
     }
 }
 
@@ -204,7 +203,7 @@ fn many_words(rt: HostRuntime) {
 /// Whether a long document is put in place of a short one, of which this many bytes are ^D.
 fn is_put(alloc: Global, count: usize) -> bool {
     match many_ends(alloc, count) {
-        Some(long) => is_replaced(alloc, b"%!", long.as_slice(), Some(long.as_slice())),
+        Some(long) => is_replaced(alloc, b"%!", long.as_slice(), long.as_slice()),
         None => false,
     }
 }
@@ -218,8 +217,8 @@ fn long_documents_replaced(rt: HostRuntime) {
 /// What a file with another document is, made again where a growth was refused.
 fn replaced_again(alloc: Global, file: &[u8]) -> Option<Vec<u8>> {
     match with_document(alloc, file, b"%!PS 2\r\n") {
-        Ok(made) => made,
-        Err(_) => with_document(alloc, file, b"%!PS 2\r\n").ok()?,
+        Ok(made) => Some(made),
+        Err(_) => with_document(alloc, file, b"%!PS 2\r\n").ok(),
     }
 }
 

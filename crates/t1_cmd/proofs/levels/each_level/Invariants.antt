@@ -1,7 +1,7 @@
 use Rattle.std.proofs.Common.{◌≡◌, map, take}
-use Rattle.t1_document.specs.{Rewriting.{document_levelled}, Texts.{text_in}, Views.{document_view}}
+use Rattle.t1_document.specs.Texts.{text_in}
+use Rattle.t1_cmd.specs.Levels.{levelled_file}
 use Rattle.t1_cmd.proofs.levels.each_level.Given as goal
 
-abbrev pub invariant-documents : goal.invariant-documents
-invariant-documents l =
-    map (λ t. t.items) l.texts.items ≡ map (λ d. document_levelled (text_in l.new) (document_view d)) (take l.document-index l.documents)
+abbrev pub invariant-files : goal.invariant-files
+invariant-files l = map (λ t. t.items) l.texts.items ≡ map (λ f. levelled_file (text_in l.new) f.now) (take l.i l.files)
