@@ -42,3 +42,7 @@ pub mod PoolLoops
 pub mod PooledDocuments
 pub mod EntryParts
 pub mod PlacesFind
+pub mod OtherStarts
+pub mod PrologParts
+pub mod KeyedNames
+pub mod KeyedAgain

@@ -9,7 +9,7 @@ use Rattle.t1_font.proofs.canonical.EntriesWritten.{fixed_read}
 use Rattle.t1_document.specs.{declared.pooling.Key.{Key}, Stretches.{Stretches}, Fonts.{FontText}}
 use Rattle.t1_document.specs.{Documents.{Place, document_of}, Rewriting.{NewTexts, Fate, fate_bytes, fated_bytes, is_seen}, Joins.{Outcomes, AreOutcomes, names_from, new_texts, places_under}}
 use Rattle.t1_document.specs.{JoinLaws.{FontStaysIn}}
-use Rattle.t1_document.specs.Pooling.{own_start, start_from, free_start, key_of, under_key, keyed, places_by, line_end, defined_as, place_line, Entry, behind_text, clashes, entry_bytes, entry_in, entry_part, end_by}
+use Rattle.t1_document.specs.Pooling.{own_start, start_from, free_start, key_of, under_key, keyed, places_by, line_end, defined_as, place_line, Entry, behind_text, clashes, any_clashes, entry_bytes, entry_in, entry_part, end_by}
 use Rattle.t1_document.specs.Pooling.{keys_of, line_ends, entries, prolog, fate_ending, line_fates, pooled_by}
 use Rattle.t1_document.specs.PoolLaws.{Found, with_found, own_name, KeepsOwn, defining, Runs, RunsFront, RunsPart, RunsLines, takes_answer, behind_line, RunsStretches, EntersOne, EntersAll, FindsFont, AllFind}
 use Rattle.t1_document.specs.PoolLaws.{place_fates, PlacesFind, KeepsRest, PooledOthersStay, OnePooledByKeys}
@@ -271,7 +271,7 @@ good_first by new p ps h text e =
     by_name k j false t x = absurd (true≢false (sym t))
 
 -- where none passes a test, each fails it
-none_passes : (test : Place → Bool) (ps : List Place) → list_any test ps ≡ false → AllByRecursion (λ p. test p ≡ false) ps
+pub none_passes : (test : Place → Bool) (ps : List Place) → list_any test ps ≡ false → AllByRecursion (λ p. test p ≡ false) ps
 none_passes test [] h = tt
 none_passes test (p ∷ ps) h = let parts = or_parts (test p) (list_any test ps) h in (parts.0, none_passes test ps parts.1)
 
@@ -300,13 +300,16 @@ module _ (by : Key) (text : List ℕ) (bytes : AreBytes text) (outcomes : Outcom
     known key e h = known_entry sign key (new key) (places_by by key places) e h
 
     -- where there are own_keys, no name clashes
-    clear : (b : Bool) → list_any (λ p. clashes sign p.name) places ≡ b → (ps : List Place) → (list_any (λ p. clashes sign p.name) places ≡ false →
+    abbrev any : Bool
+    any = any_clashes sign places || any_clashes sign (keyed by places)
+
+    clear : (b : Bool) → any ≡ b → (ps : List Place) → (any ≡ false →
         AllByRecursion (λ p. clashes sign p.name ≡ false) ps) → AllByRecursion (λ p. (k : List ℕ) → is_seen own_keys k ≡ true → clashes sign p.name ≡ false) ps
     clear b e [] h = tt
     clear b e (p ∷ ps) h = (λ k seen. by_clash b e k seen (λ n. (h n).0), clear b e ps (λ n. (h n).1))
       where
-        by_clash : (b : Bool) → list_any (λ p. clashes sign p.name) places ≡ b → (k : List ℕ) → is_seen own_keys k ≡ true →
-            (list_any (λ p. clashes sign p.name) places ≡ false → clashes sign p.name ≡ false) → clashes sign p.name ≡ false
+        by_clash : (b : Bool) → any ≡ b → (k : List ℕ) → is_seen own_keys k ≡ true →
+            (any ≡ false → clashes sign p.name ≡ false) → clashes sign p.name ≡ false
         by_clash true c k seen n = absurd (true≢false (sym seen ∙ ap (λ (t : Bool). is_seen (cond t [] (names_from [] (keyed by places))) k) c))
         by_clash false c k seen n = n c
 
@@ -323,7 +326,8 @@ module _ (by : Key) (text : List ℕ) (bytes : AreBytes text) (outcomes : Outcom
           AllFind sign (line_fates sign by (line_ends entered own_keys) places) after
       found before after run =
           all_find own new entered known plain by own_keys places
-          (apt places (clear (list_any (λ p. clashes sign p.name) places) refl places (none_passes (λ p. clashes sign p.name) places)) good
+          (apt places (clear any refl places
+          (λ h. none_passes (λ p. clashes sign p.name) places (or_parts (any_clashes sign places) (any_clashes sign (keyed by places)) h).0)) good
           (places_named text) (own_texts_stand text)) after
           (λ k e is seen. has_all own new entered known plain k e is own_keys (keys_regular sign by places (places_named text)) seen before after run)
 
@@ -357,7 +361,7 @@ joined_parts : (f : List ℕ → List ℕ) (keys : List (List ℕ)) → flat_map
 joined_parts f [] = refl
 joined_parts f (key ∷ keys) = ap (λ (x : List ℕ). f key ++ x) (joined_parts f keys)
 
-same_places : (f : Place → Fate) (ps : List Place) → map (λ (x : Place × Fate). x.0) (map (λ p. (p, f p)) ps) ≡ ps
+pub same_places : (f : Place → Fate) (ps : List Place) → map (λ (x : Place × Fate). x.0) (map (λ p. (p, f p)) ps) ≡ ps
 same_places f [] = refl
 same_places f (p ∷ ps) = ap (λ (qs : List Place). p ∷ qs) (same_places f ps)
 

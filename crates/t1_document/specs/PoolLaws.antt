@@ -165,6 +165,10 @@ PooledByKeys by text out = (outcomes : Outcomes) × AreOutcomes (keyed by (docum
 abbrev pub OnePooledByKeys : Type 0
 OnePooledByKeys = (by : Key) (text a b : List ℕ) → PooledByKeys by text a → PooledByKeys by text b → a ≡ b
 
+-- what was pooled by keys is pooled by them to itself
+abbrev pub PooledAgainByKeys : Type 0
+PooledAgainByKeys = (by : Key) (text a b : List ℕ) → PooledByKeys by text a → PooledByKeys by a b → b ≡ a
+
 -- in another order documents get the same texts for their keys
 abbrev pub InAnyOrderByKeys : Type 0
 InAnyOrderByKeys = (by : Key) (documents others : List (List ℕ)) → AllByRecursion AreBytes documents → IsPermutation documents others → (a b : Outcomes) →

@@ -1,5 +1,5 @@
 -- Documents pooled: the font of each key stands once, before the first document, under a name of the pool's own, and each place of the key gets it by a line.
-use Rattle.std.specs.{Prelude.{ℕ, zero, suc, ◌&&◌, not, Bool, true, false, List, [], ◌∷◌, ◌++◌, map, filter, replicate, length, codes, Option, Some, None, if◌then◌else◌}}
+use Rattle.std.specs.{Prelude.{ℕ, zero, suc, ◌&&◌, ◌||◌, not, Bool, true, false, List, [], ◌∷◌, ◌++◌, map, filter, replicate, length, codes, Option, Some, None, if◌then◌else◌}}
 use Rattle.std.specs.{Prelude.{Result, Ok, Err}, List.{list_all, list_any, flat_map}, Option.{option_map, option_and_then}, Str.{bytes_eq}}
 use Rattle.t1_grammar.specs.{Grammar.{fixed}, Places.{occurs}}
 use Rattle.t1_bytes.specs.White.{has_bytes}
@@ -180,9 +180,13 @@ end_added (Some e) key other end = if bytes_eq key other then Some (line_end e.a
 
 -- ---- documents
 
--- the keys of places, each once, in the order of their first places; none where the name of a place clashes
+-- the name of one of these places clashes
+abbrev pub any_clashes : List ℕ → List Place → Bool
+any_clashes start ps = list_any (λ p. clashes start p.name) ps
+
+-- the keys of places, each once, in the order of their first places; none where the name or the key of a place clashes
 abbrev pub keys_of : List ℕ → Key → List Place → List (List ℕ)
-keys_of start by ps = if list_any (λ p. clashes start p.name) ps then [] else names_from [] (keyed by ps)
+keys_of start by ps = if any_clashes start ps || any_clashes start (keyed by ps) then [] else names_from [] (keyed by ps)
 
 -- how the lines of a key end, if it is one of these and has an entry
 abbrev pub line_ends : (List ℕ → Option Entry) → List (List ℕ) → NewTexts

@@ -1,9 +1,9 @@
 //! Documents in which each font stands once, before the first of them, and is found under a name of the pool's own.
 
-ghost use Rattle.std.specs.{Prelude.{◌≡◌, ◌++◌, [], map, IfOk, OnOk, if◌then◌else◌}, List.{list_any}};
+ghost use Rattle.std.specs.{Prelude.{◌≡◌, ◌++◌, ◌||◌, [], map, IfOk, OnOk, if◌then◌else◌}};
 ghost use Rattle.t1_document.specs.{Documents.{document_of}, Rewriting.{fate_bytes, fated_bytes}, Joins.{new_texts, names_from, AreOutcomes}};
 ghost use Rattle.t1_document.specs.{Groups.{outcome_in}, Texts.{text_in}, Views.{place_view, document_view}};
-ghost use Rattle.t1_document.specs.Pooling.{key_of, keyed, clashes, prolog, line_fate, line_fates, document_pooled, pooled_by};
+ghost use Rattle.t1_document.specs.Pooling.{key_of, keyed, any_clashes, prolog, line_fate, line_fates, document_pooled, pooled_by};
 
 use crate::documents::{Document, Place, read_document};
 use crate::entries::parts_of;
@@ -50,9 +50,9 @@ fn keyed<'a>(alloc: Global, by: Key, places: &[Place<'a>]) -> Result<Vec<Place<'
     Ok(keyed)
 }
 
-/// Whether the name of some place does.
+/// Whether the name of some place begins as the pool's own do.
 fn any_clashes(start: &[u8], places: &[Place<'_>]) -> bool
-    ensures { result ≡ list_any (λ p. clashes start.now p.name) (map place_view places.now) }
+    ensures { result ≡ any_clashes start.now (map place_view places.now) }
 {
     'places: for place in places {
         if clashes(start, place.name) {
@@ -69,10 +69,11 @@ fn keys_of<'a>(
     places: &[Place<'a>],
     keyed: &[Place<'a>],
 ) -> Result<Vec<&'a [u8]>, AllocError>
-    ensures { IfOk result (λ v. map (λ k. k.now) v.items ≡ (if list_any (λ p. clashes start.now p.name) (map place_view places.now)
+    ensures { IfOk result (λ v. map (λ k. k.now) v.items
+        ≡ (if any_clashes start.now (map place_view places.now) || any_clashes start.now (map place_view keyed.now)
         then [] else names_from [] (map place_view keyed.now))) }
 {
-    if any_clashes(start, places) {
+    if any_clashes(start, places) || any_clashes(start, keyed) {
         return Ok(Vec::new(alloc));
     }
     names_of(alloc, keyed)
@@ -175,7 +176,7 @@ pub struct PooledText<'a> {
 /// bytes stay.
 ///
 /// A key keeps its font texts where it has one place, where a text asks for `FontDirectory` otherwise than by that test, where the new
-/// text or the line of a place can't stand there, and where a name begins as the pool's own do.
+/// text or the line of a place can't stand there, and where a name or a key begins as the pool's own names do.
 ///
 /// # Errors
 ///

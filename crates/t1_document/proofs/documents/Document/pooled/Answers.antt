@@ -1,7 +1,7 @@
 use Rattle.std.proofs.Common.{ℕ, cond, List, [], ◌++◌, Bor, map, ap, ◌∙◌}
-use Rattle.std.specs.List.{list_any}
+use Rattle.std.specs.Prelude.{◌||◌}
 use Rattle.t1_document.specs.{declared.documents.Place.{Place as CodePlace}, Documents.{Place}, Joins.{new_texts, names_from}, Groups.{outcome_in, places_in}}
-use Rattle.t1_document.specs.{Pooling.{clashes, entry_of, places_by, entries, line_ends, line_fates, prolog}, Rewriting.{fated_bytes}, Texts.{text_in}, Views.{place_view, document_view}}
+use Rattle.t1_document.specs.{Pooling.{any_clashes, entry_of, places_by, entries, line_ends, line_fates, prolog}, Rewriting.{fated_bytes}, Texts.{text_in}, Views.{place_view, document_view}}
 use Rattle.t1_document.proofs.PooledDocuments.{assembled}
 use Rattle.t1_document.proofs.documents.Document.pooled.Goals as goal
 
@@ -18,9 +18,9 @@ returns c =
     (c.in_ok-groups.ensures key ∙ ap (λ (ps : List CodePlace). places_by by key (map place_view ps)) c.as_slice-own.ensures.value))
     (c.in_ok-keys.ensures
     ∙ (ap (λ (ps : List CodePlace).
-    cond (list_any (λ p. clashes start p.name) (map place_view ps)) [] (names_from [] (map place_view c.args.places.now)))
+    cond (any_clashes start (map place_view ps) || any_clashes start (map place_view c.args.places.now)) [] (names_from [] (map place_view c.args.places.now)))
     c.as_slice-own.ensures.value
-    ∙ ap (λ (ps : List Place). cond (list_any (λ p. clashes start p.name) d.places) [] (names_from [] ps)) c.requires))
+    ∙ ap (λ (ps : List Place). cond (any_clashes start d.places || any_clashes start ps) [] (names_from [] ps)) c.requires))
     (c.in_ok-parts.ensures.bytes
     ∙ ap (λ (ks : List (Bor (List ℕ))). entries start (λ key. entry_of start key (new key) (places_in groups key)) (map (λ k. k.now) ks))
     c.as_slice.ensures.value)
