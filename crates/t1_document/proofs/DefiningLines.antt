@@ -88,5 +88,12 @@ renames_read own key name k n =
       lost ++ (name ++ word),
       refl,
       defining_spelled (own ++ key) name ((lost ++ (name ++ word)) ++ []) k n,
-      (lost, lost, name ++ word, refl, ((refl, refl), refl), (name, name, word, refl, (refl, each_regular name n, refl), (word, word, [], refl, ((refl, refl), refl), (refl, refl)))),
+      (
+        lost,
+        lost,
+        name ++ word,
+        refl,
+        ((refl, refl), refl),
+        (name, name, word, refl, (refl, each_regular name n, refl), (word, word, [], refl, ((refl, refl), refl), (refl, refl))),
+      ),
     )

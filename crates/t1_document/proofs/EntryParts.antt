@@ -4,10 +4,13 @@ use Rattle.std.proofs.{lemmas.List.{append-nil}, lemmas.Option.{none-some, same_
 use Rattle.std.specs.{Prelude.{◌&&◌, ◌||◌, codes}, Str.{bytes_eq}, Option.{option_and_then, option_map}, List.{list_any, list_all}}
 use Rattle.t1_grammar.specs.Grammar.{fixed, choice}
 use Rattle.t1_font.proofs.canonical.EntriesWritten.{fixed_read}
-use Rattle.t1_document.specs.{declared.marks.Side.TheVariants.{Begin, End}, declared.marks.Kind.{Kind}, declared.marks.Kind.TheVariants.{Font, Resource}, declared.marks.Mark.{Mark}, Lines.{lines_of, breaks}, Marks.{begins_with, mark_of, mark_behind, kind_of, has_mark}}
+use Rattle.t1_document.specs.{declared.marks.Side.TheVariants.{Begin, End}, declared.marks.Kind.{Kind}, declared.marks.Kind.TheVariants.{Font, Resource}}
+use Rattle.t1_document.specs.{declared.marks.Mark.{Mark}, Lines.{lines_of, breaks}, Marks.{begins_with, mark_of, mark_behind, kind_of, has_mark}}
 use Rattle.t1_document.specs.{Stretches.{IsStretch, Stretch, stretches, AreThose}, Fonts.{FontText, font_in}, Documents.{Place}}
-use Rattle.t1_document.specs.Pooling.{Entry, entry_bytes, behind_text, renaming, defined_as, leaves, is_so, clashes, named_by, if_clear, entry_name, takes_line, entry_named, entry_for, first_of_several, entry_leaving, entry_by, entry_of}
-use Rattle.t1_document.proofs.{LineLemmas.{lines_apart, breaks-nil, breaks_behind}, StretchLemmas.{none_in_nothing, stretches_again}, Breaks.{breaks-behind, begun, mark_starts}, FontLemmas.{font_stands}}
+use Rattle.t1_document.specs.Pooling.{Entry, entry_bytes, behind_text, renaming, defined_as, leaves, is_so, clashes, named_by, if_clear}
+use Rattle.t1_document.specs.Pooling.{entry_name, takes_line, entry_named, entry_for, first_of_several, entry_leaving, entry_by, entry_of}
+use Rattle.t1_document.proofs.{LineLemmas.{lines_apart, breaks-nil, breaks_behind}, StretchLemmas.{none_in_nothing, stretches_again}}
+use Rattle.t1_document.proofs.{Breaks.{breaks-behind, begun, mark_starts}, FontLemmas.{font_stands}}
 use Rattle.t1_document.proofs.{AliasLines.{IsRegular, regular_ends, no_end-append, whole_line, slash_no_mark, name_regular}, Spelled.{spells_name}}
 
 -- ---- what is known of an entry
@@ -31,7 +34,8 @@ named_clear start name n e = by_clash (clashes start name) refl e
     by_clash true c k = absurd (none-some n k)
     by_clash false c k = let same = same_Some name n k in (same, ap (clashes start) (sym same) ∙ c)
 
-pub font_named : (text rest name : List ℕ) (o : Option FontText) → named_by text rest o ≡ Some name → o ≡ Some (record { name = name; text = text; rest = rest })
+pub font_named : (text rest name : List ℕ) (o : Option FontText) → named_by text rest o ≡ Some name →
+    o ≡ Some (record { name = name; text = text; rest = rest })
 font_named text rest name None e = absurd (none-some name e)
 font_named text rest name (Some f) e = by_test (bytes_eq f.text text) (bytes_eq f.rest rest) refl refl e
   where
@@ -122,7 +126,8 @@ unfolding mark_of
 begun_resource rest =
     ap (λ (o : Option (List ℕ × List ℕ)). choice (mark_behind Begin o) (mark_behind End ((fixed (codes "%%End")).read (codes "%%BeginResource" ++ rest))))
     (fixed_read (codes "%%Begin") (codes "Resource" ++ rest))
-    ∙ ap (λ (o : Option Kind). choice (option_map (λ kind. record { side = Begin; kind = kind }) o) (mark_behind End ((fixed (codes "%%End")).read (codes "%%BeginResource" ++ rest))))
+    ∙ ap (λ (o : Option Kind). choice (option_map (λ kind. record { side = Begin; kind = kind }) o)
+    (mark_behind End ((fixed (codes "%%End")).read (codes "%%BeginResource" ++ rest))))
     (a_resource rest)
 
 ended : mark_of (codes "%%EndResource\n") ≡ Some (record { side = End; kind = Resource })

@@ -1,16 +1,22 @@
 -- What was pooled by keys is pooled by them to itself.
 use Rattle.std.proofs.Common.{◌≡◌, ◌≤◌, ◌∙◌, ℕ, Bool, true, false, cond, refl, sym, ap, subst, List, [], ◌∷◌, ◌++◌, map, length, replicate, inr, Option, Some, None, arith, append_assoc}
-use Rattle.std.proofs.{lemmas.Bool.{true≢false, lt-ltb, and_parts, or_parts}, lemmas.Option.{none-some, same_Some}, lemmas.Slice.Eq.{bytes_eq-Decides}, lemmas.List.{append-nil, length-append}, lemmas.List.Elements.{filter-append}}
+use Rattle.std.proofs.{lemmas.Bool.{true≢false, lt-ltb, and_parts, or_parts}, lemmas.Option.{none-some, same_Some}}
+use Rattle.std.proofs.{lemmas.Slice.Eq.{bytes_eq-Decides}, lemmas.List.{append-nil, length-append}, lemmas.List.Elements.{filter-append}}
 use Rattle.std.specs.{Prelude.{◌&&◌, ◌||◌, codes}, List.{AllByRecursion, list_all}, Option.{option_map}, Str.{bytes_eq}}
 use Rattle.t1_bytes.specs.White.{has_bytes}
 use Rattle.t1_document.specs.{declared.pooling.Key.{Key}, Documents.{Place, Document, document_bytes, document_of}, Rewriting.{NewTexts, can_give, Fate, fated, is_seen}}
 use Rattle.t1_document.specs.Joins.{Outcomes, AreOutcomes, ComeTo, names_from, places_under, new_texts}
-use Rattle.t1_document.specs.Pooling.{own_start, free_start, key_of, under_key, keyed, places_by, line_end, place_line, text_part, Entry, leaves, is_so, clashes, any_clashes, behind_text, entry_name, takes_line, entry_named, entry_for}
-use Rattle.t1_document.specs.Pooling.{first_of_several, entry_leaving, entry_by, entry_of, entry_in, entry_part, end_by, keys_of, line_ends, entries, prolog, fate_ending, line_fates, document_pooled, pooled_by}
+use Rattle.t1_document.specs.Pooling.{own_start, free_start, key_of, under_key, keyed, places_by, line_end, place_line, text_part, Entry}
+use Rattle.t1_document.specs.Pooling.{leaves, is_so, clashes, any_clashes, behind_text, entry_name, takes_line, entry_named, entry_for}
+use Rattle.t1_document.specs.Pooling.{first_of_several, entry_leaving, entry_by, entry_of, entry_in, entry_part, end_by}
+use Rattle.t1_document.specs.Pooling.{keys_of, line_ends, entries, prolog, fate_ending, line_fates, document_pooled, pooled_by}
 use Rattle.t1_document.specs.PoolLaws.{PooledByKeys, PooledAgainByKeys}
-use Rattle.t1_document.proofs.{PlaceLemmas.{document_text}, Retold.{Fits, AllFit, given_line, fated_by}, Rewritten.{document_is, fated_is, same_bytes}, Pooled.{bare}, OneOutcome.{one_text_for}, Bare.{to_bare}}
-use Rattle.t1_document.proofs.{AliasLines.{IsRegular, IsNamed, places_named}, OwnTexts.{Own, own_texts_stand}, DefiningLines.{key_regular, colons_regular}, EntryParts.{IsEntry, known_entry}, KeyedPlaces.{names_hold}}
-use Rattle.t1_document.proofs.{FontLemmas.{font_stands}, OwnStarts.{own_length}, PlacesFind.{same_places, one_pooled_by_keys}, OtherStarts.{start_is, free_has_more, clear_more, entry_same, entry_bare}}
+use Rattle.t1_document.proofs.{PlaceLemmas.{document_text}, Retold.{Fits, AllFit, given_line, fated_by}}
+use Rattle.t1_document.proofs.{Rewritten.{document_is, fated_is, same_bytes}, Pooled.{bare}, OneOutcome.{one_text_for}, Bare.{to_bare}}
+use Rattle.t1_document.proofs.{AliasLines.{IsRegular, IsNamed, places_named}, OwnTexts.{Own, own_texts_stand}}
+use Rattle.t1_document.proofs.{DefiningLines.{key_regular, colons_regular}, EntryParts.{IsEntry, known_entry}, KeyedPlaces.{names_hold}}
+use Rattle.t1_document.proofs.{FontLemmas.{font_stands}, OwnStarts.{own_length}, PlacesFind.{same_places, one_pooled_by_keys}}
+use Rattle.t1_document.proofs.OtherStarts.{start_is, free_has_more, clear_more, entry_same, entry_bare}
 use Rattle.t1_document.proofs.{PrologParts.{prepended_bare, header, entry_places, front, whole_places}, KeyedNames.{IsClearPlace, names_distinct, unseen, seen_holds, new_named, none_of, few_of}}
 
 -- ---- places
@@ -151,7 +157,8 @@ module _ (by : Key) (start : List ℕ) (ends : NewTexts) (last : List ℕ) where
 
 -- ---- where there are no entries
 
-module _ (by : Key) (start : List ℕ) (entry : List ℕ → Option Entry) (keys : List (List ℕ)) (none : (key : List ℕ) → is_seen keys key ≡ true → entry key ≡ None) where
+module _ (by : Key) (start : List ℕ) (entry : List ℕ → Option Entry) (keys : List (List ℕ))
+    (none : (key : List ℕ) → is_seen keys key ≡ true → entry key ≡ None) where
   no_end : (key : List ℕ) → line_ends entry keys key ≡ None
   no_end key = by_seen (is_seen keys key) refl
     where
@@ -348,7 +355,8 @@ module _ (by : Key) (text : List ℕ) (outcomes : Outcomes) (are : AreOutcomes (
         ∙ ap (λ (qs : List Place). places_by by key (entry_places entry keys) ++ qs) (stay_of by (47 ∷ colons n) ends d.last key ps)))
 
     -- an entry is that of the places without the bytes before them
-    of_bare : (start key : List ℕ) (t : Option (List ℕ)) (qs : List Place) → entry_of start key t (places_by by key qs) ≡ entry_of start key t (places_by by key (map bare qs))
+    of_bare : (start key : List ℕ) (t : Option (List ℕ)) (qs : List Place) →
+        entry_of start key t (places_by by key qs) ≡ entry_of start key t (places_by by key (map bare qs))
     of_bare start key t qs = sym (entry_bare start key t (places_by by key qs)) ∙ ap (entry_of start key t) (bare_by by key qs)
 
     -- a key that had an entry has one place
@@ -359,7 +367,8 @@ module _ (by : Key) (text : List ℕ) (outcomes : Outcomes) (are : AreOutcomes (
         after key ∙ (ap (λ (o : Option (List ℕ)). one ++ kept o (places_by by key (map bare ps))) e ∙ append-nil one) in
         of_bare (47 ∷ colons m) key (new_texts k key) rs
         ∙ (ap (entry_of (47 ∷ colons m) key (new_texts k key)) are_one
-        ∙ (ap (λ (first : Option Place). entry_by (47 ∷ colons m) key (new_texts k key) first one) (few_of by entry of_key key keys (names_distinct [] (keyed by ps)))
+        ∙ (ap (λ (first : Option Place). entry_by (47 ∷ colons m) key (new_texts k key) first one)
+        (few_of by entry of_key key keys (names_distinct [] (keyed by ps)))
         ∙ no_first (47 ∷ colons m) key (new_texts k key) one))
 
     module _ (key : List ℕ) (same : places_by by key (map bare rs) ≡ places_by by key (map bare ps)) where
@@ -439,7 +448,8 @@ module _ (by : Key) (text a b : List ℕ) (h : PooledByKeys by text a) (k : Pool
       ∙ (nothing_pooled by start (entry_in start by new olds) (keys_of start by olds) none (document_of text) ∙ document_text text)) in
       one_pooled_by_keys by text b a (subst (λ (t : List ℕ). PooledByKeys by t b) same k) h
 
-  module _ (n : ℕ) (free : free_start text ≡ own_start n) (names : any_clashes (own_start n) olds ≡ false) (no_key : any_clashes (own_start n) (keyed by olds) ≡ false) where
+  module _ (n : ℕ) (free : free_start text ≡ own_start n) (names : any_clashes (own_start n) olds ≡ false)
+      (no_key : any_clashes (own_start n) (keyed by olds) ≡ false) where
     clear : AllByRecursion (IsClearPlace by (own_start n)) olds
     clear = all_clear by (own_start n) olds (own_texts_stand text) names no_key
 
@@ -498,4 +508,5 @@ pooled_again_by_keys by text a b h k =
         (λ key t. absurd (true≢false (sym t ∙ ap (λ (c : Bool). is_seen (cond c [] (names_from [] (keyed by (document_of text).places))) key) e)))
     by_clash n free false e =
         let parts = or_parts (any_clashes (own_start n) (document_of text).places) (any_clashes (own_start n) (keyed by (document_of text).places)) e in
-        by_entries by text a b h k n free parts.0 parts.1 (entries (47 ∷ colons n) (own_entry by text a b h k n free parts.0 parts.1) (own_keys by text a b h k n free parts.0 parts.1)) refl
+        by_entries by text a b h k n free parts.0 parts.1
+        (entries (47 ∷ colons n) (own_entry by text a b h k n free parts.0 parts.1) (own_keys by text a b h k n free parts.0 parts.1)) refl

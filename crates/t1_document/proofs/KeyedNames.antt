@@ -62,8 +62,8 @@ other_way a b h = elim (cases_Bool (bytes_eq b a)) [
 ]
 
 -- a key that isn't among those of places has no places
-pub unseen : (by : Key) (key : List ℕ) (seen : List (List ℕ)) (qs : List Place) → is_seen seen key ≡ false → is_seen (names_from seen (keyed by qs)) key ≡ false →
-    places_by by key qs ≡ []
+pub unseen : (by : Key) (key : List ℕ) (seen : List (List ℕ)) (qs : List Place) → is_seen seen key ≡ false →
+    is_seen (names_from seen (keyed by qs)) key ≡ false → places_by by key qs ≡ []
 unseen by key seen [] h k = refl
 unseen by key seen (q ∷ qs) h k =
     by_seen (is_seen seen (key_of by q.name)) refl k (λ n. unseen by key seen qs h n) (λ s n. unseen by key (key_of by q.name ∷ seen) qs s n)

@@ -1,12 +1,14 @@
 -- Another start of the pool's names, which has as many colons or more: what entries there are doesn't hang on how many.
-use Rattle.std.proofs.Common.{◌≡◌, ℕ, ◌+◌, ◌-◌, ◌≤◌, zero, suc, Bool, true, false, cond, refl, sym, ◌∙◌, ap, List, [], ◌∷◌, ◌++◌, map, length, replicate, inl, inr, Option, Some, None, is_some, append_assoc, arith}
+use Rattle.std.proofs.Common.{◌≡◌, ℕ, ◌+◌, ◌-◌, ◌≤◌, zero, suc, Bool, true, false, cond, refl, sym, ◌∙◌, ap, List, [], ◌∷◌}
+use Rattle.std.proofs.Common.{◌++◌, map, length, replicate, inl, inr, Option, Some, None, is_some, append_assoc, arith}
 use Rattle.std.proofs.{lemmas.Bool.{cases_Bool, cases_lt, true≢false, and_parts}, lemmas.List.{drop_at}, lemmas.Slice.Eq.{bytes_eq-Decides}}
 use Rattle.std.specs.{Prelude.{◌&&◌, ◌||◌, not, codes}, List.{AllByRecursion, list_all}, Option.{option_and_then, option_map}}
 use Rattle.t1_grammar.specs.{Grammar.{fixed}, Places.{occurs, absent_lacks}}
 use Rattle.t1_font.proofs.canonical.EntriesWritten.{fixed_read}
 use Rattle.t1_document.specs.{declared.marks.Mark.{Mark}, Lines.{is_line_end, into_first, lines_of, breaks}, Marks.{has_mark}, Fonts.{FontText, font_in, spelled_name}}
 use Rattle.t1_document.specs.{Documents.{Place}, Rewriting.{can_give}}
-use Rattle.t1_document.specs.Pooling.{own_start, start_from, free_start, line_end, place_line, behind_text, leaves, is_so, clashes, named_by, if_clear, entry_name, takes_line, entry_named, entry_for, entry_leaving, entry_of}
+use Rattle.t1_document.specs.Pooling.{own_start, start_from, free_start, line_end, place_line, behind_text, leaves, is_so, clashes}
+use Rattle.t1_document.specs.Pooling.{named_by, if_clear, entry_name, takes_line, entry_named, entry_for, entry_leaving, entry_of}
 use Rattle.t1_document.proofs.{StretchLemmas.{any_mark}, Breaks.{breaks-behind, begun}, FontLemmas.{font_stands}, Pooled.{bare}, DefiningLines.{regular_both}, EntryParts.{font_named}}
 use Rattle.t1_document.proofs.AliasLines.{IsRegular, IsNamed, no_end, not_closed, regular_ends, no_end-append, slash_no_mark}
 
@@ -46,7 +48,8 @@ unfolding start_from
 start_is zero n text = (n, refl)
 start_is (suc more) n text = by_free (occurs (fixed (own_start n)) text) (start_is more (suc n) text)
   where
-    by_free : (b : Bool) → (m : ℕ) × (start_from more (suc n) text ≡ own_start m) → (m : ℕ) × (cond b (start_from more (suc n) text) (own_start n) ≡ own_start m)
+    by_free : (b : Bool) → (m : ℕ) × (start_from more (suc n) text ≡ own_start m) →
+        (m : ℕ) × (cond b (start_from more (suc n) text) (own_start n) ≡ own_start m)
     by_free true h = h
     by_free false h = (n, refl)
 
@@ -130,7 +133,8 @@ line_apart n sp s k w end rest = simp append_assoc
 
 line_gives : (own end name key rest : List ℕ) → IsRegular own → IsRegular name → IsRegular key →
     can_give (place_line (47 ∷ own) end name key ++ rest)
-    ≡ (breaks (codes " findfont definefont pop" ++ (end ++ rest)) (codes "%") && not (behind_marks (lines_of (codes " findfont definefont pop" ++ (end ++ rest)))))
+    ≡ (breaks (codes " findfont definefont pop" ++ (end ++ rest)) (codes "%")
+    && not (behind_marks (lines_of (codes " findfont definefont pop" ++ (end ++ rest)))))
 line_gives own end name key rest o n k =
     ap can_give (line_apart (47 ∷ name) (codes " ") (47 ∷ own) key (codes " findfont definefont pop") end rest)
     ∙ lines_give (name ++ (32 ∷ ((47 ∷ own) ++ key))) (codes "findfont definefont pop" ++ (end ++ rest))
@@ -196,5 +200,6 @@ module _ (start key : List ℕ) where
     where
       by_left : (l : Option Bool) → entry_leaving start key u l (map bare (p ∷ q ∷ ps)) ≡ entry_leaving start key u l (p ∷ q ∷ ps)
       by_left None = refl
-      by_left (Some answers) = ap (λ (b : Bool). cond (is_so answers (leaves u) && b) (option_map (entry_named u answers) (entry_name start u (behind_text answers))) None)
+      by_left (Some answers) =
+          ap (λ (b : Bool). cond (is_so answers (leaves u) && b) (option_map (entry_named u answers) (entry_name start u (behind_text answers))) None)
           (takes_bare answers (p ∷ q ∷ ps))

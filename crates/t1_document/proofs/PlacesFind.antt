@@ -1,5 +1,6 @@
 -- What a pooled document finds behind each place.
-use Rattle.std.proofs.Common.{◌≡◌, ℕ, zero, suc, Bool, true, false, cond, refl, sym, ◌∙◌, ap, subst, List, [], ◌∷◌, ◌++◌, map, length, inl, inr, Option, Some, None, is_some, replicate, Result, Ok, append_assoc}
+use Rattle.std.proofs.Common.{◌≡◌, ℕ, zero, suc, Bool, true, false, cond, refl, sym, ◌∙◌, ap, subst, List, [], ◌∷◌, ◌++◌}
+use Rattle.std.proofs.Common.{map, length, inl, inr, Option, Some, None, is_some, replicate, Result, Ok, append_assoc}
 use Rattle.std.proofs.{lemmas.Bool.{cases_Bool, true≢false, or_parts}, lemmas.Option.{none-some, same_Some}, lemmas.List.{append_cancel_left}, lemmas.Slice.Eq.{bytes_eq-Decides}}
 use Rattle.std.specs.{Prelude.{◌||◌, codes}, List.{AllByRecursion, list_any, flat_map, concat}, Str.{bytes_eq}}
 use Rattle.t1_grammar.specs.{Grammar.{fixed}, Places.{occurs}}
@@ -9,9 +10,11 @@ use Rattle.t1_font.proofs.canonical.EntriesWritten.{fixed_read}
 use Rattle.t1_document.specs.{declared.pooling.Key.{Key}, Stretches.{Stretches}, Fonts.{FontText}}
 use Rattle.t1_document.specs.{Documents.{Place, document_of}, Rewriting.{NewTexts, Fate, fate_bytes, fated_bytes, is_seen}, Joins.{Outcomes, AreOutcomes, names_from, new_texts, places_under}}
 use Rattle.t1_document.specs.{JoinLaws.{FontStaysIn}}
-use Rattle.t1_document.specs.Pooling.{own_start, start_from, free_start, key_of, under_key, keyed, places_by, line_end, defined_as, place_line, Entry, behind_text, clashes, any_clashes, entry_bytes, entry_in, entry_part, end_by}
+use Rattle.t1_document.specs.Pooling.{own_start, start_from, free_start, key_of, under_key, keyed, places_by, line_end, defined_as}
+use Rattle.t1_document.specs.Pooling.{place_line, Entry, behind_text, clashes, any_clashes, entry_bytes, entry_in, entry_part, end_by}
 use Rattle.t1_document.specs.Pooling.{keys_of, line_ends, entries, prolog, fate_ending, line_fates, pooled_by}
-use Rattle.t1_document.specs.PoolLaws.{Found, with_found, own_name, KeepsOwn, defining, Runs, RunsFront, RunsPart, RunsLines, takes_answer, behind_line, RunsStretches, EntersOne, EntersAll, FindsFont, AllFind}
+use Rattle.t1_document.specs.PoolLaws.{Found, with_found, own_name, KeepsOwn, defining, Runs, RunsFront, RunsPart, RunsLines}
+use Rattle.t1_document.specs.PoolLaws.{takes_answer, behind_line, RunsStretches, EntersOne, EntersAll, FindsFont, AllFind}
 use Rattle.t1_document.specs.PoolLaws.{place_fates, PlacesFind, KeepsRest, PooledOthersStay, OnePooledByKeys}
 use Rattle.t1_document.proofs.{NewTextsDraw.{IsGood, places_sound, sound_under, come_to}, Drawn.{stays_in_itself}, OneOutcome.{one_outcome}, Rewritten.{same_bytes, fated_written}}
 use Rattle.t1_document.proofs.{AliasLines.{IsRegular, IsNamed, places_named}, OwnTexts.{Own, own_texts_stand}, Retold.{no_font_in_line, stands_font}, KeyedPlaces.{keyed_sound, keys_regular}}
@@ -69,7 +72,8 @@ module _ (own : List ℕ) (new : NewTexts) (entry : List ℕ → Option Entry)
   was_entered : (key : List ℕ) (e : Entry) → IsRegular key → IsEntry start (new key) e → (before after : Found) →
       EntersOne start (entry_bytes start key e) before after → Entered key e before after
   was_entered key e plain_key is before after run =
-      let named : IsRegular e.name = font_regular (e.text ++ behind_text e.answers) (record { name = e.name; text = e.text; rest = behind_text e.answers }) is.found in
+      let named : IsRegular e.name =
+      font_regular (e.text ++ behind_text e.answers) (record { name = e.name; text = e.text; rest = behind_text e.answers }) is.found in
       let regular = regular_both own key plain plain_key in
       let parts = subst (λ (x : Stretches). RunsStretches x.0 x.1 before after) (stretches_of_entry own key regular e named is.unmarked) run in
       let font = subst (λ (o : Option FontText). RunsPart o before parts.0) is.found parts.1 (takes e.answers) in
@@ -401,7 +405,8 @@ rests_stay from own by ends_of is plain an_end_of (p ∷ ps) named =
             (p.name, own ++ key_of by p.name),
             a.0,
             subst (λ (s : List ℕ). defining.read (place_line s end p.name (key_of by p.name)) ≡ Some ((p.name, own ++ key_of by p.name), line_end a.0)) (sym is)
-                (subst (λ (t : List ℕ). defining.read (place_line (47 ∷ own) t p.name (key_of by p.name)) ≡ Some ((p.name, own ++ key_of by p.name), line_end a.0))
+                (subst (λ (t : List ℕ). defining.read (place_line (47 ∷ own) t p.name (key_of by p.name))
+                ≡ Some ((p.name, own ++ key_of by p.name), line_end a.0))
                 (sym a.1) (line a.0)),
           ),
         )

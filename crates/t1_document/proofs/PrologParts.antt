@@ -4,7 +4,8 @@ use Rattle.std.proofs.{lemmas.List.{map-append}}
 use Rattle.std.specs.{Prelude.{codes}, List.{AllByRecursion}, Option.{option_map}}
 use Rattle.t1_document.specs.{declared.marks.Kind.TheVariants.{Resource}, Lines.{lines_of, breaks}, Marks.{mark_of, has_mark}}
 use Rattle.t1_document.specs.{Stretches.{Stretch, Stretches, stretches, stretches_bytes, AreStretches, AreThose}, Fonts.{FontText}}
-use Rattle.t1_document.specs.Documents.{Place, Document, none_open, next_mark, place_with, place_at, behind_bytes, prepended, at_stretch, document_from, document_of, open_at_end, ends_in_part, IsClosed}
+use Rattle.t1_document.specs.Documents.{Place, Document, none_open, next_mark, place_with, place_at, behind_bytes, prepended}
+use Rattle.t1_document.specs.Documents.{at_stretch, document_from, document_of, open_at_end, ends_in_part, IsClosed}
 use Rattle.t1_document.specs.{Rewriting.{NewTexts}, Pooling.{Entry, behind_text, entry_bytes, text_part, entry_part, entries}}
 use Rattle.t1_document.proofs.{LineLemmas.{breaks-append}, StretchLemmas.{stretches_again}, Pooled.{bare}, JoinedDocuments.{begins_no_place, joined_documents}, AliasLines.{IsRegular}}
 use Rattle.t1_document.proofs.{DefiningLines.{regular_both}}
@@ -54,7 +55,8 @@ module _ (own : List ℕ) (new : NewTexts) (entry : List ℕ → Option Entry)
   parts_bytes [] = refl
   parts_bytes (k ∷ ks) = by_entry (entry k) (parts_bytes ks)
     where
-      by_entry : (o : Option Entry) → stretches_bytes (parts ks) ≡ entries (47 ∷ own) entry ks → stretches_bytes (with_parts k o (parts ks)) ≡ entry_part (47 ∷ own) k o ++ entries (47 ∷ own) entry ks
+      by_entry : (o : Option Entry) → stretches_bytes (parts ks) ≡ entries (47 ∷ own) entry ks →
+          stretches_bytes (with_parts k o (parts ks)) ≡ entry_part (47 ∷ own) k o ++ entries (47 ∷ own) entry ks
       by_entry None more = more
       by_entry (Some e) more =
           let t = part_end (47 ∷ own) k e in

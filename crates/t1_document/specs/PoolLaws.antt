@@ -1,5 +1,6 @@
 -- What a pooled document finds, as laws, each the contract of a function in `laws`.
-use Rattle.std.specs.{Prelude.{◌≡◌, ◌⊎◌, ◌||◌, ℕ, Bool, true, false, List, [], ◌∷◌, ◌++◌, map, drop, codes, Option, Some, None, Ok, IsPermutation, if◌then◌else◌}, List.{AllByRecursion, concat}, Str.{bytes_eq}}
+use Rattle.std.specs.Prelude.{◌≡◌, ◌⊎◌, ◌||◌, ℕ, Bool, true, false, List, [], ◌∷◌, ◌++◌, map, drop, codes, Option, Some, None, Ok, IsPermutation, if◌then◌else◌}
+use Rattle.std.specs.{List.{AllByRecursion, concat}, Str.{bytes_eq}}
 use Rattle.t1_grammar.specs.{Grammar.{Grammar, pure, ◌>>=◌, ◌>>◌, run, fixed}, Places.{occurs}}
 use Rattle.t1_bytes.specs.Laws.{AreBytes}
 use Rattle.t1_font.specs.{FontValue.{FontValue}, ReadFont.{read_font_widely}}
