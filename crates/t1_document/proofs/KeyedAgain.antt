@@ -1,20 +1,20 @@
 -- What was pooled by keys is pooled by them to itself.
 use Rattle.std.proofs.Common.{◌≡◌, ◌≤◌, ◌∙◌, ℕ, Bool, true, false, cond, refl, sym, ap, subst, List, [], ◌∷◌, ◌++◌, map, length, replicate, inr, Option, Some, None, arith, append_assoc}
-use Rattle.std.proofs.{lemmas.Bool.{true≢false, lt-ltb, and_parts, or_parts}, lemmas.Option.{none-some, same_Some}}
+use Rattle.std.proofs.{lemmas.Bool.{true≢false, lt-ltb, or_parts}, lemmas.Option.{none-some}}
 use Rattle.std.proofs.{lemmas.Slice.Eq.{bytes_eq-Decides}, lemmas.List.{append-nil, length-append}, lemmas.List.Elements.{filter-append}}
-use Rattle.std.specs.{Prelude.{◌&&◌, ◌||◌, codes}, List.{AllByRecursion, list_all}, Option.{option_map}, Str.{bytes_eq}}
+use Rattle.std.specs.{Prelude.{◌||◌, codes}, List.{AllByRecursion}, Str.{bytes_eq}}
 use Rattle.t1_bytes.specs.White.{has_bytes}
-use Rattle.t1_document.specs.{declared.pooling.Key.{Key}, Documents.{Place, Document, document_bytes, document_of}, Rewriting.{NewTexts, can_give, Fate, fated, is_seen}}
+use Rattle.t1_document.specs.{declared.pooling.Key.{Key}, Documents.{Place, Document, document_bytes, document_of}, Rewriting.{NewTexts, Fate, fated, is_seen}}
 use Rattle.t1_document.specs.Joins.{Outcomes, AreOutcomes, ComeTo, names_from, places_under, new_texts}
 use Rattle.t1_document.specs.Pooling.{own_start, free_start, key_of, under_key, keyed, places_by, line_end, place_line, text_part, Entry}
-use Rattle.t1_document.specs.Pooling.{leaves, is_so, clashes, any_clashes, behind_text, entry_name, takes_line, entry_named, entry_for}
-use Rattle.t1_document.specs.Pooling.{first_of_several, entry_leaving, entry_by, entry_of, entry_in, entry_part, end_by}
+use Rattle.t1_document.specs.Pooling.{clashes, any_clashes, behind_text}
+use Rattle.t1_document.specs.Pooling.{entry_by, entry_of, entry_in, entry_part, end_by}
 use Rattle.t1_document.specs.Pooling.{keys_of, line_ends, entries, prolog, fate_ending, line_fates, document_pooled, pooled_by}
 use Rattle.t1_document.specs.PoolLaws.{PooledByKeys, PooledAgainByKeys}
 use Rattle.t1_document.proofs.{PlaceLemmas.{document_text}, Retold.{Fits, AllFit, given_line, fated_by}}
 use Rattle.t1_document.proofs.{Rewritten.{document_is, fated_is, same_bytes}, Pooled.{bare}, OneOutcome.{one_text_for}, Bare.{to_bare}}
 use Rattle.t1_document.proofs.{AliasLines.{IsRegular, IsNamed, places_named}, OwnTexts.{Own, own_texts_stand}}
-use Rattle.t1_document.proofs.{DefiningLines.{key_regular, colons_regular}, EntryParts.{IsEntry, known_entry}, KeyedPlaces.{names_hold}}
+use Rattle.t1_document.proofs.{DefiningLines.{key_regular, colons_regular}, EntryParts.{IsEntry, known_entry}, KeyedPlaces.{names_hold}, EntryLines.{IsGiven, all_given}}
 use Rattle.t1_document.proofs.{FontLemmas.{font_stands}, OwnStarts.{own_length}, PlacesFind.{same_places, one_pooled_by_keys}}
 use Rattle.t1_document.proofs.OtherStarts.{start_is, free_has_more, clear_more, entry_same, entry_bare}
 use Rattle.t1_document.proofs.{PrologParts.{prepended_bare, header, entry_places, front, whole_places}, KeyedNames.{IsClearPlace, names_distinct, unseen, seen_holds, new_named, none_of, few_of}}
@@ -50,64 +50,6 @@ all_by P by key (p ∷ ps) h = by_key (bytes_eq (key_of by p.name) key) (all_by 
     by_key : (b : Bool) → AllByRecursion P (places_by by key ps) → AllByRecursion P (cond b (p ∷ places_by by key ps) (places_by by key ps))
     by_key true more = (h.0, more)
     by_key false more = more
-
--- what holds of the places of each key holds of each place and its key
-from_keys : (by : Key) (P : List ℕ → Place → Type 0) (ps : List Place) → ((key : List ℕ) → AllByRecursion (P key) (places_by by key ps)) →
-    AllByRecursion (λ p. P (key_of by p.name) p) ps
-from_keys by P [] h = tt
-from_keys by P (p ∷ ps) h = (
-  (subst (λ (b : Bool). AllByRecursion (P (key_of by p.name)) (cond b (p ∷ places_by by (key_of by p.name) ps) (places_by by (key_of by p.name) ps)))
-      (same_bytes (key_of by p.name)) (h (key_of by p.name))).0,
-  from_keys by P ps (λ key. behind key (bytes_eq (key_of by p.name) key) (h key)),
-)
-  where
-    behind : (key : List ℕ) (b : Bool) → AllByRecursion (P key) (cond b (p ∷ places_by by key ps) (places_by by key ps)) →
-        AllByRecursion (P key) (places_by by key ps)
-    behind key true k = k.1
-    behind key false k = k
-
--- ---- an entry's lines
-
-takes_of : (start key text : List ℕ) (answers : Bool) (ps : List Place) (e : Entry) → entry_for start key text answers ps ≡ Some e →
-    list_all (takes_line start key e.answers) ps ≡ true
-takes_of start key text answers ps e h = by_test (is_so answers (leaves text) && list_all (takes_line start key answers) ps) refl h
-  where
-    by_name : (is_so answers (leaves text) && list_all (takes_line start key answers) ps) ≡ true → (o : Option (List ℕ)) →
-        option_map (entry_named text answers) o ≡ Some e → list_all (takes_line start key e.answers) ps ≡ true
-    by_name t None k = absurd (none-some e k)
-    by_name t (Some name) k =
-        let same : entry_named text answers name ≡ e = same_Some (entry_named text answers name) e k in
-        ap (λ (x : Entry). list_all (takes_line start key x.answers) ps) (sym same)
-        ∙ (and_parts (is_so answers (leaves text)) (list_all (takes_line start key answers) ps) t).1
-
-    by_test : (b : Bool) → (is_so answers (leaves text) && list_all (takes_line start key answers) ps) ≡ b →
-        cond b (option_map (entry_named text answers) (entry_name start text (behind_text answers))) None ≡ Some e →
-        list_all (takes_line start key e.answers) ps ≡ true
-    by_test true t k = by_name t (entry_name start text (behind_text answers)) k
-    by_test false t k = absurd (none-some e k)
-
-entry_takes : (start key : List ℕ) (text : Option (List ℕ)) (ps : List Place) (e : Entry) → entry_of start key text ps ≡ Some e →
-    list_all (takes_line start key e.answers) ps ≡ true
-entry_takes start key text ps e h = by_text text (first_of_several ps) h
-  where
-    by_leaving : (t : List ℕ) (o : Option Bool) → entry_leaving start key t o ps ≡ Some e → list_all (takes_line start key e.answers) ps ≡ true
-    by_leaving t None k = absurd (none-some e k)
-    by_leaving t (Some answers) k = takes_of start key t answers ps e k
-
-    by_text : (o : Option (List ℕ)) (first : Option Place) → entry_by start key o first ps ≡ Some e → list_all (takes_line start key e.answers) ps ≡ true
-    by_text None first k = absurd (none-some e k)
-    by_text (Some t) None k = absurd (none-some e k)
-    by_text (Some t) (Some p) k = by_leaving t (leaves p.text) k
-
--- the line can stand at each place
-lines_given : (start key : List ℕ) (answers : Bool) (ps : List Place) → list_all (takes_line start key answers) ps ≡ true →
-    AllByRecursion (λ p. can_give (place_line start (line_end answers) p.name key ++ p.rest) ≡ true) ps
-lines_given start key answers [] h = tt
-lines_given start key answers (p ∷ ps) h =
-    let parts = and_parts (takes_line start key answers p) (list_all (takes_line start key answers) ps) h in (
-      (and_parts (is_so answers (leaves p.text)) (can_give (place_line start (line_end answers) p.name key ++ p.rest)) parts.0).1,
-      lines_given start key answers ps parts.1,
-    )
 
 -- ---- places that stay
 
@@ -222,10 +164,6 @@ keyed_named : (by : Key) (qs : List Place) → AllByRecursion IsNamed qs → All
 keyed_named by [] h = tt
 keyed_named by (q ∷ qs) h = (key_regular by q.name h.0, keyed_named by qs h.1)
 
-each_of : (P Q : Place → Type 0) → ((p : Place) → P p → Q p) → (ps : List Place) → AllByRecursion P ps → AllByRecursion Q ps
-each_of P Q f [] h = tt
-each_of P Q f (p ∷ ps) h = (f p h.0, each_of P Q f ps h.1)
-
 no_first : (start key : List ℕ) (text : Option (List ℕ)) (ps : List Place) → entry_by start key text None ps ≡ None
 no_first start key None ps = refl
 no_first start key (Some t) ps = refl
@@ -268,56 +206,17 @@ module _ (by : Key) (text : List ℕ) (outcomes : Outcomes) (are : AreOutcomes (
   pub regular : AllByRecursion IsRegular keys
   regular = names_hold IsRegular [] (keyed by ps) (keyed_named by ps (places_named text))
 
-  end_of : (key end : List ℕ) → ends key ≡ Some end → (e : Entry) × (entry key ≡ Some e) × (end ≡ line_end e.answers)
-  end_of key end h = by_seen (is_seen keys key) h
-    where
-      by_entry : (o : Option Entry) → entry key ≡ o → end_by o ≡ Some end → (e : Entry) × (entry key ≡ Some e) × (end ≡ line_end e.answers)
-      by_entry None x k = absurd (none-some end k)
-      by_entry (Some e) x k = (e, x, sym (same_Some (line_end e.answers) end k))
-
-      by_seen : (b : Bool) → cond b (end_by (entry key)) None ≡ Some end → (e : Entry) × (entry key ≡ Some e) × (end ≡ line_end e.answers)
-      by_seen true k = by_entry (entry key) refl k
-      by_seen false k = absurd (none-some end k)
-
-  -- the line of a key can stand at a place
-  abbrev IsGiven : List ℕ → Place → Type 0
-  IsGiven key p = (end : List ℕ) → ends key ≡ Some end → can_give (place_line (47 ∷ colons n) end p.name key ++ p.rest) ≡ true
-
-  given : (key : List ℕ) → AllByRecursion (IsGiven key) (places_by by key ps)
-  given key = by_entry (entry key) refl
-    where
-      any_place : (p : Place) → Unit {0} → Unit {0}
-      any_place p h = h
-
-      all : (qs : List Place) → AllByRecursion (λ p. Unit {0}) qs
-      all [] = tt
-      all (q ∷ qs) = (tt, all qs)
-
-      by_entry : (o : Option Entry) → entry key ≡ o → AllByRecursion (IsGiven key) (places_by by key ps)
-      by_entry None h =
-          each_of (λ p. Unit {0}) (IsGiven key) (λ p u end x. let w = end_of key end x in absurd (none-some w.0 (sym h ∙ w.1))) (places_by by key ps)
-          (all (places_by by key ps))
-      by_entry (Some e) h =
-          each_of (λ p. can_give (place_line (47 ∷ colons n) (line_end e.answers) p.name key ++ p.rest) ≡ true) (IsGiven key)
-          (λ p g end x.
-          let w = end_of key end x in
-          let same : e ≡ w.0 = same_Some e w.0 (sym h ∙ w.1) in
-          subst (λ (t : List ℕ). can_give (place_line (47 ∷ colons n) t p.name key ++ p.rest) ≡ true)
-          (ap (λ (y : Entry). line_end y.answers) same ∙ sym w.2) g) (places_by by key ps)
-          (lines_given (47 ∷ colons n) key e.answers (places_by by key ps)
-          (entry_takes (47 ∷ colons n) key (new_texts outcomes key) (places_by by key ps) e h))
-
   abbrev fate : Place → Fate
   fate p = fate_ending (47 ∷ colons n) by (ends (key_of by p.name)) p
 
-  fit_all : (qs : List Place) → AllByRecursion (λ p. IsGiven (key_of by p.name) p) qs →
+  fit_all : (qs : List Place) → AllByRecursion (λ p. IsGiven by (47 ∷ colons n) (new_texts outcomes) ps keys (key_of by p.name) p) qs →
       AllFit (map (λ (x : Place × Fate). x.1) (line_fates (47 ∷ colons n) by ends qs)) qs
   fit_all [] h = tt
   fit_all (q ∷ qs) h = (by_end (ends (key_of by q.name)) refl, fit_all qs h.1)
     where
       by_end : (o : Option (List ℕ)) → ends (key_of by q.name) ≡ o → Fits (fate_ending (47 ∷ colons n) by o q) q
       by_end None e = tt
-      by_end (Some end) e = inr (given_line (place_line (47 ∷ colons n) end q.name (key_of by q.name) ++ q.rest) (h.0 end e))
+      by_end (Some end) e = inr (given_line (place_line (47 ∷ colons n) end q.name (key_of by q.name) ++ q.rest) (h.0 end e).1)
 
   -- the document with lines
   abbrev with_lines : Document
@@ -330,7 +229,7 @@ module _ (by : Key) (text : List ℕ) (outcomes : Outcomes) (are : AreOutcomes (
       let fs = map (λ (x : Place × Fate). x.1) xs in
       let is : with_lines ≡ fated_by fs ps d.last = fated_is xs d.last ∙ ap (λ (qs : List Place). fated_by fs qs d.last) (same_places fate ps) in
       ap (λ (x : Document). document_of (document_bytes x)) is
-      ∙ (document_is fs text (fit_all ps (from_keys by IsGiven ps given)) ∙ sym is)
+      ∙ (document_is fs text (fit_all ps (all_given by (47 ∷ colons n) (new_texts outcomes) ps keys)) ∙ sym is)
 
   abbrev before : List ℕ
   before = front (colons n) (new_texts outcomes) entry known (colons_plain n) keys regular

@@ -41,6 +41,7 @@ pub mod OwnStarts
 pub mod PoolLoops
 pub mod PooledDocuments
 pub mod EntryParts
+pub mod EntryLines
 pub mod PlacesFind
 pub mod OtherStarts
 pub mod PrologParts

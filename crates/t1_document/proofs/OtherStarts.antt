@@ -4,6 +4,7 @@ use Rattle.std.proofs.Common.{◌++◌, map, length, replicate, inl, inr, Option
 use Rattle.std.proofs.{lemmas.Bool.{cases_Bool, cases_lt, true≢false, and_parts}, lemmas.List.{drop_at}, lemmas.Slice.Eq.{bytes_eq-Decides}}
 use Rattle.std.specs.{Prelude.{◌&&◌, ◌||◌, not, codes}, List.{AllByRecursion, list_all}, Option.{option_and_then, option_map}}
 use Rattle.t1_grammar.specs.{Grammar.{fixed}, Places.{occurs, absent_lacks}}
+use Rattle.t1_text.specs.Words.{regular_comes}
 use Rattle.t1_font.proofs.canonical.EntriesWritten.{fixed_read}
 use Rattle.t1_document.specs.{declared.marks.Mark.{Mark}, Lines.{is_line_end, into_first, lines_of, breaks}, Marks.{has_mark}, Fonts.{FontText, font_in, spelled_name}}
 use Rattle.t1_document.specs.{Documents.{Place}, Rewriting.{can_give}}
@@ -145,7 +146,7 @@ line_gives own end name key rest o n k =
 module _ (own other key : List ℕ) (o : IsRegular own) (t : IsRegular other) (k : IsRegular key) where
   takes_same : (answers : Bool) (p : Place) → IsNamed p → takes_line (47 ∷ own) key answers p ≡ takes_line (47 ∷ other) key answers p
   takes_same answers p n =
-      ap (λ (b : Bool). is_so answers (leaves p.text) && b)
+      ap (λ (b : Bool). is_so answers (leaves p.text) && not (regular_comes p.rest) && b)
       (line_gives own (line_end answers) p.name key p.rest o n k ∙ sym (line_gives other (line_end answers) p.name key p.rest t n k))
 
   all_take : (answers : Bool) (ps : List Place) → AllByRecursion IsNamed ps →

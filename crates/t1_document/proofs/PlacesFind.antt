@@ -5,6 +5,8 @@ use Rattle.std.proofs.{lemmas.Bool.{cases_Bool, true≢false, or_parts}, lemmas.
 use Rattle.std.specs.{Prelude.{◌||◌, codes}, List.{AllByRecursion, list_any, flat_map, concat}, Str.{bytes_eq}}
 use Rattle.t1_grammar.specs.{Grammar.{fixed}, Places.{occurs}}
 use Rattle.t1_bytes.specs.{Laws.{AreBytes}}
+use Rattle.t1_grammar.specs.Grammar.{Stops}
+use Rattle.t1_text.specs.Words.{is_regular}
 use Rattle.t1_font.specs.{declared.fault.ReadFault.{ReadFault}, FontValue.{FontValue}, ReadFont.{read_font_widely}}
 use Rattle.t1_font.proofs.canonical.EntriesWritten.{fixed_read}
 use Rattle.t1_document.specs.{declared.pooling.Key.{Key}, Stretches.{Stretches}, Fonts.{FontText}}
@@ -17,7 +19,8 @@ use Rattle.t1_document.specs.PoolLaws.{Found, with_found, own_name, KeepsOwn, de
 use Rattle.t1_document.specs.PoolLaws.{takes_answer, behind_line, RunsStretches, EntersOne, EntersAll, FindsFont, AllFind}
 use Rattle.t1_document.specs.PoolLaws.{place_fates, PlacesFind, KeepsRest, PooledOthersStay, OnePooledByKeys}
 use Rattle.t1_document.proofs.{NewTextsDraw.{IsGood, places_sound, sound_under, come_to}, Drawn.{stays_in_itself}, OneOutcome.{one_outcome}, Rewritten.{same_bytes, fated_written}}
-use Rattle.t1_document.proofs.{AliasLines.{IsRegular, IsNamed, places_named}, OwnTexts.{Own, own_texts_stand}, Retold.{no_font_in_line, stands_font}, KeyedPlaces.{keyed_sound, keys_regular}}
+use Rattle.t1_document.proofs.{AliasLines.{IsRegular, IsNamed, places_named}, OwnTexts.{Own, own_texts_stand}}
+use Rattle.t1_document.proofs.{Retold.{no_font_in_line, stands_font}, KeyedPlaces.{keyed_sound, keys_regular}, EntryLines.{IsGiven, all_given}}
 use Rattle.t1_document.proofs.{DefiningLines.{regular_both, key_regular, colons_regular, defining_read, renames_read}, EntryParts.{IsEntry, known_entry, font_regular, stretches_of_entry}}
 
 -- ---- names
@@ -161,9 +164,11 @@ module _ (own : List ℕ) (new : NewTexts) (entry : List ℕ → Option Entry)
     abbrev pub Good : List ℕ → Place → Type 0
     Good text p = (j : FontValue) × (read_font_widely text ≡ Ok j) × FontStaysIn j p
 
-    -- a place's name has regular bytes, and its text can stand there; where there are entries, its name doesn't clash; and the new text of its key is good
+    -- A place's name has regular bytes, no word goes on behind its line, and its text can stand there. Where there are entries, its name doesn't clash; and
+    -- the new text of its key is good.
     pub record IsApt (p : Place) : Type 0 where
       pub named : IsRegular p.name
+      pub ends_so : (end : List ℕ) → line_ends entry keys (key_of by p.name) ≡ Some end → Stops is_regular (end ++ p.rest)
       pub stands : Own p
       pub clear : (k : List ℕ) → is_seen keys k ≡ true → clashes start p.name ≡ false
       pub good : (text : List ℕ) → new (key p) ≡ Some text → Good text p
@@ -174,17 +179,19 @@ module _ (own : List ℕ) (new : NewTexts) (entry : List ℕ → Option Entry)
     Defined (Some end) p before after = after ≡ with_found p.name (before (own_name start (key p))) before
 
     -- that is what the bytes at a place do
-    defined : (p : Place) → IsApt p → (o : Option (List ℕ)) (before after : Found) → Runs (fate_bytes (fate_ending start by o p) p) before after →
+    defined : (p : Place) → IsApt p → (o : Option (List ℕ)) → ends (key p) ≡ o → (before after : Found) →
+        Runs (fate_bytes (fate_ending start by o p) p) before after →
         Defined o p before after
-    defined p apt None before after run =
+    defined p apt None e before after run =
         subst (λ (o : Option FontText). RunsFront o (defining.read (p.text ++ p.rest)) before after) (stands_font p.text p apt.stands) run
-    defined p apt (Some end) before after run =
+    defined p apt (Some end) e before after run =
         let bytes = place_line start end p.name (key p) ++ p.rest in
         let line : RunsFront None (defining.read bytes) before after =
         subst (λ (o : Option FontText). RunsFront o (defining.read bytes) before after) (no_font_in_line _) run in
         subst (λ (o : Option ((List ℕ × List ℕ) × List ℕ)). RunsFront None o before after)
         (ap defining.read (append_assoc (defined_as (47 ∷ p.name) (47 ∷ (own ++ key p))) end p.rest)
-        ∙ defining_read p.name (own ++ key p) (end ++ p.rest) apt.named (regular_both own (key p) plain (key_regular by p.name apt.named))) line
+        ∙ defining_read p.name (own ++ key p) (end ++ p.rest) apt.named
+        (regular_both own (key p) plain (key_regular by p.name apt.named)) (apt.ends_so end e)) line
 
     -- the fonts of all entries are found
     abbrev pub HasAll : Found → Type 0
@@ -242,7 +249,7 @@ module _ (own : List ℕ) (new : NewTexts) (entry : List ℕ → Option Entry)
     pub all_find : (ps : List Place) → AllByRecursion IsApt ps → (found : Found) → HasAll found → AllFind start (line_fates start by ends ps) found
     all_find [] apt found has = tt
     all_find (p ∷ ps) apt found has = λ before after kept run.
-        let was = defined p apt.0 (ends (key p)) before after run in (
+        let was = defined p apt.0 (ends (key p)) refl before after run in (
           finds p apt.0 found before after kept has (ends (key p)) refl was,
           all_find ps apt.1 after (has_behind p apt.0 found before after kept has (ends (key p)) was),
         )
@@ -319,11 +326,12 @@ module _ (by : Key) (text : List ℕ) (bytes : AreBytes text) (outcomes : Outcom
 
     module _ (plain : IsRegular own) where
       apt : (ps : List Place) → AllByRecursion (λ p. (k : List ℕ) → is_seen own_keys k ≡ true → clashes sign p.name ≡ false) ps → GoodFor by new ps →
-          AllByRecursion IsNamed ps → AllByRecursion Own ps → AllByRecursion (IsApt own new entered known plain by own_keys) ps
-      apt [] c g n o = tt
-      apt (p ∷ ps) c g n o = (
-        record { named = n.0; stands = o.0; clear = c.0; good = good_first by new p ps g },
-        apt ps c.1 (good_behind by new p ps g) n.1 o.1,
+          AllByRecursion IsNamed ps → AllByRecursion Own ps →
+          AllByRecursion (λ p. IsGiven by sign new places own_keys (key_of by p.name) p) ps → AllByRecursion (IsApt own new entered known plain by own_keys) ps
+      apt [] c g n o l = tt
+      apt (p ∷ ps) c g n o l = (
+        record { named = n.0; ends_so = λ end e. (l.0 end e).0; stands = o.0; clear = c.0; good = good_first by new p ps g },
+        apt ps c.1 (good_behind by new p ps g) n.1 o.1 l.1,
       )
 
       found : (before after : Found) → EntersAll sign (map (λ key. entry_part sign key (entered key)) own_keys) before after →
@@ -332,7 +340,7 @@ module _ (by : Key) (text : List ℕ) (bytes : AreBytes text) (outcomes : Outcom
           all_find own new entered known plain by own_keys places
           (apt places (clear any refl places
           (λ h. none_passes (λ p. clashes sign p.name) places (or_parts (any_clashes sign places) (any_clashes sign (keyed by places)) h).0)) good
-          (places_named text) (own_texts_stand text)) after
+          (places_named text) (own_texts_stand text) (all_given by sign new places own_keys)) after
           (λ k e is seen. has_all own new entered known plain k e is own_keys (keys_regular sign by places (places_named text)) seen before after run)
 
 -- ---- the laws
@@ -389,11 +397,15 @@ rests_stay from own by ends_of is plain an_end_of [] named = tt
 rests_stay from own by ends_of is plain an_end_of (p ∷ ps) named =
     (by_end (ends_of (key_of by p.name)) refl, rests_stay from own by ends_of is plain an_end_of ps named.1)
   where
+    ends : (answers : Bool) → Stops is_regular (line_end answers)
+    ends true = refl
+    ends false = tt
+
     line : (answers : Bool) →
         defining.read (place_line (47 ∷ own) (line_end answers) p.name (key_of by p.name)) ≡ Some ((p.name, own ++ key_of by p.name), line_end answers)
     line answers =
         defining_read p.name (own ++ key_of by p.name) (line_end answers) named.0
-        (regular_both own (key_of by p.name) plain (key_regular by p.name named.0))
+        (regular_both own (key_of by p.name) plain (key_regular by p.name named.0)) (ends answers)
 
     by_end : (o : Option (List ℕ)) → ends_of (key_of by p.name) ≡ o → KeepsRest (p, fate_ending from by o p)
     by_end None e = (p.text, refl, inl refl)

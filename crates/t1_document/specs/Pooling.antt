@@ -3,6 +3,7 @@ use Rattle.std.specs.{Prelude.{ℕ, zero, suc, ◌&&◌, ◌||◌, not, Bool, tr
 use Rattle.std.specs.{Prelude.{Result, Ok, Err}, List.{list_all, list_any, flat_map}, Option.{option_map, option_and_then}, Str.{bytes_eq}}
 use Rattle.t1_grammar.specs.{Grammar.{fixed}, Places.{occurs}}
 use Rattle.t1_bytes.specs.White.{has_bytes}
+use Rattle.t1_text.specs.Words.{regular_comes}
 use Rattle.t1_font.specs.{declared.fault.ReadFault.{ReadFault}, declared.mend.Mend.{Mend}, declared.mend.Mend.TheVariants.{TestTakenOut}, Mends.{mends_of}}
 use Rattle.t1_document.specs.{declared.pooling.Key.{Key}, declared.pooling.Key.TheVariants.{Name, Family}, Marks.{begins_with, has_mark}, Fonts.{FontText, font_in}}
 use Rattle.t1_document.specs.{Documents.{Place, Document, document_bytes, document_of}, Rewriting.{NewTexts, can_give, is_seen, Fate, Stays, Gives, fated}}
@@ -125,9 +126,10 @@ abbrev pub entry_name : List ℕ → List ℕ → List ℕ → Option (List ℕ)
 entry_name start text rest =
     if has_mark (text ++ rest) then None else option_and_then (if_clear start) (named_by text rest (font_in (text ++ rest)))
 
--- the text of a place leaves as much as others do, and the place's line can stand there
+-- the text of a place leaves as much as others do, no word goes on behind it, and the place's line can stand there
 abbrev pub takes_line : List ℕ → List ℕ → Bool → Place → Bool
-takes_line start key answers p = is_so answers (leaves p.text) && can_give (place_line start (line_end answers) p.name key ++ p.rest)
+takes_line start key answers p =
+    is_so answers (leaves p.text) && not (regular_comes p.rest) && can_give (place_line start (line_end answers) p.name key ++ p.rest)
 
 -- an entry of this name
 abbrev pub entry_named : List ℕ → Bool → List ℕ → Entry
