@@ -78,6 +78,16 @@ no_end-append (c ∷ a) b h k =
     let parts = and_parts (not (is_line_end c)) (no_end a) h in
     ap (λ (t : Bool). t && no_end (a ++ b)) parts.0 ∙ no_end-append a b parts.1 k
 
+-- no line ends with such a byte
+pub not_closed : (b : ℕ) → not (is_line_end b) ≡ true → (behind : List ℕ) → line_closes b behind ≡ false
+not_closed b k behind = elim (cases_Bool (b == 10)) [
+  | inl e ↦ absurd (true≢false (sym k ∙ ap (λ (t : Bool). not (t || b == 13)) e))
+  | inr e ↦ elim (cases_Bool (b == 13)) [
+    | inl t ↦ absurd (true≢false (sym k ∙ (ap (λ (c : Bool). not (c || b == 13)) e ∙ ap not t)))
+    | inr t ↦ ap (λ (c : Bool). c || b == 13 && not (lf_comes behind)) e ∙ ap (λ (c : Bool). c && not (lf_comes behind)) t
+  ]
+]
+
 -- a text in which no line ends is one line with an LF behind it
 pub whole_line : (u : List ℕ) → no_end u ≡ true → lines_of (u ++ 10 ∷ []) ≡ (u ++ 10 ∷ []) ∷ []
 unfolding lines_of
@@ -85,17 +95,8 @@ whole_line [] h = refl
 whole_line (b ∷ bs) h =
     let parts = and_parts (not (is_line_end b)) (no_end bs) h in
     let rest = bs ++ 10 ∷ [] in
-    ap (λ (t : Bool). cond t ((b ∷ []) ∷ lines_of rest) (into_first b (lines_of rest))) (not_closed parts.0 rest)
+    ap (λ (t : Bool). cond t ((b ∷ []) ∷ lines_of rest) (into_first b (lines_of rest))) (not_closed b parts.0 rest)
     ∙ ap (into_first b) (whole_line bs parts.1)
-  where
-    not_closed : not (is_line_end b) ≡ true → (behind : List ℕ) → line_closes b behind ≡ false
-    not_closed k behind = elim (cases_Bool (b == 10)) [
-      | inl e ↦ absurd (true≢false (sym k ∙ ap (λ (t : Bool). not (t || b == 13)) e))
-      | inr e ↦ elim (cases_Bool (b == 13)) [
-        | inl t ↦ absurd (true≢false (sym k ∙ (ap (λ (c : Bool). not (c || b == 13)) e ∙ ap not t)))
-        | inr t ↦ ap (λ (c : Bool). c || b == 13 && not (lf_comes behind)) e ∙ ap (λ (c : Bool). c && not (lf_comes behind)) t
-      ]
-    ]
 
 pub slash_no_mark : (inner : List ℕ) → mark_of (47 ∷ inner) ≡ None
 slash_no_mark inner = by_mark (mark_of (47 ∷ inner)) refl

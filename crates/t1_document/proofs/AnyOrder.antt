@@ -17,9 +17,11 @@ use Rattle.t1_algebra.specs.{Profile.{profile}, Lacks.{Lack, first_below, user_o
 use Rattle.t1_algebra.proofs.{Fonts.{any_order_of_fonts}, ManyMerges.{each_font}}
 use Rattle.t1_subset.specs.Rejoins.{Rejoin}
 use Rattle.t1_document.specs.{declared.joins.Outcome.{Outcome}, declared.joins.Outcome.TheVariants.{Same, Joined, Stays}, Documents.{Place, document_of}, Rewriting.{can_stand}}
-use Rattle.t1_document.specs.{Joins.{Outcomes, AreOutcomes, places_of_all, places_under, fonts_of_places, with_font, new_texts, text_for_places, ComeTo, OfPlaces, OfFonts, IsSame}, JoinLaws.{InAnyOrder}, Pooling.{under_key, keyed}, PoolLaws.{InAnyOrderByKeys}}
+use Rattle.t1_document.specs.Joins.{Outcomes, AreOutcomes, places_of_all, places_under, fonts_of_places, with_font, new_texts, text_for_places, ComeTo, OfPlaces, OfFonts, IsSame}
+use Rattle.t1_document.specs.{JoinLaws.{InAnyOrder}, Pooling.{under_key, keyed}, PoolLaws.{InAnyOrderByKeys}}
 use Rattle.t1_document.proofs.{Exchanges.{Exchanged, exchanged_first, in_each_order, flat_in_order, filter_in_order, all_in_order}, Drawn.{shells_are_fonts, each_filled, each_named}}
-use Rattle.t1_document.proofs.{OneOutcome.{one_text_for}, Again.{HaveText, have_same}, NewTextsDraw.{IsSound, IsUnder, AreFonts, all_sound, sound_under, fonts_read, fonts_sound}, KeyedPlaces.{keyed_sound}}
+use Rattle.t1_document.proofs.{OneOutcome.{one_text_for}, Again.{HaveText, have_same}}
+use Rattle.t1_document.proofs.{NewTextsDraw.{IsSound, IsUnder, AreFonts, all_sound, sound_under, fonts_read, fonts_sound}, KeyedPlaces.{keyed_sound}}
 use Rattle.std.specs.FinMap as maps
 
 -- ---- tests and counts

@@ -2,8 +2,9 @@
 use Rattle.std.proofs.Common.{◌≡◌, ℕ, Bool, true, false, cond, List, [], ◌∷◌, ◌++◌, refl, sym, ap, ◌∙◌, subst, Some, replicate, suc, zero}
 use Rattle.std.proofs.{lemmas.Bool.{and_parts, and_from}, lemmas.List.{append-nil}}
 use Rattle.std.specs.{Prelude.{codes}, List.{AllByRecursion}}
+use Rattle.t1_grammar.specs.Grammar.{Stops}
 use Rattle.t1_bytes.specs.White.{has_bytes}
-use Rattle.t1_text.{specs.{Words.{is_regular, all_regular}, Tags.{untagged}}, proofs.TagLemmas.{ends_untagged}}
+use Rattle.t1_text.{specs.{Words.{is_regular, all_regular, keyword}, Tags.{untagged}}, proofs.TagLemmas.{ends_untagged}}
 use Rattle.t1_document.specs.{declared.pooling.Key.{Key}, declared.pooling.Key.TheVariants.{Name, Family}, Pooling.{defined_as, renaming, key_of}, PoolLaws.{defining, renames}}
 use Rattle.t1_document.proofs.AliasLines.{IsRegular}
 
@@ -41,37 +42,46 @@ colons_regular (suc n) = colons_regular n
 
 -- ---- lines
 
-defining_spelled : (name other rest : List ℕ) → IsRegular name → IsRegular other →
+defining_spelled : (name other rest : List ℕ) → IsRegular name → IsRegular other → Stops is_regular rest →
     defining.Spells (name, other) (defined_as (47 ∷ name) (47 ∷ other)) rest
-unfolding defining
-defining_spelled name other rest n o =
-    let word = codes " findfont definefont pop" in (
+unfolding defining keyword
+defining_spelled name other rest n o s =
+    let pop = codes "pop" in
+    let word = codes " findfont definefont " in (
       codes "/",
       codes "/",
-      name ++ (codes " /" ++ (other ++ word)),
+      name ++ (codes " /" ++ (other ++ (word ++ pop))),
       refl,
       ((refl, refl), refl),
       (
         name,
         name,
-        codes " /" ++ (other ++ word),
+        codes " /" ++ (other ++ (word ++ pop)),
         refl,
         (refl, each_regular name n, refl),
         (
           codes " /",
           codes " /",
-          other ++ word,
+          other ++ (word ++ pop),
           refl,
           ((refl, refl), refl),
-          (other, other, word, refl, (refl, each_regular other o, refl), (word, word, [], refl, ((refl, refl), refl), (refl, refl))),
+          (
+            other,
+            other,
+            word ++ pop,
+            refl,
+            (refl, each_regular other o, refl),
+            (word, word, pop, refl, ((refl, refl), refl), (pop, pop, [], refl, ((refl, each_regular pop refl, s), refl), (refl, refl))),
+          ),
         ),
       ),
     )
 
 -- a line gives back its names
-pub defining_read : (name other rest : List ℕ) → IsRegular name → IsRegular other →
+pub defining_read : (name other rest : List ℕ) → IsRegular name → IsRegular other → Stops is_regular rest →
     defining.read (defined_as (47 ∷ name) (47 ∷ other) ++ rest) ≡ Some ((name, other), rest)
-defining_read name other rest n o = defining.again (name, other) (defined_as (47 ∷ name) (47 ∷ other)) rest (defining_spelled name other rest n o)
+defining_read name other rest n o s =
+    defining.again (name, other) (defined_as (47 ∷ name) (47 ∷ other)) rest (defining_spelled name other rest n o s)
 
 -- and so do the lines behind the part of an entry
 pub renames_read : (own key name : List ℕ) → IsRegular (own ++ key) → IsRegular name →
@@ -87,6 +97,13 @@ renames_read own key name k n =
       defined_as (47 ∷ (own ++ key)) (47 ∷ name),
       lost ++ (name ++ word),
       refl,
-      defining_spelled (own ++ key) name ((lost ++ (name ++ word)) ++ []) k n,
-      (lost, lost, name ++ word, refl, ((refl, refl), refl), (name, name, word, refl, (refl, each_regular name n, refl), (word, word, [], refl, ((refl, refl), refl), (refl, refl)))),
+      defining_spelled (own ++ key) name ((lost ++ (name ++ word)) ++ []) k n refl,
+      (
+        lost,
+        lost,
+        name ++ word,
+        refl,
+        ((refl, refl), refl),
+        (name, name, word, refl, (refl, each_regular name n, refl), (word, word, [], refl, ((refl, refl), refl), (refl, refl))),
+      ),
     )

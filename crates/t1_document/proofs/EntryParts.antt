@@ -4,10 +4,13 @@ use Rattle.std.proofs.{lemmas.List.{append-nil}, lemmas.Option.{none-some, same_
 use Rattle.std.specs.{Prelude.{◌&&◌, ◌||◌, codes}, Str.{bytes_eq}, Option.{option_and_then, option_map}, List.{list_any, list_all}}
 use Rattle.t1_grammar.specs.Grammar.{fixed, choice}
 use Rattle.t1_font.proofs.canonical.EntriesWritten.{fixed_read}
-use Rattle.t1_document.specs.{declared.marks.Side.TheVariants.{Begin, End}, declared.marks.Kind.{Kind}, declared.marks.Kind.TheVariants.{Font, Resource}, declared.marks.Mark.{Mark}, Lines.{lines_of, breaks}, Marks.{begins_with, mark_of, mark_behind, kind_of, has_mark}}
-use Rattle.t1_document.specs.{Stretches.{Stretch, stretches, stretches_text, AreThose}, Fonts.{FontText, font_in}, Documents.{Place}}
-use Rattle.t1_document.specs.Pooling.{Entry, entry_bytes, behind_text, renaming, leaves, is_so, clashes, named_by, if_clear, entry_name, takes_line, entry_named, entry_for, first_of_several, entry_leaving, entry_by, entry_of}
-use Rattle.t1_document.proofs.{LineLemmas.{lines_apart, breaks-nil, breaks_behind}, StretchLemmas.{none_in_nothing, stretches_again}, Breaks.{breaks-behind, begun, mark_starts}, FontLemmas.{font_stands}}
+use Rattle.t1_document.specs.{declared.marks.Side.TheVariants.{Begin, End}, declared.marks.Kind.{Kind}, declared.marks.Kind.TheVariants.{Font, Resource}}
+use Rattle.t1_document.specs.{declared.marks.Mark.{Mark}, Lines.{lines_of, breaks}, Marks.{begins_with, mark_of, mark_behind, kind_of, has_mark}}
+use Rattle.t1_document.specs.{Stretches.{IsStretch, Stretch, stretches, AreThose}, Fonts.{FontText, font_in}, Documents.{Place}}
+use Rattle.t1_document.specs.Pooling.{Entry, entry_bytes, behind_text, renaming, defined_as, leaves, is_so, clashes, named_by, if_clear}
+use Rattle.t1_document.specs.Pooling.{entry_name, takes_line, entry_named, entry_for, first_of_several, entry_leaving, entry_by, entry_of}
+use Rattle.t1_document.proofs.{LineLemmas.{lines_apart, breaks-nil, breaks_behind}, StretchLemmas.{none_in_nothing, stretches_again}}
+use Rattle.t1_document.proofs.{Breaks.{breaks-behind, begun, mark_starts}, FontLemmas.{font_stands}}
 use Rattle.t1_document.proofs.{AliasLines.{IsRegular, regular_ends, no_end-append, whole_line, slash_no_mark, name_regular}, Spelled.{spells_name}}
 
 -- ---- what is known of an entry
@@ -31,7 +34,8 @@ named_clear start name n e = by_clash (clashes start name) refl e
     by_clash true c k = absurd (none-some n k)
     by_clash false c k = let same = same_Some name n k in (same, ap (clashes start) (sym same) ∙ c)
 
-font_named : (text rest name : List ℕ) (o : Option FontText) → named_by text rest o ≡ Some name → o ≡ Some (record { name = name; text = text; rest = rest })
+pub font_named : (text rest name : List ℕ) (o : Option FontText) → named_by text rest o ≡ Some name →
+    o ≡ Some (record { name = name; text = text; rest = rest })
 font_named text rest name None e = absurd (none-some name e)
 font_named text rest name (Some f) e = by_test (bytes_eq f.text text) (bytes_eq f.rest rest) refl refl e
   where
@@ -122,7 +126,8 @@ unfolding mark_of
 begun_resource rest =
     ap (λ (o : Option (List ℕ × List ℕ)). choice (mark_behind Begin o) (mark_behind End ((fixed (codes "%%End")).read (codes "%%BeginResource" ++ rest))))
     (fixed_read (codes "%%Begin") (codes "Resource" ++ rest))
-    ∙ ap (λ (o : Option Kind). choice (option_map (λ kind. record { side = Begin; kind = kind }) o) (mark_behind End ((fixed (codes "%%End")).read (codes "%%BeginResource" ++ rest))))
+    ∙ ap (λ (o : Option Kind). choice (option_map (λ kind. record { side = Begin; kind = kind }) o)
+    (mark_behind End ((fixed (codes "%%End")).read (codes "%%BeginResource" ++ rest))))
     (a_resource rest)
 
 ended : mark_of (codes "%%EndResource\n") ≡ Some (record { side = End; kind = Resource })
@@ -171,59 +176,79 @@ module _ (own key : List ℕ) (regular : IsRegular (own ++ key)) where
       ∙ (ap (λ (m : Option Mark). is_some m || (is_some (mark_of ((115 ∷ last) ++ 10 ∷ [])) || false)) (slash_no_mark (inner ++ 10 ∷ []))
       ∙ ap (λ (m : Option Mark). is_some m || false) (word_no_mark (last ++ 10 ∷ [])))
 
-  module _ (e : Entry) (named : IsRegular e.name) (unmarked : has_mark (e.text ++ behind_text e.answers) ≡ false) where
-    -- the part
-    abbrev pub part : Stretch
-    part = record {
-      mark = record { side = Begin; kind = Resource };
-      line = codes "%%BeginResource: font " ++ (e.name ++ codes "\n");
-      text = e.text ++ behind_text e.answers;
-    }
+  -- a line ends behind them
+  abbrev pub front_of : List ℕ → List ℕ
+  front_of name = defined_as (47 ∷ (own ++ key)) (47 ∷ name) ++ (codes "\nsystemdict/undefinefont known{/" ++ name)
 
-    -- and its end
-    abbrev pub part_end : Stretch
-    part_end = record { mark = record { side = End; kind = Resource }; line = codes "%%EndResource\n"; text = renaming (47 ∷ own) key e.name }
+  ends_apart : (d l n w : List ℕ) → d ++ (l ++ (n ++ w)) ≡ (d ++ (l ++ n)) ++ w
+  ends_apart d l n w = simp append_assoc
 
-    text_closed : (answers : Bool) (behind : List ℕ) → breaks (e.text ++ behind_text answers) (37 ∷ behind) ≡ true
-    text_closed true behind = breaks-behind e.text 123 (codes "restore}if\n") (37 ∷ behind)
-    text_closed false behind = breaks-behind e.text 10 [] (37 ∷ behind)
+  pub renaming_ends : (name : List ℕ) → renaming (47 ∷ own) key name ≡ front_of name ++ codes " undefinefont}if\n"
+  renaming_ends name =
+      ends_apart (defined_as (47 ∷ (own ++ key)) (47 ∷ name)) (codes "\nsystemdict/undefinefont known{/") name (codes " undefinefont}if\n")
 
-    those : AreThose ([], part ∷ part_end ∷ [])
-    those = record {
+-- a line ends behind such an end
+pub word_ends : (front behind : List ℕ) → breaks (front ++ codes " undefinefont}if\n") behind ≡ true
+word_ends front behind = breaks-behind front 32 (codes "undefinefont}if\n") behind ∙ lf_ends (codes " undefinefont}if") behind
+
+-- ---- stretches
+
+-- the part of an entry
+abbrev pub part : Entry → Stretch
+part e = record {
+  mark = record { side = Begin; kind = Resource };
+  line = codes "%%BeginResource: font " ++ (e.name ++ codes "\n");
+  text = e.text ++ behind_text e.answers;
+}
+
+-- and its end
+abbrev pub part_end : List ℕ → List ℕ → Entry → Stretch
+part_end start key e = record { mark = record { side = End; kind = Resource }; line = codes "%%EndResource\n"; text = renaming start key e.name }
+
+-- the bytes of both are those of the entry
+pub bytes_are : (start key : List ℕ) (e : Entry) →
+    ((part e).line ++ (part e).text) ++ ((part_end start key e).line ++ (part_end start key e).text) ≡ entry_bytes start key e
+bytes_are start key e =
+    regroup (codes "%%BeginResource: font " ++ (e.name ++ codes "\n")) e.text (behind_text e.answers) (codes "%%EndResource\n") (renaming start key e.name)
+  where
+    regroup : (a t b c d : List ℕ) → (a ++ (t ++ b)) ++ (c ++ d) ≡ (a ++ (t ++ (b ++ c))) ++ d
+    regroup a t b c d = simp append_assoc
+
+text_closed : (text : List ℕ) (answers : Bool) (behind : List ℕ) → breaks (text ++ behind_text answers) (37 ∷ behind) ≡ true
+text_closed text true behind = breaks-behind text 123 (codes "restore}if\n") (37 ∷ behind)
+text_closed text false behind = breaks-behind text 10 [] (37 ∷ behind)
+
+-- the part is a stretch before its end
+pub part_is : (start key : List ℕ) (e : Entry) (behind : List ℕ) → IsRegular e.name → has_mark (e.text ++ behind_text e.answers) ≡ false →
+    IsStretch (part e) (((part_end start key e).line ++ (part_end start key e).text) ++ behind)
+part_is start key e behind named unmarked = record {
+  mark = begun_resource (codes ": font " ++ (e.name ++ codes "\n"));
+  whole = whole_line (codes "%%BeginResource: font " ++ e.name) (no_end-append (codes "%%BeginResource: font ") e.name refl (regular_ends e.name named));
+  unmarked = unmarked;
+  line_ends = lf_ends (codes "%%BeginResource: font " ++ e.name)
+      ((part e).text ++ (((part_end start key e).line ++ (part_end start key e).text) ++ behind));
+  text_ends = text_closed e.text e.answers (codes "%EndResource\n" ++ renaming start key e.name ++ behind);
+}
+
+-- and so is its end before anything
+pub end_is : (own key : List ℕ) → IsRegular (own ++ key) → (e : Entry) (behind : List ℕ) → IsRegular e.name → IsStretch (part_end (47 ∷ own) key e) behind
+end_is own key regular e behind named = record {
+  mark = ended;
+  whole = one_line;
+  unmarked = renaming_unmarked own key regular e.name named;
+  line_ends = lf_ends (codes "%%EndResource") (renaming (47 ∷ own) key e.name ++ behind);
+  text_ends = ap (λ (t : List ℕ). breaks t behind) (renaming_ends own key regular e.name) ∙ word_ends (front_of own key regular e.name) behind;
+}
+
+-- the stretches of an entry
+pub stretches_of_entry : (own key : List ℕ) → IsRegular (own ++ key) → (e : Entry) → IsRegular e.name → has_mark (e.text ++ behind_text e.answers) ≡ false →
+    stretches (entry_bytes (47 ∷ own) key e) ≡ ([], part e ∷ part_end (47 ∷ own) key e ∷ [])
+stretches_of_entry own key regular e named unmarked =
+    let t = part_end (47 ∷ own) key e in
+    let those : AreThose ([], part e ∷ t ∷ []) = record {
       unmarked = none_in_nothing;
       front_ends = refl;
-      each = (
-        record {
-          mark = begun_resource (codes ": font " ++ (e.name ++ codes "\n"));
-          whole = whole_line (codes "%%BeginResource: font " ++ e.name) (no_end-append (codes "%%BeginResource: font ") e.name refl (regular_ends e.name named));
-          unmarked = unmarked;
-          line_ends = lf_ends (codes "%%BeginResource: font " ++ e.name) _;
-          text_ends = text_closed e.answers _;
-        },
-        (
-          record {
-            mark = ended;
-            whole = one_line;
-            unmarked = renaming_unmarked e.name named;
-            line_ends = lf_ends (codes "%%EndResource") (renaming (47 ∷ own) key e.name ++ []);
-            text_ends = breaks-nil (renaming (47 ∷ own) key e.name);
-          },
-          tt,
-        ),
-      );
-    }
-
-    bytes_are : stretches_text ([], part ∷ part_end ∷ []) ≡ entry_bytes (47 ∷ own) key e
-    bytes_are =
-        let a = codes "%%BeginResource: font " ++ (e.name ++ codes "\n") in
-        let b = behind_text e.answers in
-        let c = codes "%%EndResource\n" in
-        let d = renaming (47 ∷ own) key e.name in
-        regroup a e.text b c d
-      where
-        regroup : (a t b c d : List ℕ) → (a ++ (t ++ b)) ++ ((c ++ d) ++ []) ≡ (a ++ (t ++ (b ++ c))) ++ d
-        regroup a t b c d = simp (append_assoc, append-nil)
-
-    -- the stretches of an entry
-    pub stretches_of_entry : stretches (entry_bytes (47 ∷ own) key e) ≡ ([], part ∷ part_end ∷ [])
-    stretches_of_entry = ap stretches (sym bytes_are) ∙ stretches_again ([], part ∷ part_end ∷ []) those
+      each = (part_is (47 ∷ own) key e [] named unmarked, (end_is own key regular e [] named, tt));
+    } in
+    ap stretches (sym (ap (λ (u : List ℕ). ((part e).line ++ (part e).text) ++ u) (append-nil (t.line ++ t.text)) ∙ bytes_are (47 ∷ own) key e))
+    ∙ stretches_again ([], part e ∷ t ∷ []) those

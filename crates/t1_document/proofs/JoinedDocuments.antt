@@ -53,7 +53,7 @@ stretch_followed s None d e = prepended_followed (s.line ++ s.text) d e
 stretch_followed s (Some p) d e = refl
 
 -- a stretch that begins no part is no place
-begins_no_place : (o : Open) (s : Stretch) (next : Option Mark) → (begins_part s.mark.side && holds_fonts s.mark.kind) ≡ false → place_at o s next ≡ None
+pub begins_no_place : (o : Open) (s : Stretch) (next : Option Mark) → (begins_part s.mark.side && holds_fonts s.mark.kind) ≡ false → place_at o s next ≡ None
 begins_no_place o s None h = refl
 begins_no_place o s (Some next) h =
     ap (λ (b : Bool). cond (b && ends_part next.side && same_kind s.mark.kind next.kind && (o.raw == 0)) (option_map (place_with o s) (font_in s.text)) None) h

@@ -1,10 +1,10 @@
 -- Places under their keys.
 use Rattle.std.proofs.Common.{ℕ, Bool, true, false, cond, subst, List, [], ◌∷◌, length}
-use Rattle.std.specs.List.{AllByRecursion, list_any}
+use Rattle.std.specs.{Prelude.{◌||◌}, List.{AllByRecursion}}
 use Rattle.t1_bytes.specs.{White.{has_bytes}, Laws.{AreBytes}}
 use Rattle.t1_text.{specs.Tags.{untagged}, proofs.{Bytes.{bytes_right}, TagLemmas.{ends_untagged}}}
 use Rattle.t1_document.specs.{declared.pooling.Key.{Key}, declared.pooling.Key.TheVariants.{Name, Family}, Documents.{Place}, Rewriting.{is_seen}, Joins.{names_from}}
-use Rattle.t1_document.specs.Pooling.{key_of, keyed, clashes, keys_of}
+use Rattle.t1_document.specs.Pooling.{key_of, keyed, any_clashes, keys_of}
 use Rattle.t1_document.proofs.{NewTextsDraw.{IsSound}, AliasLines.{IsRegular, IsNamed}, DefiningLines.{key_regular}}
 
 -- a name in bytes has a key in bytes
@@ -38,7 +38,7 @@ names_hold Q seen (p ∷ ps) h = by_seen (is_seen seen p.name) (names_hold Q see
     by_seen false fewer more = (h.0, more)
 
 pub keys_regular : (start : List ℕ) (by : Key) (ps : List Place) → AllByRecursion IsNamed ps → AllByRecursion IsRegular (keys_of start by ps)
-keys_regular start by ps named = by_clash (list_any (λ p. clashes start p.name) ps)
+keys_regular start by ps named = by_clash (any_clashes start ps || any_clashes start (keyed by ps))
   where
     each : (qs : List Place) → AllByRecursion IsNamed qs → AllByRecursion (λ q. IsRegular q.name) (keyed by qs)
     each [] h = tt

@@ -41,4 +41,9 @@ pub mod OwnStarts
 pub mod PoolLoops
 pub mod PooledDocuments
 pub mod EntryParts
+pub mod EntryLines
 pub mod PlacesFind
+pub mod OtherStarts
+pub mod PrologParts
+pub mod KeyedNames
+pub mod KeyedAgain

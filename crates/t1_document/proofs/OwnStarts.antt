@@ -54,7 +54,7 @@ stands_short w text e =
 abbrev pub Starts : List ℕ → List ℕ → Type 0
 Starts text start = (n : ℕ) × (more : ℕ) × (start ≡ own_start n) × (start_from more n text ≡ free_start text) × (n + more ≡ length text + 1)
 
-own_length : (n : ℕ) → length (own_start n) ≡ 5 + n
+pub own_length : (n : ℕ) → length (own_start n) ≡ 5 + n
 own_length n = length-append (codes "/pool") (replicate n 58) ∙ ap (λ (m : ℕ). 5 + m) (length-replicate n 58)
 
 pub starts_first : (text : List ℕ) → Starts text (codes "/pool:")

@@ -1,20 +1,26 @@
 -- What a pooled document finds behind each place.
-use Rattle.std.proofs.Common.{◌≡◌, ℕ, zero, suc, Bool, true, false, cond, refl, sym, ◌∙◌, ap, subst, List, [], ◌∷◌, ◌++◌, map, length, inl, inr, Option, Some, None, is_some, replicate, Result, Ok, append_assoc}
+use Rattle.std.proofs.Common.{◌≡◌, ℕ, zero, suc, Bool, true, false, cond, refl, sym, ◌∙◌, ap, subst, List, [], ◌∷◌, ◌++◌}
+use Rattle.std.proofs.Common.{map, length, inl, inr, Option, Some, None, is_some, replicate, Result, Ok, append_assoc}
 use Rattle.std.proofs.{lemmas.Bool.{cases_Bool, true≢false, or_parts}, lemmas.Option.{none-some, same_Some}, lemmas.List.{append_cancel_left}, lemmas.Slice.Eq.{bytes_eq-Decides}}
 use Rattle.std.specs.{Prelude.{◌||◌, codes}, List.{AllByRecursion, list_any, flat_map, concat}, Str.{bytes_eq}}
 use Rattle.t1_grammar.specs.{Grammar.{fixed}, Places.{occurs}}
 use Rattle.t1_bytes.specs.{Laws.{AreBytes}}
+use Rattle.t1_grammar.specs.Grammar.{Stops}
+use Rattle.t1_text.specs.Words.{is_regular}
 use Rattle.t1_font.specs.{declared.fault.ReadFault.{ReadFault}, FontValue.{FontValue}, ReadFont.{read_font_widely}}
 use Rattle.t1_font.proofs.canonical.EntriesWritten.{fixed_read}
 use Rattle.t1_document.specs.{declared.pooling.Key.{Key}, Stretches.{Stretches}, Fonts.{FontText}}
 use Rattle.t1_document.specs.{Documents.{Place, document_of}, Rewriting.{NewTexts, Fate, fate_bytes, fated_bytes, is_seen}, Joins.{Outcomes, AreOutcomes, names_from, new_texts, places_under}}
 use Rattle.t1_document.specs.{JoinLaws.{FontStaysIn}}
-use Rattle.t1_document.specs.Pooling.{own_start, start_from, free_start, key_of, under_key, keyed, places_by, line_end, defined_as, place_line, Entry, behind_text, clashes, entry_bytes, entry_in, entry_part, end_by}
+use Rattle.t1_document.specs.Pooling.{own_start, start_from, free_start, key_of, under_key, keyed, places_by, line_end, defined_as}
+use Rattle.t1_document.specs.Pooling.{place_line, Entry, behind_text, clashes, any_clashes, entry_bytes, entry_in, entry_part, end_by}
 use Rattle.t1_document.specs.Pooling.{keys_of, line_ends, entries, prolog, fate_ending, line_fates, pooled_by}
-use Rattle.t1_document.specs.PoolLaws.{Found, with_found, own_name, KeepsOwn, defining, Runs, RunsFront, RunsPart, RunsLines, takes_answer, behind_line, RunsStretches, EntersOne, EntersAll, FindsFont, AllFind}
+use Rattle.t1_document.specs.PoolLaws.{Found, with_found, own_name, KeepsOwn, defining, Runs, RunsFront, RunsPart, RunsLines}
+use Rattle.t1_document.specs.PoolLaws.{takes_answer, behind_line, RunsStretches, EntersOne, EntersAll, FindsFont, AllFind}
 use Rattle.t1_document.specs.PoolLaws.{place_fates, PlacesFind, KeepsRest, PooledOthersStay, OnePooledByKeys}
 use Rattle.t1_document.proofs.{NewTextsDraw.{IsGood, places_sound, sound_under, come_to}, Drawn.{stays_in_itself}, OneOutcome.{one_outcome}, Rewritten.{same_bytes, fated_written}}
-use Rattle.t1_document.proofs.{AliasLines.{IsRegular, IsNamed, places_named}, OwnTexts.{Own, own_texts_stand}, Retold.{no_font_in_line, stands_font}, KeyedPlaces.{keyed_sound, keys_regular}}
+use Rattle.t1_document.proofs.{AliasLines.{IsRegular, IsNamed, places_named}, OwnTexts.{Own, own_texts_stand}}
+use Rattle.t1_document.proofs.{Retold.{no_font_in_line, stands_font}, KeyedPlaces.{keyed_sound, keys_regular}, EntryLines.{IsGiven, all_given}}
 use Rattle.t1_document.proofs.{DefiningLines.{regular_both, key_regular, colons_regular, defining_read, renames_read}, EntryParts.{IsEntry, known_entry, font_regular, stretches_of_entry}}
 
 -- ---- names
@@ -69,7 +75,8 @@ module _ (own : List ℕ) (new : NewTexts) (entry : List ℕ → Option Entry)
   was_entered : (key : List ℕ) (e : Entry) → IsRegular key → IsEntry start (new key) e → (before after : Found) →
       EntersOne start (entry_bytes start key e) before after → Entered key e before after
   was_entered key e plain_key is before after run =
-      let named : IsRegular e.name = font_regular (e.text ++ behind_text e.answers) (record { name = e.name; text = e.text; rest = behind_text e.answers }) is.found in
+      let named : IsRegular e.name =
+      font_regular (e.text ++ behind_text e.answers) (record { name = e.name; text = e.text; rest = behind_text e.answers }) is.found in
       let regular = regular_both own key plain plain_key in
       let parts = subst (λ (x : Stretches). RunsStretches x.0 x.1 before after) (stretches_of_entry own key regular e named is.unmarked) run in
       let font = subst (λ (o : Option FontText). RunsPart o before parts.0) is.found parts.1 (takes e.answers) in
@@ -157,9 +164,11 @@ module _ (own : List ℕ) (new : NewTexts) (entry : List ℕ → Option Entry)
     abbrev pub Good : List ℕ → Place → Type 0
     Good text p = (j : FontValue) × (read_font_widely text ≡ Ok j) × FontStaysIn j p
 
-    -- a place's name has regular bytes, and its text can stand there; where there are entries, its name doesn't clash; and the new text of its key is good
+    -- A place's name has regular bytes, no word goes on behind its line, and its text can stand there. Where there are entries, its name doesn't clash; and
+    -- the new text of its key is good.
     pub record IsApt (p : Place) : Type 0 where
       pub named : IsRegular p.name
+      pub ends_so : (end : List ℕ) → line_ends entry keys (key_of by p.name) ≡ Some end → Stops is_regular (end ++ p.rest)
       pub stands : Own p
       pub clear : (k : List ℕ) → is_seen keys k ≡ true → clashes start p.name ≡ false
       pub good : (text : List ℕ) → new (key p) ≡ Some text → Good text p
@@ -170,17 +179,19 @@ module _ (own : List ℕ) (new : NewTexts) (entry : List ℕ → Option Entry)
     Defined (Some end) p before after = after ≡ with_found p.name (before (own_name start (key p))) before
 
     -- that is what the bytes at a place do
-    defined : (p : Place) → IsApt p → (o : Option (List ℕ)) (before after : Found) → Runs (fate_bytes (fate_ending start by o p) p) before after →
+    defined : (p : Place) → IsApt p → (o : Option (List ℕ)) → ends (key p) ≡ o → (before after : Found) →
+        Runs (fate_bytes (fate_ending start by o p) p) before after →
         Defined o p before after
-    defined p apt None before after run =
+    defined p apt None e before after run =
         subst (λ (o : Option FontText). RunsFront o (defining.read (p.text ++ p.rest)) before after) (stands_font p.text p apt.stands) run
-    defined p apt (Some end) before after run =
+    defined p apt (Some end) e before after run =
         let bytes = place_line start end p.name (key p) ++ p.rest in
         let line : RunsFront None (defining.read bytes) before after =
         subst (λ (o : Option FontText). RunsFront o (defining.read bytes) before after) (no_font_in_line _) run in
         subst (λ (o : Option ((List ℕ × List ℕ) × List ℕ)). RunsFront None o before after)
         (ap defining.read (append_assoc (defined_as (47 ∷ p.name) (47 ∷ (own ++ key p))) end p.rest)
-        ∙ defining_read p.name (own ++ key p) (end ++ p.rest) apt.named (regular_both own (key p) plain (key_regular by p.name apt.named))) line
+        ∙ defining_read p.name (own ++ key p) (end ++ p.rest) apt.named
+        (regular_both own (key p) plain (key_regular by p.name apt.named)) (apt.ends_so end e)) line
 
     -- the fonts of all entries are found
     abbrev pub HasAll : Found → Type 0
@@ -238,7 +249,7 @@ module _ (own : List ℕ) (new : NewTexts) (entry : List ℕ → Option Entry)
     pub all_find : (ps : List Place) → AllByRecursion IsApt ps → (found : Found) → HasAll found → AllFind start (line_fates start by ends ps) found
     all_find [] apt found has = tt
     all_find (p ∷ ps) apt found has = λ before after kept run.
-        let was = defined p apt.0 (ends (key p)) before after run in (
+        let was = defined p apt.0 (ends (key p)) refl before after run in (
           finds p apt.0 found before after kept has (ends (key p)) refl was,
           all_find ps apt.1 after (has_behind p apt.0 found before after kept has (ends (key p)) was),
         )
@@ -271,7 +282,7 @@ good_first by new p ps h text e =
     by_name k j false t x = absurd (true≢false (sym t))
 
 -- where none passes a test, each fails it
-none_passes : (test : Place → Bool) (ps : List Place) → list_any test ps ≡ false → AllByRecursion (λ p. test p ≡ false) ps
+pub none_passes : (test : Place → Bool) (ps : List Place) → list_any test ps ≡ false → AllByRecursion (λ p. test p ≡ false) ps
 none_passes test [] h = tt
 none_passes test (p ∷ ps) h = let parts = or_parts (test p) (list_any test ps) h in (parts.0, none_passes test ps parts.1)
 
@@ -300,31 +311,36 @@ module _ (by : Key) (text : List ℕ) (bytes : AreBytes text) (outcomes : Outcom
     known key e h = known_entry sign key (new key) (places_by by key places) e h
 
     -- where there are own_keys, no name clashes
-    clear : (b : Bool) → list_any (λ p. clashes sign p.name) places ≡ b → (ps : List Place) → (list_any (λ p. clashes sign p.name) places ≡ false →
+    abbrev any : Bool
+    any = any_clashes sign places || any_clashes sign (keyed by places)
+
+    clear : (b : Bool) → any ≡ b → (ps : List Place) → (any ≡ false →
         AllByRecursion (λ p. clashes sign p.name ≡ false) ps) → AllByRecursion (λ p. (k : List ℕ) → is_seen own_keys k ≡ true → clashes sign p.name ≡ false) ps
     clear b e [] h = tt
     clear b e (p ∷ ps) h = (λ k seen. by_clash b e k seen (λ n. (h n).0), clear b e ps (λ n. (h n).1))
       where
-        by_clash : (b : Bool) → list_any (λ p. clashes sign p.name) places ≡ b → (k : List ℕ) → is_seen own_keys k ≡ true →
-            (list_any (λ p. clashes sign p.name) places ≡ false → clashes sign p.name ≡ false) → clashes sign p.name ≡ false
+        by_clash : (b : Bool) → any ≡ b → (k : List ℕ) → is_seen own_keys k ≡ true →
+            (any ≡ false → clashes sign p.name ≡ false) → clashes sign p.name ≡ false
         by_clash true c k seen n = absurd (true≢false (sym seen ∙ ap (λ (t : Bool). is_seen (cond t [] (names_from [] (keyed by places))) k) c))
         by_clash false c k seen n = n c
 
     module _ (plain : IsRegular own) where
       apt : (ps : List Place) → AllByRecursion (λ p. (k : List ℕ) → is_seen own_keys k ≡ true → clashes sign p.name ≡ false) ps → GoodFor by new ps →
-          AllByRecursion IsNamed ps → AllByRecursion Own ps → AllByRecursion (IsApt own new entered known plain by own_keys) ps
-      apt [] c g n o = tt
-      apt (p ∷ ps) c g n o = (
-        record { named = n.0; stands = o.0; clear = c.0; good = good_first by new p ps g },
-        apt ps c.1 (good_behind by new p ps g) n.1 o.1,
+          AllByRecursion IsNamed ps → AllByRecursion Own ps →
+          AllByRecursion (λ p. IsGiven by sign new places own_keys (key_of by p.name) p) ps → AllByRecursion (IsApt own new entered known plain by own_keys) ps
+      apt [] c g n o l = tt
+      apt (p ∷ ps) c g n o l = (
+        record { named = n.0; ends_so = λ end e. (l.0 end e).0; stands = o.0; clear = c.0; good = good_first by new p ps g },
+        apt ps c.1 (good_behind by new p ps g) n.1 o.1 l.1,
       )
 
       found : (before after : Found) → EntersAll sign (map (λ key. entry_part sign key (entered key)) own_keys) before after →
           AllFind sign (line_fates sign by (line_ends entered own_keys) places) after
       found before after run =
           all_find own new entered known plain by own_keys places
-          (apt places (clear (list_any (λ p. clashes sign p.name) places) refl places (none_passes (λ p. clashes sign p.name) places)) good
-          (places_named text) (own_texts_stand text)) after
+          (apt places (clear any refl places
+          (λ h. none_passes (λ p. clashes sign p.name) places (or_parts (any_clashes sign places) (any_clashes sign (keyed by places)) h).0)) good
+          (places_named text) (own_texts_stand text) (all_given by sign new places own_keys)) after
           (λ k e is seen. has_all own new entered known plain k e is own_keys (keys_regular sign by places (places_named text)) seen before after run)
 
 -- ---- the laws
@@ -357,7 +373,7 @@ joined_parts : (f : List ℕ → List ℕ) (keys : List (List ℕ)) → flat_map
 joined_parts f [] = refl
 joined_parts f (key ∷ keys) = ap (λ (x : List ℕ). f key ++ x) (joined_parts f keys)
 
-same_places : (f : Place → Fate) (ps : List Place) → map (λ (x : Place × Fate). x.0) (map (λ p. (p, f p)) ps) ≡ ps
+pub same_places : (f : Place → Fate) (ps : List Place) → map (λ (x : Place × Fate). x.0) (map (λ p. (p, f p)) ps) ≡ ps
 same_places f [] = refl
 same_places f (p ∷ ps) = ap (λ (qs : List Place). p ∷ qs) (same_places f ps)
 
@@ -381,11 +397,15 @@ rests_stay from own by ends_of is plain an_end_of [] named = tt
 rests_stay from own by ends_of is plain an_end_of (p ∷ ps) named =
     (by_end (ends_of (key_of by p.name)) refl, rests_stay from own by ends_of is plain an_end_of ps named.1)
   where
+    ends : (answers : Bool) → Stops is_regular (line_end answers)
+    ends true = refl
+    ends false = tt
+
     line : (answers : Bool) →
         defining.read (place_line (47 ∷ own) (line_end answers) p.name (key_of by p.name)) ≡ Some ((p.name, own ++ key_of by p.name), line_end answers)
     line answers =
         defining_read p.name (own ++ key_of by p.name) (line_end answers) named.0
-        (regular_both own (key_of by p.name) plain (key_regular by p.name named.0))
+        (regular_both own (key_of by p.name) plain (key_regular by p.name named.0)) (ends answers)
 
     by_end : (o : Option (List ℕ)) → ends_of (key_of by p.name) ≡ o → KeepsRest (p, fate_ending from by o p)
     by_end None e = (p.text, refl, inl refl)
@@ -397,7 +417,8 @@ rests_stay from own by ends_of is plain an_end_of (p ∷ ps) named =
             (p.name, own ++ key_of by p.name),
             a.0,
             subst (λ (s : List ℕ). defining.read (place_line s end p.name (key_of by p.name)) ≡ Some ((p.name, own ++ key_of by p.name), line_end a.0)) (sym is)
-                (subst (λ (t : List ℕ). defining.read (place_line (47 ∷ own) t p.name (key_of by p.name)) ≡ Some ((p.name, own ++ key_of by p.name), line_end a.0))
+                (subst (λ (t : List ℕ). defining.read (place_line (47 ∷ own) t p.name (key_of by p.name))
+                ≡ Some ((p.name, own ++ key_of by p.name), line_end a.0))
                 (sym a.1) (line a.0)),
           ),
         )

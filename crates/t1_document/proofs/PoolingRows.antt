@@ -1,9 +1,15 @@
 -- Worked rows of pooling, computed.
 use Rattle.std.{proofs.Common.{◌≡◌, ℕ, true, false, List, [], ◌∷◌, ◌++◌, Some, None, refl}, specs.{Prelude.{codes, if◌then◌else◌}, Str.{bytes_eq}}}
 use Rattle.t1_grammar.specs.Grammar.{first_at}
-use Rattle.t1_text.specs.Tags.{tag, behind_tags}
+use Rattle.t1_text.specs.{Words.{keyword}, Tags.{tag, behind_tags}}
 use Rattle.t1_document.specs.{declared.marks.Kind.TheVariants.{Font}, declared.pooling.Key.TheVariants.{Family}, Documents.{Place}, Rewriting.{NewTexts, fated_bytes}}
-use Rattle.t1_document.specs.Pooling.{start_from, free_start, leaves, is_so, clashes, line_end, place_line, entry_bytes, prolog, line_fates}
+use Rattle.t1_document.specs.Pooling.{keys_of, takes_line, start_from, free_start, leaves, is_so, clashes, line_end, place_line, entry_bytes, prolog, line_fates}
+use Rattle.t1_document.specs.PoolLaws.{defining, renames}
+
+-- ---- a place
+
+abbrev place : List ℕ → List ℕ → Place
+place name rest = record { before = codes "-"; kind = Font; depth = 1; name = name; text = codes "T"; rest = rest }
 
 -- ---- names of the pool's own
 
@@ -39,6 +45,11 @@ otherwise = refl
 not_known : is_so false None ≡ false
 not_known = refl
 
+-- where a word goes on behind the font text, it has no line
+takes_none : takes_line (codes "/pool:") (codes "X") false (place (codes "X") (codes "x\n")) ≡ false
+unfolding first_at
+takes_none = refl
+
 -- ---- names that clash
 
 own_name : clashes (codes "/pool:") (codes "pool:X") ≡ true
@@ -46,6 +57,15 @@ own_name = refl
 
 other_name : clashes (codes "/pool:") (codes "pool") ≡ false
 other_name = refl
+
+-- a key may clash where the name doesn't
+a_key_clashes : keys_of (codes "/pool:") Family (place (codes "ABCDEF+pool:X") [] ∷ place (codes "Y") [] ∷ []) ≡ []
+unfolding behind_tags tag
+a_key_clashes = refl
+
+no_key_clashes : keys_of (codes "/pool:") Family (place (codes "ABCDEF+X") [] ∷ place (codes "Y") [] ∷ place (codes "X") [] ∷ []) ≡ codes "X" ∷ codes "Y" ∷ []
+unfolding behind_tags tag
+no_key_clashes = refl
 
 -- ---- lines and entries
 
@@ -60,10 +80,28 @@ entry : entry_bytes (codes "/pool::") (codes "X") (record { name = codes "ABCDEF
     ++ codes "systemdict/undefinefont known{/ABCDEF+X undefinefont}if\n"
 entry = refl
 
--- ---- documents
+-- ---- what is read of them
 
-abbrev place : List ℕ → List ℕ → Place
-place name rest = record { before = codes "-"; kind = Font; depth = 1; name = name; text = codes "T"; rest = rest }
+read_of_a_line : defining.read (codes "/ABCDEF+X /pool:X findfont definefont pop false{restore}if\n")
+    ≡ Some ((codes "ABCDEF+X", codes "pool:X"), codes " false{restore}if\n")
+unfolding defining keyword
+read_of_a_line = refl
+
+-- `pop` is a word of its own
+read_of_a_word : defining.read (codes "/X /pool:X findfont definefont popular") ≡ None
+unfolding defining keyword
+read_of_a_word = refl
+
+read_of_another : defining.read (codes "/X (Y) findfont definefont pop") ≡ None
+unfolding defining keyword
+read_of_another = refl
+
+read_of_an_end : renames.read (codes "/pool:X /ABCDEF+X findfont definefont pop\nsystemdict/undefinefont known{/ABCDEF+X undefinefont}if\n")
+    ≡ Some (((codes "pool:X", codes "ABCDEF+X"), codes "ABCDEF+X"), [])
+unfolding renames defining keyword
+read_of_an_end = refl
+
+-- ---- documents
 
 abbrev ends_of_x : NewTexts
 ends_of_x key = if bytes_eq (codes "X") key then Some (codes " false") else None

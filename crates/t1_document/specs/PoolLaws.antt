@@ -1,9 +1,10 @@
 -- What a pooled document finds, as laws, each the contract of a function in `laws`.
-use Rattle.std.specs.{Prelude.{◌≡◌, ◌⊎◌, ◌||◌, ℕ, Bool, true, false, List, [], ◌∷◌, ◌++◌, map, drop, codes, Option, Some, None, Ok, IsPermutation, if◌then◌else◌}, List.{AllByRecursion, concat}, Str.{bytes_eq}}
+use Rattle.std.specs.Prelude.{◌≡◌, ◌⊎◌, ◌||◌, ℕ, Bool, true, false, List, [], ◌∷◌, ◌++◌, map, drop, codes, Option, Some, None, Ok, IsPermutation, if◌then◌else◌}
+use Rattle.std.specs.{List.{AllByRecursion, concat}, Str.{bytes_eq}}
 use Rattle.t1_grammar.specs.{Grammar.{Grammar, pure, ◌>>=◌, ◌>>◌, run, fixed}, Places.{occurs}}
 use Rattle.t1_bytes.specs.Laws.{AreBytes}
 use Rattle.t1_font.specs.{FontValue.{FontValue}, ReadFont.{read_font_widely}}
-use Rattle.t1_text.specs.Words.{is_regular}
+use Rattle.t1_text.specs.Words.{is_regular, keyword}
 use Rattle.t1_document.specs.{declared.pooling.Key.{Key}, Lines.{no_bytes}, Stretches.{Stretch, stretches}, Fonts.{FontText, font_in}, Documents.{Place, document_of}}
 use Rattle.t1_document.specs.{Rewriting.{NewTexts, Fate, fate_bytes, fated_bytes}, Joins.{Outcomes, AreOutcomes, places_of_all, new_texts}, JoinLaws.{FontStaysIn}}
 use Rattle.t1_document.specs.Pooling.{free_start, keyed, entry_in, entry_part, keys_of, line_ends, prolog, line_fates, pooled_by}
@@ -28,14 +29,15 @@ KeepsOwn start before after = (key : List ℕ) → after (own_name start key) �
 
 -- ---- what bytes define
 
--- a line by which a name finds the font of another name, which must be found: both names
+-- a line by which a name gets the font of another name, which `findfont` finds: both names
 unfoldable pub defining : Grammar (List ℕ × List ℕ)
 defining = do
   fixed (codes "/")
   name ← run is_regular
   fixed (codes " /")
   other ← run is_regular
-  fixed (codes " findfont definefont pop")
+  fixed (codes " findfont definefont ")
+  keyword (codes "pop")
   pure (name, other)
 
 -- such a line, and one by which the font of a name is undefined: the two names, and that one
@@ -164,6 +166,10 @@ PooledByKeys by text out = (outcomes : Outcomes) × AreOutcomes (keyed by (docum
 -- a text is pooled to one text
 abbrev pub OnePooledByKeys : Type 0
 OnePooledByKeys = (by : Key) (text a b : List ℕ) → PooledByKeys by text a → PooledByKeys by text b → a ≡ b
+
+-- what was pooled by keys is pooled by them to itself
+abbrev pub PooledAgainByKeys : Type 0
+PooledAgainByKeys = (by : Key) (text a b : List ℕ) → PooledByKeys by text a → PooledByKeys by a b → b ≡ a
 
 -- in another order documents get the same texts for their keys
 abbrev pub InAnyOrderByKeys : Type 0

@@ -1,8 +1,9 @@
 -- Documents pooled: the font of each key stands once, before the first document, under a name of the pool's own, and each place of the key gets it by a line.
-use Rattle.std.specs.{Prelude.{ℕ, zero, suc, ◌&&◌, not, Bool, true, false, List, [], ◌∷◌, ◌++◌, map, filter, replicate, length, codes, Option, Some, None, if◌then◌else◌}}
+use Rattle.std.specs.{Prelude.{ℕ, zero, suc, ◌&&◌, ◌||◌, not, Bool, true, false, List, [], ◌∷◌, ◌++◌, map, filter, replicate, length, codes, Option, Some, None, if◌then◌else◌}}
 use Rattle.std.specs.{Prelude.{Result, Ok, Err}, List.{list_all, list_any, flat_map}, Option.{option_map, option_and_then}, Str.{bytes_eq}}
 use Rattle.t1_grammar.specs.{Grammar.{fixed}, Places.{occurs}}
 use Rattle.t1_bytes.specs.White.{has_bytes}
+use Rattle.t1_text.specs.Words.{regular_comes}
 use Rattle.t1_font.specs.{declared.fault.ReadFault.{ReadFault}, declared.mend.Mend.{Mend}, declared.mend.Mend.TheVariants.{TestTakenOut}, Mends.{mends_of}}
 use Rattle.t1_document.specs.{declared.pooling.Key.{Key}, declared.pooling.Key.TheVariants.{Name, Family}, Marks.{begins_with, has_mark}, Fonts.{FontText, font_in}}
 use Rattle.t1_document.specs.{Documents.{Place, Document, document_bytes, document_of}, Rewriting.{NewTexts, can_give, is_seen, Fate, Stays, Gives, fated}}
@@ -125,9 +126,10 @@ abbrev pub entry_name : List ℕ → List ℕ → List ℕ → Option (List ℕ)
 entry_name start text rest =
     if has_mark (text ++ rest) then None else option_and_then (if_clear start) (named_by text rest (font_in (text ++ rest)))
 
--- the text of a place leaves as much as others do, and the place's line can stand there
+-- the text of a place leaves as much as others do, no word goes on behind it, and the place's line can stand there
 abbrev pub takes_line : List ℕ → List ℕ → Bool → Place → Bool
-takes_line start key answers p = is_so answers (leaves p.text) && can_give (place_line start (line_end answers) p.name key ++ p.rest)
+takes_line start key answers p =
+    is_so answers (leaves p.text) && not (regular_comes p.rest) && can_give (place_line start (line_end answers) p.name key ++ p.rest)
 
 -- an entry of this name
 abbrev pub entry_named : List ℕ → Bool → List ℕ → Entry
@@ -180,9 +182,13 @@ end_added (Some e) key other end = if bytes_eq key other then Some (line_end e.a
 
 -- ---- documents
 
--- the keys of places, each once, in the order of their first places; none where the name of a place clashes
+-- the name of one of these places clashes
+abbrev pub any_clashes : List ℕ → List Place → Bool
+any_clashes start ps = list_any (λ p. clashes start p.name) ps
+
+-- the keys of places, each once, in the order of their first places; none where the name or the key of a place clashes
 abbrev pub keys_of : List ℕ → Key → List Place → List (List ℕ)
-keys_of start by ps = if list_any (λ p. clashes start p.name) ps then [] else names_from [] (keyed by ps)
+keys_of start by ps = if any_clashes start ps || any_clashes start (keyed by ps) then [] else names_from [] (keyed by ps)
 
 -- how the lines of a key end, if it is one of these and has an entry
 abbrev pub line_ends : (List ℕ → Option Entry) → List (List ℕ) → NewTexts

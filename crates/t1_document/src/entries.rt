@@ -15,6 +15,7 @@ use crate::rewriting::has_mark;
 use crate::texts::Texts;
 use std::alloc::{AllocError, Global};
 use t1_font::{Mend, ReadFault, mends};
+use t1_text::words::regular_comes;
 
 /// A font text before the documents, the name of its font, and whether the text leaves an answer on the operand stack.
 #[derive(Drop)]
@@ -122,7 +123,7 @@ fn takes_line(
 ) -> Result<bool, AllocError>
     ensures { IfOk result (λ b. b ≡ takes_line start.now key.now answers (place_view place.now)) }
 {
-    if !is_so(answers, leaves(alloc, place.text)?) {
+    if !is_so(answers, leaves(alloc, place.text)?) || regular_comes(place.rest) {
         return Ok(false);
     }
     let mut line = Vec::new(alloc);

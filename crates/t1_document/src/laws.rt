@@ -5,7 +5,8 @@ ghost use Rattle.t1_document.specs.Laws.{LevelRenews, CanonStands, OwnTextsStand
 ghost use Rattle.t1_document.specs.JoinLaws.{NewTextsDraw, NewTextsStand, OneOutcome, OnePooled, OneLevelled, PooledAgain, LevelledAgain, LevelledTogether};
 ghost use Rattle.t1_document.specs.JoinLaws.{InAnyOrder};
 ghost use Rattle.t1_document.specs.FamilyLaws.{AliasedIsRead, AliasedMarksStay, AliasedOthersStay, AliasesDraw, OneAliased, OneByFamilies, FamiliesAgain};
-ghost use Rattle.t1_document.specs.PoolLaws.{StartIsFree, PlacesFind, PooledOthersStay, OnePooledByKeys, InAnyOrderByKeys};
+ghost use Rattle.t1_document.specs.PoolLaws.{StartIsFree, PlacesFind, PooledOthersStay, OnePooledByKeys};
+ghost use Rattle.t1_document.specs.PoolLaws.{PooledAgainByKeys, InAnyOrderByKeys};
 
 /// The stretches of a text, joined, are the text.
 pub fn stretches_of_text()
@@ -175,6 +176,11 @@ pub fn pooled_others_stay()
 /// A text is pooled by keys to one text.
 pub fn one_pooled_by_keys()
     ensures { OnePooledByKeys }
+{}
+
+/// A text that was pooled by keys is pooled by them to itself.
+pub fn pooled_again_by_keys()
+    ensures { PooledAgainByKeys }
 {}
 
 /// In any order documents get the same texts for their keys.

@@ -1,9 +1,9 @@
 //! Documents in which each font stands once, before the first of them, and is found under a name of the pool's own.
 
-ghost use Rattle.std.specs.{Prelude.{◌≡◌, ◌++◌, ◌∷◌, [], map, filter, IfOk, OnOk, if◌then◌else◌}, List.{list_any}, Option.{option_map}};
+ghost use Rattle.std.specs.{Prelude.{◌≡◌, ◌++◌, ◌||◌, ◌∷◌, [], map, filter, IfOk, OnOk, if◌then◌else◌}, Option.{option_map}};
 ghost use Rattle.t1_document.specs.{Documents.{document_of}, Rewriting.{fate_bytes, fated_bytes}, Joins.{new_texts, names_from, AreOutcomes}};
 ghost use Rattle.t1_document.specs.{Groups.{outcome_in, places_in}, Texts.{text_in}, Views.{place_view, document_view}};
-ghost use Rattle.t1_document.specs.Pooling.{free_start, key_of, keyed, clashes, prolog, line_fate, line_fates, document_pooled, pooled_by};
+ghost use Rattle.t1_document.specs.Pooling.{free_start, key_of, keyed, any_clashes, prolog, line_fate, line_fates, document_pooled, pooled_by};
 ghost use Rattle.t1_document.specs.Pooling.{is_several, has_no_lines, is_left, left_keys};
 
 use crate::documents::{Document, Place, read_document};
@@ -51,9 +51,9 @@ fn keyed<'a>(alloc: Global, by: Key, places: &[Place<'a>]) -> Result<Vec<Place<'
     Ok(keyed)
 }
 
-/// Whether the name of some place does.
+/// Whether the name of some place begins as the pool's own do.
 fn any_clashes(start: &[u8], places: &[Place<'_>]) -> bool
-    ensures { result ≡ list_any (λ p. clashes start.now p.name) (map place_view places.now) }
+    ensures { result ≡ any_clashes start.now (map place_view places.now) }
 {
     'places: for place in places {
         if clashes(start, place.name) {
@@ -63,12 +63,22 @@ fn any_clashes(start: &[u8], places: &[Place<'_>]) -> bool
     false
 }
 
-/// Those of all keys that may have entries: none where the name of a place clashes.
-fn keys_of<'k, 'a>(start: &[u8], places: &[Place<'_>], all: &'k [&'a [u8]]) -> &'k [&'a [u8]]
-    ensures { map (λ k. k.now) result.now ≡ (if list_any (λ p. clashes start.now p.name) (map place_view places.now)
+/// Those of all keys that may have entries: none where the name or the key of a place clashes.
+fn keys_of<'k, 'a>(
+    start: &[u8],
+    places: &[Place<'_>],
+    keyed: &[Place<'_>],
+    all: &'k [&'a [u8]],
+) -> &'k [&'a [u8]]
+    ensures { map (λ k. k.now) result.now
+        ≡ (if any_clashes start.now (map place_view places.now) || any_clashes start.now (map place_view keyed.now)
         then [] else map (λ k. k.now) all.now) }
 {
-    if any_clashes(start, places) { &[] } else { all }
+    if any_clashes(start, places) || any_clashes(start, keyed) {
+        &[]
+    } else {
+        all
+    }
 }
 
 /// What stands before the documents.
@@ -192,7 +202,7 @@ impl<'a> Document<'a> {
         let own = self.places.as_slice();
         let groups = groups_by(alloc, by, own)?;
         let all = names_of(alloc, places)?;
-        let keys = keys_of(start, own, all.as_slice());
+        let keys = keys_of(start, own, places, all.as_slice());
         let parts = parts_of(alloc, start, keys, joins, &groups)?;
         let left = left_keys(alloc, all.as_slice(), &parts.ends, joins, &groups)?;
         let mut text = prolog(alloc, parts.bytes.as_slice())?;
@@ -225,7 +235,7 @@ pub struct PooledText<'a> {
 /// bytes stay.
 ///
 /// A key keeps its font texts where it has one place, where a text asks for `FontDirectory` otherwise than by that test, where the new
-/// text or the line of a place can't stand there, and where a name begins as the pool's own do.
+/// text or the line of a place can't stand there, and where a name or a key begins as the pool's own names do.
 ///
 /// # Errors
 ///

@@ -1,12 +1,23 @@
-use Rattle.std.proofs.{Common.{map, sym, ap, ◌∙◌}, lemmas.List.{take_all}}
-use Rattle.t1_document.specs.{declared.documents.Document.{Document as CodeDocument}, Rewriting.{document_levelled}, Texts.{text_in}, Views.{document_view}}
-use Rattle.t1_cmd.proofs.LevelLemmas.{map_twice}
+use Rattle.std.proofs.{Common.{◌<◌, ℕ, List, length, map, Bor, arith, sym, ap, ◌∙◌}, lemmas.List.{take_all}}
+use Rattle.t1_document.specs.{Documents.{document_of}, Texts.{text_in}, Views.{document_view}}
+use Rattle.t1_cmd.{specs.Levels.{carried, levelled_file}, proofs.{LevelLemmas.{map_twice}, FontPlaceLemmas.{same_at, same_lengths}}}
 use Rattle.t1_cmd.proofs.levels.each_level.Goals as goal
+
+-- documents that are those of the files
+abbrev read_of : Bor (List ℕ) → _
+read_of f = document_of (carried f.now)
+
+pub level_file-requires : goal.level_file-requires
+level_file-requires c =
+    let docs = c.args.documents.now in
+    let files : List (Bor (List ℕ)) = c.args.files.now in
+    let same = c.requires ∙ map_twice (λ (f : List ℕ). document_of (carried f)) (λ (f : Bor (List ℕ)). f.now) files in
+    ap document_view c.index-documents-i.is ∙ (same_at document_view read_of docs files same c.files.i _ _ ? ∙ sym (ap read_of c.index-files-i.is))
 
 pub returns : goal.returns
 returns c =
     let new = text_in c.args.new.now in
-    c.documents.invariant
-    ∙ (ap (map (λ (d : CodeDocument). document_levelled new (document_view d)))
-    (take_all c.documents.document-index c.args.documents.now c.documents-test.false)
-    ∙ sym (map_twice (document_levelled new) document_view c.args.documents.now))
+    let files : List (Bor (List ℕ)) = c.args.files.now in
+    c.files.invariant
+    ∙ (ap (map (λ (f : Bor (List ℕ)). levelled_file new f.now)) (take_all c.files.i files ?)
+    ∙ sym (map_twice (levelled_file new) (λ (f : Bor (List ℕ)). f.now) files))

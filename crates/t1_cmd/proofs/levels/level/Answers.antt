@@ -1,14 +1,21 @@
 use Rattle.std.{proofs.Common.{◌≡◌, ℕ, List, map, ap, subst, ◌∙◌}, specs.List.{flat_map}}
 use Rattle.t1_subset.specs.NameSets.{lent}
 use Rattle.t1_document.specs.{declared.documents.Place.{Place as CodePlace}, declared.documents.Document.{Document as CodeDocument}, Documents.{Place, Document, document_of}}
-use Rattle.t1_document.specs.{Rewriting.{NewTexts, document_levelled}, Groups.{outcome_in}, Joins.{Outcomes, AreOutcomes, new_texts, places_of_all}, Texts.{text_in}, Views.{place_view, document_view}}
+use Rattle.t1_document.specs.{Rewriting.{NewTexts}, Groups.{outcome_in}, Joins.{Outcomes, AreOutcomes, new_texts, places_of_all}, Texts.{text_in}, Views.{place_view, document_view}}
 use Rattle.t1_document.proofs.NewTexts.{texts_are}
-use Rattle.t1_cmd.{specs.Documents.{kept_lines}, proofs.LevelLemmas.{places_all, levels_all}}
+use Rattle.t1_cmd.{specs.{Documents.{kept_lines}, Levels.{carried, levelled_file}}, proofs.LevelLemmas.{places_all, map_twice}}
 use Rattle.t1_cmd.proofs.levels.level.Goals as goal
+
+-- the documents that were read are those of the files
+read_files : (c : goal.After-level) → map document_view c.in_ok-documents.documents.items ≡ map document_of (map carried (lent c.args.files.now))
+read_files c = ?
+
+pub each_level-requires : goal.each_level-requires
+each_level-requires c = ?
 
 pub returns-clause-levels : goal.returns-clause-levels
 returns-clause-levels c =
-    let texts : List (List ℕ) = lent c.args.texts.now in
+    let texts : List (List ℕ) = map carried (lent c.args.files.now) in
     let outcomes : Outcomes = outcome_in c.in_ok-joins.joins in
     let seen = λ (ds : List CodeDocument). map document_view ds in
     let read : seen c.as_slice.result.now ≡ map document_of texts = ap seen c.as_slice.ensures.value ∙ c.in_ok-documents.ensures in
@@ -28,7 +35,7 @@ returns-clause-levels c =
 
 pub returns-clause-kept : goal.returns-clause-kept
 returns-clause-kept c =
-    let texts : List (List ℕ) = lent c.args.texts.now in
+    let texts : List (List ℕ) = map carried (lent c.args.files.now) in
     let outcomes : Outcomes = outcome_in c.in_ok-joins.joins in
     let seen = λ (ds : List CodeDocument). map document_view ds in
     let read : seen c.as_slice.result.now ≡ map document_of texts = ap seen c.as_slice.ensures.value ∙ c.in_ok-documents.ensures in
