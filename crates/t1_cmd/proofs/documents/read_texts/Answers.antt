@@ -36,9 +36,11 @@ readers-preserved g c =
 
 pub returns-clause-says : goal.returns-clause-says
 returns-clause-says g c =
-    all_said (taken_input c.args.taken) g.R.Read.remaining c.readers.i c.args.readers.now c.readers.readers (map (λ v. v.items) c.readers.texts.items) c.readers.invariant
+    all_said (taken_input c.args.taken) g.R.Read.remaining c.readers.i c.args.readers.now c.readers.readers (map (λ v. v.items) c.readers.texts.items)
+    c.readers.invariant
     (omega (arith, c.readers-test.false, c.readers.auto.readers))
 
 pub returns-clause-turns : goal.returns-clause-turns
 returns-clause-turns g c =
-    all_turns (taken_input c.args.taken) g.R.Read.remaining c.readers.i c.args.readers.now c.readers.readers (map (λ v. v.items) c.readers.texts.items) c.readers.invariant
+    all_turns (taken_input c.args.taken) g.R.Read.remaining c.readers.i c.args.readers.now c.readers.readers (map (λ v. v.items) c.readers.texts.items)
+    c.readers.invariant
