@@ -3,8 +3,7 @@ use Rattle.std.specs.{Prelude.{◌≡◌, ◌⊎◌, ℕ, ◌-◌, ◌^◌, min,
 use Rattle.t1_bytes.specs.declared.form.Form.{Form}
 use Rattle.t1_font.specs.FontValue.{FontValue}
 use Rattle.t1_cmd.specs.{declared.faults.Reason.{Reason}, declared.faults.Reason.TheVariants.{TooLong, Memory, Font}, Texts.{reason_text}, Answers.{OfThere}, Fonts.{font_input, of_file, of_mended}}
-use Rattle.t1_cmd.specs.{Files.{OfFiles, RefusedAt, IsUnread}, Documents.{text_input}}
-use Rattle.t1_document.specs.Joins.{LevelsTo}
+use Rattle.t1_cmd.specs.{Files.{OfFiles, SaidBy, RefusedAt, IsUnread}, Documents.{file_input}, Levels.{LevelsFiles}}
 use Rattle.t1_c.specs.{declared.answers.Answer.{Answer}, Numbers.{ok, memory, bad_call, number_of, detail_of}}
 
 -- ---- what is given
@@ -124,5 +123,5 @@ place_labels count = map decimal (range_with_len 0 count)
 abbrev pub GivesLevels : List (List ℕ) → ℕ → List Answer → Type 0
 GivesLevels documents code answers =
     HaveNothing memory code answers
-    ⊎ (((texts : List (List ℕ)) × LevelsTo documents texts × HaveTexts texts code answers)
-    ⊎ ((place : Option ℕ) × (r : Reason) × IsUnread text_input documents place r × FirstSays place r code answers))
+    ⊎ (((texts : List (List ℕ)) × SaidBy file_input (λ files. LevelsFiles files texts) documents × HaveTexts texts code answers)
+    ⊎ ((place : Option ℕ) × (r : Reason) × IsUnread file_input documents place r × FirstSays place r code answers))

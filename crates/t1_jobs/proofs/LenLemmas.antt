@@ -4,7 +4,7 @@ use Rattle.std.proofs.lemmas.Bool.{true≢false, eqb-true, lt-ltb}
 use Rattle.std.specs.Prelude.{◌==◌, nat_lt}
 use Rattle.std.proofs.lemmas.List.{length-append, length-drop, drop_at, drop-drop, drop_all, take-append-drop}
 use Rattle.t1_bytes.specs.White.{has_bytes}
-use Rattle.t1_jobs.specs.Words.{behind_words, may_end, another_begins, further, at_words, len_within, document_len}
+use Rattle.t1_jobs.specs.Words.{behind_words, may_end, another_begins, further, at_words, len_within, document_len, Scanned}
 use Rattle.t1_jobs.proofs.WordLemmas.{behind_shorter, ends_behind}
 
 -- ---- room
@@ -59,11 +59,6 @@ some_words b bs e =
 further_twice : (n m : ℕ) (o : Option ℕ) → further n (further m o) ≡ further (n + m) o
 further_twice n m None = refl
 further_twice n m (Some k) = ap Some (omega arith)
-
--- so many bytes were passed, and what is left says how many the document has
-pub record Scanned (text : List ℕ) (at : ℕ) : Type 0 where
-  pub within : at ≤ length text
-  pub left : document_len text ≡ further at (document_len (drop at text))
 
 scanned_on : (text : List ℕ) (at next n : ℕ) → Scanned text at → at + n ≡ next → next ≤ length text →
     document_len (drop at text) ≡ further n (document_len (drop next text)) → Scanned text next

@@ -1,3 +1,4 @@
 mod JobRows
 pub mod WordLemmas
 pub mod LenLemmas
+pub mod EndPlaces

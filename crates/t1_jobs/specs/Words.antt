@@ -1,6 +1,6 @@
 -- What a printer reads around a document: ^D, which ends a job where bytes come one by one, and Hewlett-Packard's Printer Job Language,
 -- which begins and ends with its universal exit.
-use Rattle.std.specs.Prelude.{ℕ, zero, suc, ◌+◌, ◌-◌, ◌==◌, ◌||◌, not, Bool, List, [], ◌∷◌, length, codes, Option, Some, None, if◌then◌else◌}
+use Rattle.std.specs.Prelude.{◌≡◌, ◌≤◌, drop, ℕ, zero, suc, ◌+◌, ◌-◌, ◌==◌, ◌||◌, not, Bool, List, [], ◌∷◌, length, codes, Option, Some, None, if◌then◌else◌}
 use Rattle.std.specs.Option.{option_map}
 use Rattle.t1_grammar.specs.Grammar.{Grammar, ◌>>◌, run, fixed, either, may_be}
 use Rattle.t1_bytes.specs.White.{has_bytes}
@@ -77,3 +77,8 @@ len_within (suc n) (b ∷ bs) =
 -- how many bytes of a text stand before the words that end the job, if nothing else begins in it
 abbrev pub document_len : List ℕ → Option ℕ
 document_len text = len_within (length text) text
+
+-- so many bytes of a text were passed, and what is left says how many the document has
+pub record Scanned (text : List ℕ) (at : ℕ) : Type 0 where
+  pub within : at ≤ length text
+  pub left : document_len text ≡ further at (document_len (drop at text))

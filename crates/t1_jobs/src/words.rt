@@ -2,9 +2,10 @@
 
 ghost use Rattle.std.specs.{Prelude.{◌≡◌, ◌≤◌, length, take_while, IfSome}, Option.{option_map}};
 ghost use Rattle.t1_grammar.specs.Grammar.{either, fixed};
-ghost use Rattle.t1_jobs.specs.Words.{end_of_job, universal_exit, is_in_line, pjl_line, line_end, word, behind_words, may_end, another_begins, document_len};
+ghost use Rattle.t1_jobs.specs.Words.{end_of_job, universal_exit, is_in_line, pjl_line, line_end, word, behind_words, may_end, another_begins, document_len, Scanned};
 
 use crate::kinds::begins_with;
+use memchr::memchr2;
 use t1_bytes::texts::fixed_at;
 
 /// ^D, which ends a job where bytes come one by one.
@@ -99,16 +100,30 @@ fn another_begins(words: &[u8], behind: &[u8]) -> bool
     begins_with(UNIVERSAL_EXIT, words) || begins_with(b"%!", behind)
 }
 
+/// The first place, from this one on, at which ^D or ESC stands, or else the end of the text.
+fn next_end(text: &[u8], from: usize) -> usize
+    requires { from ≤ length text.now }
+    ensures within { result ≤ length text.now }
+    ensures further { from ≤ result }
+    ensures passed { Scanned text.now from → Scanned text.now result }
+{
+    let (_, rest) = text.split_at(from);
+    match memchr2(b'\x04', b'\x1b', rest) {
+        Some(skipped) => from + skipped,
+        None => text.len(),
+    }
+}
+
 /// How many bytes of a text stand before the words that end its job; `None` if something else begins in it.
 pub(crate) fn document_len(text: &[u8]) -> Option<usize>
     ensures exact { result ≡ document_len text.now }
     ensures within { IfSome result (λ n. n ≤ length text.now) }
 {
-    let mut at = 0;
-    'bytes: while at < text.len() {
+    let mut at = next_end(text, 0);
+    'places: while at < text.len() {
         let (_, here) = text.split_at(at);
         if !may_end(here) {
-            at += 1;
+            at = next_end(text, at + 1);
             continue;
         }
         let behind = behind_words(here);
@@ -118,7 +133,7 @@ pub(crate) fn document_len(text: &[u8]) -> Option<usize>
         if another_begins(here, behind) {
             return None;
         }
-        at = text.len() - behind.len();
+        at = next_end(text, text.len() - behind.len());
     }
     Some(at)
 }
