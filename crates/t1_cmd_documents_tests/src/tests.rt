@@ -2,4 +2,5 @@
 
 mod documents;
 mod fonts;
+mod jobs;
 mod kept;

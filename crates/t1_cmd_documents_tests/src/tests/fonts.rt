@@ -12,6 +12,7 @@ use t1_cmd_shared_tests::engines::subset;
 use t1_cmd_shared_tests::feeds::{FINE, Feed, Plan, Sink, word};
 use t1_cmd_shared_tests::lists::readers;
 use t1_cmd_shared_tests::texts::{is, joined, makes_of, text_or_line, wrote};
+use t1_jobs::{FileKind, NoDocument};
 use t1_tiny::PFA;
 
 /// What is asked of documents: their fonts, with these labels, or the font of a name.
@@ -97,7 +98,7 @@ fn inner(alloc: Global) -> Result<Vec<u8>, AllocError> {
     joined(
         alloc,
         &[
-            b"%%BeginDocument: b.eps\n",
+            b"%!PS\n%%BeginDocument: b.eps\n",
             BEGIN,
             whole(),
             b"{restore}if\n%%EndFont\n%%BeginFont: T\n",
@@ -120,8 +121,8 @@ fn fonts_are_listed(rt: HostRuntime) -> Result<(), Fail> {
     const ONE: &[u8] = b"a.ps: 23 Tiny 2 0 joined\n1 places, 1 names, 0 kept\n";
     const THREE: &[u8] = b"a.ps: 23 Tiny 2 0 joined
 b c\xff: 23 Tiny 11 0 joined
-: 46 Tiny 11 1 joined
-: 2975 T\\xffny 11 1 joined
+: 51 Tiny 11 1 joined
+: 2980 T\\xffny 11 1 joined
 4 places, 2 names, 0 kept
 ";
     let alloc = rt.alloc();
@@ -131,7 +132,7 @@ b c\xff: 23 Tiny 11 0 joined
     let c = inner(alloc)?;
     let (a, b, c) = (a.as_slice(), b.as_slice(), c.as_slice());
     assert!(rt; lists(alloc, &[], NONE), "no document");
-    assert!(rt; lists(alloc, &[b"", b"%!PS"], NONE), "no place");
+    assert!(rt; lists(alloc, &[b"%!", b"%!PS"], NONE), "no place");
     assert!(rt; lists(alloc, &[a], ONE), "one");
     assert!(rt; lists(alloc, &[a, b, c], THREE), "three");
     Ok(())
@@ -176,7 +177,7 @@ fn what_is_wrong<'a>(
 ) -> &'static str {
     if !extracts(alloc, b"Tiny", &[b], PFA) {
         "one"
-    } else if !extracts(alloc, b"Tiny", &[b"", a, b], file) {
+    } else if !extracts(alloc, b"Tiny", &[b"%!", a, b], file) {
         "two"
     } else if !second_is_taken_out(alloc, &[a, c]) {
         "the second place"
@@ -241,10 +242,39 @@ fn fonts_that_are_lacking(rt: HostRuntime) -> Result<(), Fail> {
     Ok(())
 }
 
+/// Whether the first of some files carries no document, since it is a PDF file.
+fn is_a_pdf(made: Result<Vec<u8>, FilesRefusal>) -> bool {
+    match made {
+        Err(
+            FilesRefusal {
+                place: Some(0),
+                reason: Reason::Document(NoDocument::IsA(FileKind::Pdf)),
+            },
+        ) => true,
+        other => {
+            drop(other);
+            false
+        }
+    }
+}
+
+// meets run_fonts Document at 1 documents
+// meets run_extract Document at 1 documents
+// meets extract_file Document at 1 documents
+#[test]
+fn files_without_a_document(rt: HostRuntime) {
+    const LINE: &[u8] = b"refused: no document: a PDF file\n";
+    const FILES: &[&[u8]] = &[b"%PDF-1.7\n"];
+    let alloc = rt.alloc();
+    assert!(rt; is(ran(alloc, Asked::Fonts(&[]), FILES), LINE));
+    assert!(rt; is(ran(alloc, Asked::Font(b"Tiny"), FILES), LINE));
+    assert!(rt; is_a_pdf(called(alloc, Asked::Font(b"Tiny"), FILES)));
+}
+
 /// The listing of the fonts of so many documents, the last of which has two.
 fn listing(alloc: Global, count: usize) -> Result<Vec<u8>, AllocError> {
-    const LAST: &[u8] = b": 46 Tiny 11 1 joined
-: 2975 T\\xffny 11 1 joined
+    const LAST: &[u8] = b": 51 Tiny 11 1 joined
+: 2980 T\\xffny 11 1 joined
 301 places, 2 names, 0 kept
 ";
     let mut listing = Vec::new(alloc);

@@ -37,14 +37,14 @@ fn a_place_two_documents_deep(rt: HostRuntime) -> Result<(), Fail> {
     let deep = joined(
         alloc,
         &[
-            b"%%BeginDocument: a\n%%BeginDocument: b\n",
+            b"%!PS\n%%BeginDocument: a\n%%BeginDocument: b\n",
             BEGIN,
             PFA,
             b"%%EndFont\n%%EndDocument\n%%EndDocument\n",
         ],
     )?;
     let deep = deep.as_slice();
-    let want = b"a.ps: 61 Tiny 11 2 joined\n1 places, 1 names, 0 kept\n";
+    let want = b"a.ps: 66 Tiny 11 2 joined\n1 places, 1 names, 0 kept\n";
     assert!(rt; is(list_fonts(alloc, &[b"a.ps"], &[deep]), want));
     assert!(rt; is(extract_file(alloc, b"Tiny", &[deep]), PFA));
     Ok(())

@@ -134,6 +134,33 @@ struct Zeros {
     left: usize,
 }
 
+/// A document of so many bytes: `%!`, and zeros behind it.
+#[derive(Drop)]
+struct Document {
+    begins: bool,
+    left: usize,
+}
+
+impl Document {
+    fn new(left: usize) -> Document {
+        Document { begins: true, left }
+    }
+}
+
+impl Read for Document {
+    fn read(&mut self, buf: &mut [u8]) -> io::Result<usize> {
+        let n = self.left.min(buf.len());
+        buf[..n].fill(0);
+        if self.begins && n >= 2 {
+            buf[0] = b'%';
+            buf[1] = b'!';
+        }
+        self.begins = false;
+        self.left -= n;
+        Ok(n)
+    }
+}
+
 impl Read for Zeros {
     fn read(&mut self, buf: &mut [u8]) -> io::Result<usize> {
         let n = self.left.min(buf.len());
@@ -246,11 +273,11 @@ enum Engine {
     Extract,
 }
 
-/// How an engine over documents of so many zeros ends, as a word.
-fn zeros_as_documents(alloc: Global, left: usize, right: usize, engine: Engine) -> &'static str {
+/// How an engine over documents of so many bytes ends, as a word.
+fn ran_over(alloc: Global, left: usize, right: usize, engine: Engine) -> &'static str {
     let mut readers = [
-        Counted::new(Zeros { left }),
-        Counted::new(Zeros { left: right }),
+        Counted::new(Document::new(left)),
+        Counted::new(Document::new(right)),
     ];
     let mut out = Vec::new(alloc);
     let mut writer = Counted::new(&mut out);
@@ -262,9 +289,9 @@ fn zeros_as_documents(alloc: Global, left: usize, right: usize, engine: Engine) 
     }
 }
 
-/// Whether a document is too long for each call over documents, behind an empty one and before itself.
+/// Whether a document is too long for each call over documents, behind a short one and before itself.
 fn is_too_long_a_document(alloc: Global, document: &[u8]) -> bool {
-    let documents = [b"".as_slice(), document, document];
+    let documents = [b"%!".as_slice(), document, document];
     told_too_long(pool_files(alloc, false, &documents), Some(1))
         && told_too_long(level_files(alloc, &documents), Some(1))
         && told_too_long(list_fonts(alloc, &[], &documents), Some(1))
@@ -354,20 +381,20 @@ fn files_over_the_limit(rt: HostRuntime) -> Result<(), Fail> {
 fn documents_over_the_limit(rt: HostRuntime) -> Result<(), Fail> {
     let alloc = rt.alloc();
     const CASES: &[(usize, usize, Engine, &str)] = &[
-        (1, 268_435_457, Engine::Pool, "too long"),
-        (268_435_457, 1, Engine::Level, "too long"),
+        (2, 268_435_457, Engine::Pool, "too long"),
+        (268_435_457, 2, Engine::Level, "too long"),
         (134_217_728, 134_217_728, Engine::Pool, "too long"),
-        (1, 1, Engine::Pool, "ok"),
-        (1, 268_435_457, Engine::Fonts, "too long"),
-        (268_435_457, 1, Engine::Extract, "too long"),
-        (1, 1, Engine::Extract, "refused"),
+        (2, 2, Engine::Pool, "ok"),
+        (2, 268_435_457, Engine::Fonts, "too long"),
+        (268_435_457, 2, Engine::Extract, "too long"),
+        (2, 2, Engine::Extract, "refused"),
     ];
     for &(left, right, engine, want) in CASES {
-        let word = zeros_as_documents(alloc, left, right, engine);
+        let word = ran_over(alloc, left, right, engine);
         assert!(rt; word == want, "{left} {right}");
     }
-    let mut zeros = Counted::new(Zeros { left: 268_435_457 });
-    let file = read_all(alloc, &mut zeros, 268_435_457)?;
+    let mut long = Counted::new(Document::new(268_435_457));
+    let file = read_all(alloc, &mut long, 268_435_457)?;
     assert!(rt; is_too_long_a_document(alloc, file.as_slice()));
     match file.as_slice().get(..134_217_728) {
         Some(half) => assert!(rt; told_too_long(pool_files(alloc, true, &[half, half]), None)),
