@@ -1,2 +1,3 @@
 pub mod Given
 pub mod LabelLemmas
+pub mod LevelLemmas

@@ -1,4 +1,3 @@
-use Rattle.std.proofs.Common.{List, ℕ}
 use Rattle.t1_subset.specs.NameSets.{lent}
 use Rattle.t1_cmd.specs.{Documents.{text_input}, Extracts.{ExtractsTo}}
 use Rattle.t1_c.proofs.Given.{gives_files}
