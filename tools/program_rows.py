@@ -2,6 +2,7 @@
 
 `tools/test_program.py` runs the program on them, `tools/test_library.py` the same arguments over the library.
 """
+import struct
 from collections import namedtuple
 
 import refused_rows
@@ -132,7 +133,10 @@ def files():
     given["nested.ps"] = given["one.ps"] + b"%%BeginDocument: a.eps\n" + given["two.ps"] + b"%%EndDocument\n"
     given["no.font"] = b"no font"
     given["no.listing"] = b"no listing"
-    given["nothing.ps"] = b""
+    given["nothing.ps"], given["empty.ps"], given["a.pdf"] = b"", b"%!", b"%PDF-1.7\n"
+    given["job.ps"] = b"\x1b%-12345X@PJL JOB\r\n%!PS\n\x04\x1b%-12345X@PJL EOJ\r\n"
+    given["jobs.ps"] = b"%!PS\n\x04%!PS\n"
+    given["dos.eps"] = b"\xc5\xd0\xd3\xc6" + struct.pack("<6L", 30, 5, 0, 0, 35, 3) + b"\xff\xff" + b"%!PS\n" + b"abc"
     given["old"] = b"what stood here"
     return given
 
@@ -419,11 +423,19 @@ def rows_of_pooled():
     yield Row(["pool", "--tags", "out", "one.ps", "two.ps", "tag.ps"], 0, b"", b"", {"out": later})
     apart = given["one.ps"] + given["tag.other.ps"]
     yield Row(["pool", "--tags", "out", "one.ps", "tag.other.ps"], 0, b"", b"kept Small: shells differ in encoding\n", {"out": apart})
-    yield Row(["pool", "out", "no.font", "one.ps"], 0, b"", b"", {"out": b"no font\n" + given["one.ps"]})
+    yield Row(["pool", "out", "job.ps", "dos.eps", "one.ps"], 0, b"", b"", {"out": b"%!PS\n" + b"%!PS\n" + given["one.ps"]})
     yield Row(["pool", "old", "one.ps", "absent"], 3, b"", b"failed: read\n")
     yield Row(["pool", "no.folder/out", "one.ps"], 3, b"", b"failed: write\n")
     yield Row(["pool", "out"], 2, b"", SOME)
-    yield Row(["pool", "out", "nothing.ps", "nothing.ps"], 0, b"", b"", {"out": b""})
+    yield Row(["pool", "out", "empty.ps", "empty.ps"], 0, b"", b"", {"out": b"%!\n%!"})
+    for name, what in (("nothing.ps", "an empty file"), ("no.font", "an unknown file"), ("a.pdf", "a PDF file"), ("jobs.ps", "a job ends inside")):
+        refused = f"refused: no document: {what}\n".encode()
+        yield Row(["pool", "old", "one.ps", name], 1, b"", refused)
+        yield Row(["level", "folder", "one.ps", name], 1, b"", refused)
+        yield Row(["fonts", name], 1, b"", refused)
+        yield Row(["fonts", "--extract", "ABCDEF+Small", "old", "one.ps", name], 1, b"", refused)
+    explained = f"refused: no document: a PDF file\nfile: a.pdf\n{page_rows()['no document: WHAT']}\n".encode()
+    yield Row(["pool", "--explain", "old", "one.ps", "a.pdf"], 1, b"", explained)
 
 
 def rows_without_a_path():
@@ -439,8 +451,9 @@ def rows_of_levelled():
     levelled = {"folder/one.ps": both, "folder/two.ps": both}
     yield Row(["level", "folder", "one.ps"], 0, b"", b"", {"folder/one.ps": given["one.ps"]})
     yield Row(["level", "folder", "one.ps", "two.ps"], 0, b"", b"", levelled)
-    yield Row(["level", "folder", "two.ps", "./one.ps", "no.font"], 0, b"", b"", {**levelled, "folder/no.font": b"no font"})
-    yield Row(["level", "folder", "nothing.ps"], 0, b"", b"", {"folder/nothing.ps": b""})
+    around = {f"folder/{name}": given[name] for name in ("job.ps", "dos.eps")}
+    yield Row(["level", "folder", "two.ps", "./one.ps", "job.ps", "dos.eps"], 0, b"", b"", {**levelled, **around})
+    yield Row(["level", "folder", "empty.ps"], 0, b"", b"", {"folder/empty.ps": b"%!"})
     kept = {name: given[name.split("/")[1]] for name in ("folder/one.ps", "folder/other.ps")}
     yield Row(["level", "folder", "one.ps", "other.ps"], 0, b"", b"kept ABCDEF+Small: shells differ in encoding\n", kept)
     yield Row(["level", "folder", "one.ps", "./one.ps"], 2, b"", b"error: two documents have the name one.ps\n")
@@ -469,9 +482,9 @@ def rows_of_listed_fonts():
     yield Row(["fonts", "nested.ps"], 0, inner + b"2 places, 1 names, 0 kept\n")
     why = b"kept: shells differ in encoding\n"
     kept = f"other.ps: {other} ABCDEF+Small 2 0 ".encode() + why + listed.replace(b"joined\n", why)
-    yield Row(["fonts", "other.ps", "nothing.ps", "one.ps"], 0, kept + b"2 places, 1 names, 1 kept\n")
-    yield Row(["fonts", "no.font"], 0, b"0 places, 0 names, 0 kept\n")
-    yield Row(["fonts", "--extract", "ABCDEF+Small", "out", "no.font", "one.ps", "two.ps"], 0, b"", b"", {"out": PARTS[0]})
+    yield Row(["fonts", "other.ps", "empty.ps", "one.ps"], 0, kept + b"2 places, 1 names, 1 kept\n")
+    yield Row(["fonts", "empty.ps"], 0, b"0 places, 0 names, 0 kept\n")
+    yield Row(["fonts", "--extract", "ABCDEF+Small", "out", "empty.ps", "one.ps", "two.ps"], 0, b"", b"", {"out": PARTS[0]})
     yield Row(["fonts", "--extract", "ABCDEF+Small", "one.ps", "two.ps", "one.ps"], 0, b"", b"", {"one.ps": PARTS[1]})
     yield Row(["fonts", "--extract", "Small", "old", "one.ps"], 1, b"", b"refused: no font Small\n")
     rows = page_rows()

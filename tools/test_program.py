@@ -149,11 +149,11 @@ def shown_progress(program, folder):
     """On a terminal ten documents are shown in one line as they are read, and nine are not."""
     names = [f"{number}.ps" for number in range(10)]
     for name in names:
-        put(b"no font\n", name)
+        put(b"%!PS\n", name)
     shown = b"".join(b"\r\x1b[Kreading %d of 10: %d.ps" % (number + 1, number) for number in range(10)) + b"\r\x1b[K"
     many = said_to_a_terminal([program, "pool", "out", *names])
     few = said_to_a_terminal([program, "pool", "out", *names[1:]])
-    return many == (0, shown) and few == (0, b"") and bytes_of("out") == b"no font\n" * 9
+    return many == (0, shown) and few == (0, b"") and bytes_of("out") == b"%!PS\n" * 9
 
 
 def outputs(program):
