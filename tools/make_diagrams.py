@@ -21,6 +21,7 @@ ABOUT = {
     "t1_tiny": "a font for tests", "t1_grammar": "grammars", "t1_bytes": "files and ciphers", "t1_char": "charstring tokens",
     "t1_run": "the interpreter", "t1_join": "joins and tables", "t1_text": "the texts of fonts",
     "t1_font": "fonts, read and written", "t1_font_laws": "laws of fonts",
+    "t1_jobs": "jobs around documents",
     "t1_algebra": "laws of subsets", "t1_subset": "subset, merge",
     "t1_document": "PostScript documents", "t1_cmd": "the engines", "t1_example": "a caller", "t1_c": "the library for C", "t1subset": "the program",
 }
