@@ -25,7 +25,7 @@ def table():
 def row_of(line, rows):
     """What the man page says of a refusal that is printed as this line."""
     for text, about in rows.items():
-        shape = re.escape(text).replace("NAME", r"\S+").replace("PART", ".+").replace("N", r"\d+", text.split().count("N"))
+        shape = re.escape(text).replace("NAME", r"\S+").replace("PART", ".+").replace("WHAT", ".+").replace("N", r"\d+", text.split().count("N"))
         if re.fullmatch(shape, line):
             return about
     return None

@@ -116,7 +116,8 @@ class Filter:
 
 
 def print_filter(library, program, folder):
-    """The print filter pools jobs as the program does, from standard input and from a file; what is wrong with it, or None."""
+    """The print filter pools jobs as the program does, from standard input and from a file, and lets pass what carries no document; what is
+    wrong with it, or None."""
     here = Filter(library)
     given = program_rows.files()
     jobs = [given["one.ps"] + given["two.ps"], given["one.ps"] + given["other.ps"], b"", b"showpage\n"]
@@ -124,8 +125,8 @@ def print_filter(library, program, folder):
     faults = []
     for job in jobs:
         path = put(job, folder, "job.ps")
-        ran([program, "pool", os.path.join(folder, "out.ps"), path])
-        pooled = (0, bytes_of(folder, "out.ps"), b"INFO:")
+        is_pooled = subprocess.run([program, "pool", os.path.join(folder, "out.ps"), path], capture_output=True).returncode == 0
+        pooled = (0, bytes_of(folder, "out.ps") if is_pooled else job, b"INFO:")
         faults += [here.wrong(pooled, job=job), here.wrong(pooled, path, job=b"another job")]
     failed = (1, b"", b"ERROR:")
     faults += [here.wrong(failed, os.path.join(folder, "absent")), here.wrong(failed, folder), here.wrong(failed, words=("7", "me"))]
@@ -172,7 +173,9 @@ class Pair:
 
 def inputs_of(words):
     """The files of these arguments, whose options stand last."""
-    words = list(itertools.takewhile(lambda word: not word.startswith("--"), words))
+    words = list(itertools.takewhile(lambda word: not word.startswith("--"), [word for word in words if word != "--tags"]))
+    if words[0] in ("pool", "fonts"):
+        return words[2:] if words[0] == "pool" else words[1:]
     return words[2:] if words[0] in ("merge", "rejoin") else words[1:] if words[0] in ("diff", "join") else words[1:2]
 
 
@@ -183,7 +186,7 @@ class Numbers:
         self.numbers = test_header.Header(text).numbers
         self.texts = {}
         for name, shape in re.findall(r'^ *T1SUBSET_(\w+) = \d+,? +/\* "([^"]*)"', text, re.M):
-            shape = re.escape(shape).replace("NAME", r"\S+").replace("PART", "(.+)").replace("N", r"(\d+)", shape.split().count("N"))
+            shape = re.escape(shape).replace("NAME", r"\S+").replace("PART", "(.+)").replace("WHAT", ".+").replace("N", r"(\d+)", shape.split().count("N"))
             self.texts[name.lower()] = shape + (r"(?:, used by \S+)?" if name == "SUBR_DIFFERS" else "")
 
     def detail(self, found):
@@ -205,7 +208,8 @@ def refused_alone(pair, words):
     """The place of the first file that the program refuses by itself, or -1."""
     pair.write({"empty": b""})
     for place, name in enumerate(inputs_of(words)):
-        alone = ["join", name, "empty"] if words[0] == "join" else ["mend", name, "out"] if words[0] in ("mend", "rejoin") else ["check", name]
+        kinds = {"join": ["join", name, "empty"], "pool": ["fonts", name], "fonts": ["fonts", name]}
+        alone = kinds.get(words[0]) or (["mend", name, "out"] if words[0] in ("mend", "rejoin") else ["check", name])
         if pair.alone(pair.programs[0], alone)[0] == 1:
             return place
     return -1

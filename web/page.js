@@ -22,7 +22,7 @@ function made(kind, more, ...inside) {
 function advice(text) {
   const shown = text.replace(", used by ", " used by ");
   for (const [row, about] of Object.entries(REFUSALS)) {
-    const shape = row.replace(/[.*+?^${}()|[\]\\]/g, "\\$&").replace(/\bNAME\b/g, "\\S+").replace(/\bPART\b/, ".+").replace(/\bN\b/, "\\d+");
+    const shape = row.replace(/[.*+?^${}()|[\]\\]/g, "\\$&").replace(/\bNAME\b/g, "\\S+").replace(/\b(PART|WHAT)\b/, ".+").replace(/\bN\b/, "\\d+");
     if (new RegExp(`^${shape}$`).test(shown)) return about;
   }
   return "";

@@ -60,18 +60,22 @@ static void no_bytes(t1subset_bytes font) {
     EXPECT(t1subset_join(NULL, 0, (const uint8_t *) "S 0 0B\n", 7, &answer), T1SUBSET_OK, -1, "S 0 0b\n");
 }
 
-/* Documents without fonts, which stay as they are. */
+/* Documents without fonts, which stay as they are, and files without documents. */
 static void no_documents(t1subset_bytes font) {
     const t1subset_bytes two[] = {font, {NULL, 0}};
     EXPECT(t1subset_pool(NULL, 0, &answer), T1SUBSET_OK, -1, "");
-    EXPECT(t1subset_pool(two + 1, 1, &answer), T1SUBSET_OK, -1, "");
-    EXPECT(t1subset_pool(two, 2, &answer), T1SUBSET_OK, -1, (const char *) font.data);
+    EXPECT(t1subset_pool(two + 1, 1, &answer), T1SUBSET_NO_DOCUMENT, 0, "no document: an empty file");
+    EXPECT(t1subset_pool(two, 1, &answer), T1SUBSET_OK, -1, (const char *) font.data);
+    EXPECT(t1subset_pool(two, 2, &answer), T1SUBSET_NO_DOCUMENT, 1, "no document: an empty file");
     EXPECT(t1subset_pool_tags(NULL, 0, &answer), T1SUBSET_OK, -1, "");
-    EXPECT(t1subset_pool_tags(two, 2, &answer), T1SUBSET_OK, -1, (const char *) font.data);
+    EXPECT(t1subset_pool_tags(two, 1, &answer), T1SUBSET_OK, -1, (const char *) font.data);
+    EXPECT(t1subset_pool_tags(two, 2, &answer), T1SUBSET_NO_DOCUMENT, 1, "no document: an empty file");
     EXPECT(t1subset_fonts(NULL, 0, &answer), T1SUBSET_OK, -1, "0 places, 0 names, 0 kept\n");
-    EXPECT(t1subset_fonts(two, 2, &answer), T1SUBSET_OK, -1, "0 places, 0 names, 0 kept\n");
+    EXPECT(t1subset_fonts(two, 1, &answer), T1SUBSET_OK, -1, "0 places, 0 names, 0 kept\n");
+    EXPECT(t1subset_fonts(two, 2, &answer), T1SUBSET_NO_DOCUMENT, 1, "no document: an empty file");
     EXPECT(t1subset_extract(NULL, 0, NULL, 0, &answer), T1SUBSET_NO_FONT, -1, "no font ");
-    EXPECT(t1subset_extract((const uint8_t *) "Tiny", 4, two, 2, &answer), T1SUBSET_NO_FONT, -1, "no font Tiny");
+    EXPECT(t1subset_extract((const uint8_t *) "Tiny", 4, two, 1, &answer), T1SUBSET_NO_FONT, -1, "no font Tiny");
+    EXPECT(t1subset_extract((const uint8_t *) "Tiny", 4, two, 2, &answer), T1SUBSET_NO_DOCUMENT, 1, "no document: an empty file");
 }
 
 /* A call that levels two documents has returned number; wanted are its number, and the place and the texts of both answers. */
@@ -88,10 +92,11 @@ static void expect_both(uint32_t number, uint32_t wanted, int64_t input, t1subse
 }
 
 static void levels(t1subset_bytes font, uint8_t *too_long) {
-    const t1subset_bytes two[] = {font, {NULL, 0}}, long_one[] = {font, {too_long, TOO_LONG}};
+    const t1subset_bytes two[] = {font, {(const uint8_t *) "%!", 2}}, none[] = {font, {NULL, 0}}, long_one[] = {font, {too_long, TOO_LONG}};
     t1subset_answer both[2];
     memset(both, 0xff, sizeof both);
-    expect_both(t1subset_level(two, 2, both), T1SUBSET_OK, -1, both, (const char *) font.data, "");
+    expect_both(t1subset_level(two, 2, both), T1SUBSET_OK, -1, both, (const char *) font.data, "%!");
+    expect_both(t1subset_level(none, 2, both), T1SUBSET_NO_DOCUMENT, 1, both, "no document: an empty file", "");
     EXPECT(t1subset_level(two, 1, &answer), T1SUBSET_OK, -1, (const char *) font.data);
     if (t1subset_level(NULL, 0, NULL) || t1subset_level(two, 0, both) || both[0].detail != UINT64_MAX) {
         puts("t1subset_level of no documents is refused, or writes an answer");
@@ -174,6 +179,7 @@ static void too_long(t1subset_bytes font) {
         fputs("no memory for a file that is too long: left out\n", stderr);
         return;
     }
+    data[0] = '%', data[1] = '!';
     const t1subset_bytes two[] = {font, {data, TOO_LONG}}, together[] = {font, {data, TOO_LONG - 1}};
     EXPECT(t1subset_check(data, TOO_LONG, &answer), T1SUBSET_FILE_TOO_LONG, 0, "file too long");
     EXPECT(t1subset_mends(data, TOO_LONG, &answer), T1SUBSET_FILE_TOO_LONG, 0, "file too long");

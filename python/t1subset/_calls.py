@@ -207,8 +207,8 @@ def level(documents: Iterable[BytesLike]) -> List[bytes]:
     """The documents, in each of which each place of a name has the joined font, so that any of them may be printed
     without the others.
 
-    >>> some, other = (b"%%BeginFont: Tiny\\n" + subset(font, [name]) + b"%%EndFont\\n" for name in ("X", "Y"))
-    >>> both = b"%%BeginFont: Tiny\\n" + subset(font, ["X", "Y"]) + b"%%EndFont\\n"
+    >>> some, other = (b"%!PS\\n%%BeginFont: Tiny\\n" + subset(font, [name]) + b"%%EndFont\\n" for name in ("X", "Y"))
+    >>> both = b"%!PS\\n%%BeginFont: Tiny\\n" + subset(font, ["X", "Y"]) + b"%%EndFont\\n"
     >>> level([some, other]) == [both, both]
     True
     """

@@ -34,7 +34,7 @@ class Documents(unittest.TestCase):
         self.assertEqual(t1subset.pool([SOME, OTHER, SOME]), before(BOTH) + LINED * 3)
         self.assertEqual(t1subset.pool([SOME + OTHER]), before(BOTH) + LINED * 2)
         self.assertEqual(t1subset.pool(it for it in (SOME, WHOLE)), before(WHOLE) + LINED * 2)
-        self.assertEqual(t1subset.pool([b"%!PS", b"showpage"]), b"%!PS\nshowpage")
+        self.assertEqual(t1subset.pool([b"%!PS", b"\x04%!PS showpage\x04"]), b"%!PS\n%!PS showpage")
         self.assertEqual(t1subset.pool([]), b"")
 
     def test_pooled_by_families(self) -> None:
@@ -46,7 +46,7 @@ class Documents(unittest.TestCase):
         self.assertEqual(t1subset.pool([], tags=True), b"")
 
     def test_levelled(self) -> None:
-        self.assertEqual(t1subset.level([SOME, b"", OTHER]), [BOTH, b"", BOTH])
+        self.assertEqual(t1subset.level([SOME, b"\x04%!", OTHER]), [BOTH, b"\x04%!", BOTH])
         self.assertEqual(t1subset.level([SOME] * 100 + [WHOLE]), [WHOLE] * 101)
         self.assertEqual(t1subset.level([SOME]), [SOME])
         self.assertEqual(t1subset.level([]), [])
@@ -59,12 +59,12 @@ class Documents(unittest.TestCase):
         self.assertEqual(t1subset.extract("Made", UNLIKE[1:]), UNLIKE[1][23:-10])
 
     def test_places(self) -> None:
-        embedded = b"%%BeginDocument: a\n" + OTHER + b"%%EndDocument\n"
-        places = [Placed(0, 23, "Tiny", 11, 0, None), Placed(2, 42, "Tiny", 2, 1, None)]
+        embedded = b"%!\n%%BeginDocument: a\n" + OTHER + b"%%EndDocument\n"
+        places = [Placed(0, 23, "Tiny", 11, 0, None), Placed(2, 45, "Tiny", 2, 1, None)]
         places += [Placed(2, len(embedded) + 23, "Tiny", 2, 0, None)]
         self.assertEqual(t1subset.fonts([WHOLE, b"%!PS\n", embedded + SOME]), places)
         self.assertEqual(t1subset.fonts([]), [])
-        self.assertEqual(t1subset.fonts([PFB, PFA]), [])
+        self.assertEqual(t1subset.fonts([PFA]), [])
 
     def test_names_that_are_no_ascii(self) -> None:
         for name, given in ((b"a\\b", "a\\b"), ("é".encode(), "é"), (b"\xff", "\udcff")):

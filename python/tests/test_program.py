@@ -169,7 +169,7 @@ class Program(unittest.TestCase):
         self.same(["rejoin", "OUT", "IN0", "IN1"], broken, lambda: t1subset.rejoin(broken))
 
     def test_documents(self) -> None:
-        documents = [test_documents.SOME, test_documents.OTHER, *test_documents.UNLIKE, b"showpage"]
+        documents = [test_documents.SOME, test_documents.OTHER, *test_documents.UNLIKE, b"%!showpage"]
         for one in documents:
             for two in documents:
                 said, text = self.run_words(["pool", "OUT", "IN0", "IN1"], [one, two], True)

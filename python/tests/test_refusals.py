@@ -158,7 +158,7 @@ def rows_of_tokens() -> List[Row]:
 
 
 def rows_of_documents() -> List[Row]:
-    document, long, part = b"%!PS\nshowpage\n", bytes(LONG), bytes(LONG - 1)
+    document, long, part, other = b"%!PS\nshowpage\n", bytes(LONG), b"%!" + bytes(LONG - 3), b"%PDF-1.7"
     return [
         (Number.NO_FONT, "no font Tiny", 0, None, lambda: t1subset.extract("Tiny", [document, PFA])),
         (Number.NO_FONT, r"no font \xc3\x89\x5c", 0, None, lambda: t1subset.extract("É\\", [])),
@@ -167,6 +167,10 @@ def rows_of_documents() -> List[Row]:
         (Number.FILE_TOO_LONG, "file too long", 0, 2, lambda: t1subset.level([document, document, long])),
         (Number.FILE_TOO_LONG, "file too long", 0, 1, lambda: t1subset.pool([document, long])),
         (Number.FILE_TOO_LONG, "file too long", 0, None, lambda: t1subset.pool([document, part])),
+        (Number.NO_DOCUMENT, "no document: a PDF file", 0, 1, lambda: t1subset.pool([document, other])),
+        (Number.NO_DOCUMENT, "no document: a PDF file", 0, 2, lambda: t1subset.level([document, document, other])),
+        (Number.NO_DOCUMENT, "no document: a PDF file", 0, 0, lambda: t1subset.fonts([other, document])),
+        (Number.NO_DOCUMENT, "no document: a PDF file", 0, 0, lambda: t1subset.extract("Tiny", [other])),
     ]
 
 
@@ -232,7 +236,7 @@ class Refusals(unittest.TestCase):
         rows = all_rows()
         for number, text, detail, _, _ in rows:
             with self.subTest(number=number):
-                form = re.sub(r"\b(NAME|PART)\b", ".+", re.escape(texts[number.name]))
+                form = re.sub(r"\b(NAME|PART|WHAT)\b", ".+", re.escape(texts[number.name]))
                 self.assertRegex(text, "^" + re.sub(r"\bN\b", str(detail), form))
 
     def test_a_refusal_is_a_value_error_that_can_be_pickled(self) -> None:

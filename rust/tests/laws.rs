@@ -149,12 +149,12 @@ fn fonts_of_documents_join() {
     let joined = subset(&font, &["X", "Y"], Form::Pfa).unwrap();
     let (before, line) = (before_pooled("Tiny", &joined), document("Tiny", b"/Tiny /pool:Tiny findfont definefont pop\n"));
     assert!(pool(&[&one, &other, &one]).unwrap() == [&before[..], &line, &line, &line].concat());
-    assert!(pool(&[&one[..], b"showpage"]).unwrap() == [&one[..], b"showpage"].concat());
-    assert!(level(&[&one[..], b"", &other]).unwrap() == [&both[..], b"", &both]);
+    assert!(pool(&[&one[..], b"\x04%!showpage\x04"]).unwrap() == [&one[..], b"%!showpage"].concat());
+    assert!(level(&[&one[..], b"\x04%!", &other]).unwrap() == [&both[..], b"\x04%!", &both]);
     let none: [&[u8]; 0] = [];
     assert_eq!((pool(&none), level(&none)), (Ok(Vec::new()), Ok(Vec::new())));
     assert!(extract("Tiny", &[&b"%!PS\n"[..], &document("Tiny", &font), &one]).unwrap() == font);
-    let places = fonts(&[&one[..], b"", &other]).unwrap();
+    let places = fonts(&[&one[..], b"%!", &other]).unwrap();
     let places: Vec<_> = places.iter().map(|it| (it.document, it.offset, it.glyphs, it.depth, &it.reason)).collect();
     assert_eq!(places, [(0, 23, 2, 0, &None), (2, 23, 2, 0, &None)]);
 }

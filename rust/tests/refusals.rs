@@ -203,14 +203,18 @@ fn listings() {
 
 #[test]
 fn documents() {
-    let (document, long) = (&b"%!PS\nshowpage\n"[..], &vec![0; LONG][..]);
+    let (document, long, other) = (&b"%!PS\nshowpage\n"[..], &[b"%!", &vec![0; LONG - 2][..]].concat()[..], &b"%PDF-1.7"[..]);
     refused(extract("Tiny", &[document]), Number::NoFont, "no font Tiny", 0, None);
     refused(extract("É\\", &[document]), Number::NoFont, r"no font \xc3\x89\x5c", 0, None);
     refused(extract("Tiny", &[document, long]), Number::FileTooLong, "file too long", 0, Some(1));
     refused(fonts(&[long, document]), Number::FileTooLong, "file too long", 0, Some(0));
     refused(level(&[document, document, long]), Number::FileTooLong, "file too long", 0, Some(2));
     refused(pool(&[document, long]), Number::FileTooLong, "file too long", 0, Some(1));
-    refused(pool(&[document, &long[1..]]), Number::FileTooLong, "file too long", 0, None);
+    refused(pool(&[document, &long[..LONG - 1]]), Number::FileTooLong, "file too long", 0, None);
+    refused(pool(&[document, other]), Number::NoDocument, "no document: a PDF file", 0, Some(1));
+    refused(level(&[document, document, other]), Number::NoDocument, "no document: a PDF file", 0, Some(2));
+    refused(fonts(&[other, document]), Number::NoDocument, "no document: a PDF file", 0, Some(0));
+    refused(extract("Tiny", &[other]), Number::NoDocument, "no document: a PDF file", 0, Some(0));
 }
 
 #[test]
