@@ -107,8 +107,11 @@ fn pooled(rt: HostRuntime) -> Result<(), Fail> {
         assert!(rt; gave(code, &a, (0, 0, -1, want.as_slice())));
     }
     let mut a = used();
-    let code = t1subset_pool(rt.alloc(), &[b"%!PS", b"showpage"], &mut a);
-    assert!(rt; gave(code, &a, (0, 0, -1, b"%!PS\nshowpage")));
+    let code = t1subset_pool(rt.alloc(), &[b"%!PS", b"\x04%!showpage\x04"], &mut a);
+    assert!(rt; gave(code, &a, (0, 0, -1, b"%!PS\n%!showpage")));
+    let mut a = used();
+    let code = t1subset_pool(rt.alloc(), &[b"%!PS", b"%PDF-1.7"], &mut a);
+    assert!(rt; gave(code, &a, (8, 0, 1, b"no document: a PDF file")));
     Ok(())
 }
 
@@ -182,7 +185,13 @@ fn places(rt: HostRuntime) -> Result<(), Fail> {
     let one = document(rt.alloc(), &[b"X"])?;
     let whole = joined(
         rt.alloc(),
-        &[b"%%BeginDocument: a\n", BEGIN, PFA, END, b"%%EndDocument\n"],
+        &[
+            b"%!\n%%BeginDocument: a\n",
+            BEGIN,
+            PFA,
+            END,
+            b"%%EndDocument\n",
+        ],
     )?;
     let mut a = used();
     let code = t1subset_fonts(
@@ -190,7 +199,7 @@ fn places(rt: HostRuntime) -> Result<(), Fail> {
         &[one.as_slice(), b"%!PS", whole.as_slice()],
         &mut a,
     );
-    let want = b"0: 23 Tiny 2 0 joined\n2: 42 Tiny 11 1 joined\n2 places, 1 names, 0 kept\n";
+    let want = b"0: 23 Tiny 2 0 joined\n2: 45 Tiny 11 1 joined\n2 places, 1 names, 0 kept\n";
     assert!(rt; gave(code, &a, (0, 0, -1, want)));
     let mut a = used();
     let code = t1subset_fonts(rt.alloc(), &[], &mut a);
@@ -239,7 +248,7 @@ fn extracted(rt: HostRuntime) -> Result<(), Fail> {
     let code = t1subset_extract(
         rt.alloc(),
         b"Tiny",
-        &[b"", whole.as_slice(), one.as_slice()],
+        &[b"%!", whole.as_slice(), one.as_slice()],
         &mut a,
     );
     assert!(rt; gave(code, &a, (0, 0, -1, PFA)));
