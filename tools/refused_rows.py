@@ -129,7 +129,7 @@ def rows():
     yield "glyph_lacks_subr", ["rejoin", "out", "good", "lacking"], fonts
     yield "glyph_lacks_subr", ["rejoin", "out", "lacking", "good", "good"], fonts
     for file in (b"", b"%PDF-1.7\n", b"%!\n\x04%!\n", b"\xc5\xd0\xd3\xc6"):
-        for words in (["pool", "out", "one.ps", "bad"], ["pool", "--tags", "out", "bad"], ["fonts", "one.ps", "bad"]):
+        for words in (["pool", "out", "one.ps", "bad"], ["fonts", "one.ps", "bad"]):
             yield "no_document", words, {"one.ps": b"%!\n", "bad": file}
     for name, one, other in listings():
         yield name, ["join", "one", "other"], {"one": one, "other": other}
