@@ -25,7 +25,7 @@ import sys
 
 from common import TOP, files_of_tests, homes_of_tests, text_of
 
-CRATES = ["t1_bytes", "t1_char", "t1_run", "t1_join", "t1_font", "t1_document", "t1_subset", "t1_cmd"]
+CRATES = ["t1_bytes", "t1_jobs", "t1_char", "t1_run", "t1_join", "t1_font", "t1_document", "t1_subset", "t1_cmd"]
 # Crates whose tests are run with growths refused. The calls of t1_example are examples, whose answers are not told of.
 GROWING = [*CRATES, "t1_example"]
 MEETS = re.compile(r"^// meets (\w+(?:::\w+)?) (\w+)(?: at ([\d, ]+) ([a-z]+))?$")
@@ -106,6 +106,7 @@ NEVER = {
 # The size that is large for a call: what its contract or the formats allow at most, or else much for it. `None`: one size.
 LARGE = {
     "t1_bytes": {"": 100_000},
+    "t1_jobs": {"": 100_000},
     "t1_char": {"write": 65_535},
     "t1_run": {"": 1000, "SubrSet::new": None, "SubrSet::insert": 65_535, "SubrSet::to_set": 65_535},
     "t1_join": {"": 60_000, "Table::new": None, "Hex::bytes": 131_070},
@@ -142,6 +143,7 @@ FIXED = {
     ],
     "t1_cmd": ["UNIT"],
     "t1_font": ["AROUND", "WORD_LIMIT"],
+    "t1_jobs": ["HEADER"],
     "t1_run": ["OPERANDS", "FLEX_POINTS", "ANSWERS", "LEVELS", "SUBR_LIMIT", "UNIT"],
 }
 # The file limit is met by `t1_cmd`, whose readers need no file of that size.

@@ -45,7 +45,6 @@ fn carries(file: &[u8], document: &[u8], before: usize, behind: usize) -> bool {
     }
 }
 
-// meets job_of Ok at 2 bytes
 #[test]
 fn documents(rt: HostRuntime) {
     for &(file, document, before, behind) in ROWS {
@@ -89,9 +88,6 @@ fn carries_none(file: &[u8], why: NoDocument) -> bool {
     }
 }
 
-// meets job_of IsA at 0 bytes
-// meets job_of BadHeader at 4, 36 bytes
-// meets job_of JobEnds at 11 bytes
 #[test]
 fn no_documents(rt: HostRuntime) {
     for &(file, why) in NONE {
@@ -170,7 +166,6 @@ fn is_kind(alloc: Global, file: &[u8], kind: FileKind, text: &str) -> bool {
     }
 }
 
-// meets file_kind at 0 bytes
 #[test]
 fn kinds(rt: HostRuntime) {
     for &(file, kind, text) in KINDS {
@@ -188,7 +183,6 @@ fn many_ends(alloc: Global, count: usize) -> Option<Vec<u8>> {
     Some(file)
 }
 
-// meets job_of Ok at 1000000 bytes
 #[test]
 fn many_words(rt: HostRuntime) {
     let file = many_ends(rt.alloc(), 1_000_000);
