@@ -52,15 +52,19 @@ fn taken_from(taken: Taken, file: &[u8]) -> Result<&[u8], Reason>
     }
 }
 
-// The same in a vector of its own.
-fn taken_copy(alloc: Global, taken: Taken, file: &[u8]) -> Result<Vec<u8>, Reason>
-    ensures bytes { IfOk result (λ d. taken_input taken file.now ≡ Ok d.items) }
-    ensures refused { IfErr result (MayRefuse (λ a. a ≡ taken_input taken file.now)) }
+// What is taken of a file: the file's own vector where that is all of it.
+fn taken_of(alloc: Global, taken: Taken, file: Vec<u8>) -> Result<Vec<u8>, Reason>
+    ensures bytes { IfOk result (λ d. taken_input taken file.items ≡ Ok d.items) }
+    ensures refused { IfErr result (MayRefuse (λ a. a ≡ taken_input taken file.items)) }
 {
-    match taken_from(taken, file) {
-        Ok(bytes) => Ok(bytes.to_vec(alloc)?),
-        Err(reason) => Err(reason),
+    let bytes = match taken_from(taken, file.as_slice()) {
+        Ok(bytes) => bytes,
+        Err(reason) => return Err(reason),
+    };
+    if bytes == file.as_slice() {
+        return Ok(file);
     }
+    Ok(bytes.to_vec(alloc)?)
 }
 
 // All the bytes of a reader.
@@ -89,7 +93,7 @@ fn read_text<R: Read>(
     ensures turns { calls_counted reader.new ≤ calls_counted reader.old + (file_limit + 1) }
 {
     let file = read_file(alloc, taken, reader)?;
-    match taken_copy(alloc, taken, file.as_slice()) {
+    match taken_of(alloc, taken, file) {
         Ok(bytes) => Ok(bytes),
         Err(reason) => Err(RunFault::Refused(reason)),
     }
