@@ -116,6 +116,7 @@ box_place_text p =
 
 -- ---- what is wanted of them
 
+-- two boxes are spelled by the same bytes
 abbrev pub same_box : Box → Box → Bool
 same_box b c = bytes_eq b.llx c.llx && bytes_eq b.lly c.lly && bytes_eq b.urx c.urx && bytes_eq b.ury c.ury
 

@@ -183,9 +183,11 @@ abbrev pub entry_with : Bool → Spacing → Grammar CodeEntry
 entry_with false s = put_entry s
 entry_with true s = either (put_entry s) (either (one_copy s) (range_copy s))
 
+-- an entry of a table of codes: one that puts a name at a code, or, where the dialect allows it, one that copies names
 abbrev pub code_entry : Dialect → Grammar CodeEntry
 code_entry d = entry_with d.copies d.encoding
 
+-- what closes an Encoding: white space, `readonly` or not, and `def`
 unfoldable pub encoding_end : Spacing → Grammar (List ℕ)
 encoding_end d = do
   white_in d
@@ -224,6 +226,7 @@ array_start d = do
   white_in d
   fixed (codes "[")
 
+-- the bracket that closes a literal array, and what closes the Encoding
 unfoldable pub array_end : Spacing → Grammar (List ℕ)
 array_end d = do
   white_in d

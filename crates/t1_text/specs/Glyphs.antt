@@ -12,6 +12,7 @@ Glyph = Entry (List ℕ)
 abbrev pub glyph : ℕ → Grammar Glyph
 glyph iv = entry (next_name White) iv
 
+-- the word that closes the table
 unfoldable pub glyphs_end : Grammar (List ℕ)
 glyphs_end = do
   white

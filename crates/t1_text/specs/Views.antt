@@ -18,13 +18,16 @@ words_view w = (w.rd.items, w.phrase.items)
 abbrev pub body_view : code.Body → Body
 body_view b = record { rd = b.rd.now; bytes = b.bytes.now; phrase = phrase_view b.phrase }
 
+-- an entry by its key and its body
 abbrev pub entry_view : {K : Type 0} → K → code.Body → Entry K
 entry_view k b = record { key = k; body = body_view b }
 
+-- an entry of an Encoding
 abbrev pub code_entry_view : CodeEntry → CodesEntry
 code_entry_view (entries.Put c n) = Put c n.now
 code_entry_view (entries.Copy from count to) = Copy from count to
 
+-- how an Encoding begins
 abbrev pub opening_view : CodeOpening → Opening
 opening_view (openings.Word w) = Whole w.now
 opening_view openings.Puts = OpensPuts
