@@ -1,11 +1,11 @@
 #!/usr/bin/env python3
-"""Makes two parts of docs/THEOREM.md: the statement of the theorem as it stands, and the reading list, which is what the statement
-needs by name, and nothing else, lowest first.
+"""Makes four parts of docs/THEOREM.md: the statements of the theorems as they stand, and the reading list, which is what they need
+by name, and nothing else, lowest first, with a column for each statement.
 
-It begins at the statement, and goes from each definition to those that it names. Lemmas are counted and not gone into: they
+It begins at a statement, and goes from each definition to those that it names. Lemmas are counted and not gone into: they
 can't be unfolded, so the statement means the same whatever their proofs are, and the prover has checked them.
 With --check nothing is written, and the status is 1 if another page would be. With --imports it prints which files the imports
-of the statement's file reach and the statement doesn't need, and for which names each of them is imported.
+of the first statement's file reach and the statement doesn't need, and for which names each of them is imported.
 
 usage: tools/make_theorem.py [--check | --imports]
 """
@@ -17,8 +17,16 @@ from definitions import Definitions
 
 PAGE = os.path.join(TOP, "docs/THEOREM.md")
 MAKER = "make_theorem.py"
-STATEMENT = ("t1_algebra", "Headline", "Headline")
-QUOTED = ("ComesToSubset", "Headline")
+# Each statement, and what is quoted of its file before it.
+STATEMENTS = {
+    ("t1_algebra", "Headline", "Headline"): ("ComesToSubset",),
+    ("t1_document", "PoolLaws", "Pooled"): (
+        "KeepsOwn", "FindsFont", "AllFind", "StartIsFree", "PlacesFind", "KeepsRest", "PooledOthersStay", "OnePooledByKeys", "PooledAgainByKeys",
+        "InAnyOrderByKeys",
+    ),
+    ("t1_cmd", "Cuts", "Rejoined"): ("AllDrawIn", "IsRejoined"),
+}
+STATEMENT = next(iter(STATEMENTS))
 # The chapters of Adobe Type 1 Font Format, version 1.1, or the Technical Note, for which a file stands; the others are this
 # project's own choice or no matter of the standard.
 CHAPTERS = {
@@ -61,46 +69,55 @@ def sorted_files(definitions, groups):
     return sorted(done, key=lambda path: crates[groups[path][0].crate])
 
 
-def row(path, ones):
-    """The line of a file: its definitions in the order in which they stand."""
+def row(path, ones, needed):
+    """The line of a file: its definitions in the order in which they stand, and how many of them each statement needs."""
     ones = sorted((one for one in ones if not one.is_lemma()), key=lambda one: one.at)
     first = ones[0]
     chapters = CHAPTERS.get(first.crate, {}).get(first.module, "")
     names = ", ".join(f"`{one.name}`" for one in ones)
-    return f"| [{first.crate}: {os.path.basename(path)}](../{path}) | {chapters} | {sum(len(one.lines) for one in ones)} | {names} |"
+    counts = " | ".join(str(sum(one.key() in keys for one in ones) or "") for keys in needed)
+    return f"| [{first.crate}: {os.path.basename(path)}](../{path}) | {chapters} | {sum(len(one.lines) for one in ones)} | {counts} | {names} |"
+
+
+def summary(definitions, statement):
+    """How much is to be read for a statement."""
+    found = definitions.closure([definitions.find(*statement)])
+    lemmas = [one for one in found if one.is_lemma()]
+    found = [one for one in found if not one.is_lemma()]
+    return (
+        f"- `{statement[2]}`: {len(found)} definitions in {len(by_file(found))} files, {sum(len(one.lines) for one in found):,} lines without their comments; "
+        f"{sum(one.kind == 'code' for one in found)} of them are types that code declares. They name {len(lemmas)} lemmas, of "
+        f"{sum(len(one.lines) for one in lemmas)} lines, beside these."
+    )
 
 
 def reading_list():
     definitions = Definitions()
-    found = definitions.closure([definitions.find(*STATEMENT)])
-    lemmas = [one for one in found if one.is_lemma()]
-    found = [one for one in found if not one.is_lemma()]
-    groups = by_file(found)
-    code = sum(one.kind == "code" for one in found)
-    files = sorted_files(definitions, groups)
-    lines = sum(len(one.lines) for one in found)
-    longest = sorted(files, key=lambda path: -sum(len(one.lines) for one in groups[path]))[:4]
+    roots = [definitions.find(*statement) for statement in STATEMENTS]
+    needed = [{one.key() for one in definitions.closure([root])} for root in roots]
+    groups = by_file(one for one in definitions.closure(roots) if not one.is_lemma())
     return [
-        f"{len(found)} definitions in {len(groups)} files, {lines:,} lines without their comments; {code} of them are types that code declares. "
-        f"They name {len(lemmas)} lemmas, of {sum(len(one.lines) for one in lemmas)} lines, beside these. The longest files are "
-        f"{', '.join(f'`{os.path.basename(path)}`' for path in longest[:-1])} and `{os.path.basename(longest[-1])}`.",
+        *(summary(definitions, statement) for statement in STATEMENTS),
         "",
-        "| File | Standard | Lines | Definitions |",
-        "|---|---|---|---|",
-        *(row(path, groups[path]) for path in files),
+        f"| File | Standard | Lines | {' | '.join(f'`{name}`' for _, _, name in STATEMENTS)} | Definitions |",
+        "|---|---|---|" + "---|" * len(STATEMENTS) + "---|",
+        *(row(path, groups[path], needed) for path in sorted_files(definitions, groups)),
     ]
 
 
-def statement():
-    """The statement, and what it says of each making, as they stand in the file."""
-    file = Definitions().files[STATEMENT[:2]]
-    quoted = [one.comment + one.lines for one in map(file.definitions.get, QUOTED)]
+def statement(crate, module, name, before):
+    """A statement, and what is quoted before it, as they stand in the file."""
+    file = Definitions().files[crate, module]
+    quoted = [one.comment + one.lines for one in map(file.definitions.get, (*before, name))]
     return ["```", *"\n\n".join(map("\n".join, quoted)).splitlines(), "```"]
 
 
 def page():
     """The page as it has to be."""
-    return put_between(put_between(text_of(PAGE), MAKER, "statement", statement()), MAKER, "list", reading_list())
+    text = text_of(PAGE)
+    for (crate, module, name), before in STATEMENTS.items():
+        text = put_between(text, MAKER, f"statement {name}", statement(crate, module, name, before))
+    return put_between(text, MAKER, "list", reading_list())
 
 
 def show_imports():
@@ -138,7 +155,7 @@ def main():
     made = page()
     if sys.argv[1:] == ["--check"]:
         stale = text_of(PAGE) != made
-        say("docs/THEOREM.md is stale: run tools/make_theorem.py" if stale else "docs/THEOREM.md lists what the statement needs")
+        say("docs/THEOREM.md is stale: run tools/make_theorem.py" if stale else "docs/THEOREM.md lists what the statements need")
         return int(stale)
     put(made.encode(), PAGE)
     return 0

@@ -1,5 +1,5 @@
 #!/usr/bin/env python3
-"""Checks that docs/THEOREM.md lists what the statement needs, that the rows and calls that it names are there, and that
+"""Checks that docs/THEOREM.md lists what the statements need, that the rows and calls that it names are there, and that
 tools/definitions.py finds what a definition needs: on files that are made for this, whose answers were written by hand, and which
 bind names, pass them on and name them anew.
 
@@ -144,7 +144,7 @@ def main():
         faults.append("docs/THEOREM.md is stale: run tools/make_theorem.py")
     for fault in faults:
         print(fault, file=sys.stderr)
-    print(f"{len(WANTED)} made definitions need what they have to, docs/THEOREM.md lists what the statement needs" if not faults else f"{len(faults)} faults")
+    print(f"{len(WANTED)} made definitions need what they have to, docs/THEOREM.md lists what the statements need" if not faults else f"{len(faults)} faults")
     return 1 if faults else 0
 
 

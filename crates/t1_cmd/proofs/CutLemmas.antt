@@ -16,7 +16,7 @@ use Rattle.t1_document.proofs.Drawn.{drawn_through, shells_are_fonts, each_fille
 use Rattle.t1_subset.proofs.Rejoining.{light_or_heavy}
 use Rattle.t1_cmd.specs.{declared.counting.Counted.{Counted}, declared.faults.Reason.{Reason}, declared.faults.Reason.TheVariants.{Memory}, declared.faults.RunFault.{RunFault}}
 use Rattle.t1_cmd.specs.{declared.faults.FilesRefusal.{FilesRefusal}, Inputs.{Input, value_and, values_of}, Files.{Values, value_before, values_from, OfFiles, RefusesFiles}, Runs.{RunEnds}}
-use Rattle.t1_cmd.specs.{Fonts.{mended_input}, Rejoins.{RejoinsUnless, RejoinsTo}, Cuts.{AreCutFiles, OfRejoined, InputsAreCuts, WritesRejoined, AllDrawIn, RejoinedDraw, RejoinedRenewed}}
+use Rattle.t1_cmd.specs.{Fonts.{mended_input}, Rejoins.{RejoinsUnless, RejoinsTo}, Cuts.{AreCutFiles, OfRejoined, InputsAreCuts, WritesRejoined, AllDrawIn, IsRejoined}}
 use Rattle.t1_cmd.proofs.{OneAnswer.{OneAnswer, files_answered, inputs_answered}, RejoinLemmas.{all_light, rejoins_unlacking, with_no_lack, has_no_lack, rejoins_apart}}
 use Rattle.std.specs.FinMap as maps
 
@@ -146,19 +146,6 @@ writes_rejoined contents form is w v result ends f h t ts s o get =
 normalized_are_fonts : (fs : List FontValue) → AllByRecursion IsFont fs → AreLight (normalized fs) → AllByRecursion IsFont (normalized fs)
 normalized_are_fonts fs h fit = each_filled (indices_of_all (normalized_shells fs)) (normalized_shells fs) (shells_are_fonts fs h) fit
 
--- so is it where no glyph lacks a Subr
-rejoined_draw_so : (form : Form) (fs : List FontValue) (text : List ℕ) → AllByRecursion IsFont fs → first_lack (normalized_shells fs) ≡ None →
-    RejoinsUnless None form fs (Ok text) → (j : FontValue) × IsFont j × (text ≡ canon j form) × AllDrawIn fs j
-rejoined_draw_so form fs text h none (inl a) =
-    let j = a.1.0 in
-    let joined = comes_to_font (normalized fs) j (normalized_are_fonts fs h a.0) a.1.1 in
-    (j, joined, a.1.2, drawn_through fs (normalized fs) j h joined (unlacking_draw.all fs none) (draws_all (normalized fs) (Ok j) a.1.1))
-rejoined_draw_so form fs text h none (inr a) = absurd a.1
-
--- what fonts rejoin to is the file of a font in which each of their glyphs draws as it did
-pub rejoined_draw : RejoinedDraw
-rejoined_draw form fs text h k = let un = rejoins_unlacking form fs text k in rejoined_draw_so form fs text h un.0 un.1
-
 -- ---- kept texts
 
 -- texts that are renewed in fonts of which each has the shell of j are renewed in j
@@ -169,11 +156,22 @@ renewed_through [] (e ∷ es) j s h = absurd s
 renewed_through (f ∷ fs) [] j s h = absurd s
 renewed_through (f ∷ fs) (e ∷ es) j s h = (subst (Renewed f.shell) h.0 s.0, renewed_through fs es j s.1 h.1)
 
-rejoined_renewed_so : (form : Form) (fs : List FontValue) (text : List ℕ) → RejoinsUnless None form fs (Ok text) →
-    (j : FontValue) × (text ≡ canon j form) × AllByRecursion (λ f. Renewed f.shell j.shell) fs
-rejoined_renewed_so form fs text (inl a) =
-    let j = a.1.0 in (j, a.1.2, renewed_through fs (normalized fs) j (normalized_renewed fs) (shells_stay (normalized fs) j a.1.1))
-rejoined_renewed_so form fs text (inr a) = absurd a.1
+-- ---- both
 
-pub rejoined_renewed : RejoinedRenewed
-rejoined_renewed form fs text k = rejoined_renewed_so form fs text (rejoins_unlacking form fs text k).1
+rejoined_so : (form : Form) (fs : List FontValue) (bytes : List ℕ) → AllByRecursion IsFont fs → first_lack (normalized_shells fs) ≡ None →
+    RejoinsUnless None form fs (Ok bytes) → IsRejoined form fs bytes
+rejoined_so form fs bytes h none (inl a) =
+    let j = a.1.0 in
+    let joined = comes_to_font (normalized fs) j (normalized_are_fonts fs h a.0) a.1.1 in
+    record {
+      font = j;
+      is_font = joined;
+      file = a.1.2;
+      draws = drawn_through fs (normalized fs) j h joined (unlacking_draw.all fs none) (draws_all (normalized fs) (Ok j) a.1.1);
+      texts = renewed_through fs (normalized fs) j (normalized_renewed fs) (shells_stay (normalized fs) j a.1.1);
+    }
+rejoined_so form fs bytes h none (inr a) = absurd a.1
+
+-- what fonts rejoin to is the file of a font in which each of their glyphs draws as it did, with the texts of each
+pub rejoined_any : (form : Form) (fs : List FontValue) (bytes : List ℕ) → AllByRecursion IsFont fs → RejoinsTo form fs (Ok bytes) → IsRejoined form fs bytes
+rejoined_any form fs bytes h k = let un = rejoins_unlacking form fs bytes k in rejoined_so form fs bytes h un.0 un.1

@@ -3,7 +3,7 @@ use Rattle.std.specs.{Prelude.{◌≡◌, ℕ, true, List, [], ◌∷◌, Option
 use Rattle.t1_bytes.specs.declared.form.Form.{Form}
 use Rattle.t1_font.specs.{FontValue.{FontValue}, IsFont.{IsFont}, Canon.{canon}, Renewing.{Renewed}}
 use Rattle.t1_text.specs.Boxes.{Box}
-use Rattle.t1_algebra.specs.{Keep.{has}, Alike.{DrawsAlike}, Laws.{AnswersAlike}, Rejoins.{Truncated, IsTruncated, GetBox, rejoined}}
+use Rattle.t1_algebra.specs.{Keep.{has}, Alike.{DrawsAlike}, Laws.{AnswersAlike}, Rejoins.{Truncated, IsTruncated, GetBox, rejoined, TruncatedSubsetsRejoin}}
 use Rattle.t1_cmd.specs.{declared.counting.Counted.{Counted}, declared.faults.RunFault.{RunFault}, Inputs.{Input}, Fonts.{mended_input}, Rejoins.{RejoinsTo}, WrittenSubsets.{Writes}}
 
 -- ---- files
@@ -49,13 +49,17 @@ WritesRejoined contents form inputs w v result = (f : FontValue) → IsFont f �
 abbrev pub AllDrawIn : List FontValue → FontValue → Type 0
 AllDrawIn fonts j = AllByRecursion (λ f. (n : List ℕ) → has f n ≡ true → DrawsAlike f j n × AnswersAlike f j n) fonts
 
--- What fonts rejoin to is the canonical file of a font in which each of their glyphs draws as it did. That no font lacks a Subr which its glyphs execute and
--- another has is what this needs: fonts that do are refused.
-abbrev pub RejoinedDraw : Type 0
-RejoinedDraw = (form : Form) (fonts : List FontValue) (text : List ℕ) → AllByRecursion IsFont fonts → RejoinsTo form fonts (Ok text) →
-    (j : FontValue) × IsFont j × (text ≡ canon j form) × AllDrawIn fonts j
+-- Bytes are the canonical file of a font in which each glyph of each of the fonts draws as it did, and whose kept texts are those of each, renewed.
+pub record IsRejoined (form : Form) (fonts : List FontValue) (bytes : List ℕ) : Type 0 where
+  pub font : FontValue
+  pub is_font : IsFont font
+  pub file : bytes ≡ canon font form
+  pub draws : AllDrawIn fonts font
+  pub texts : AllByRecursion (λ f. Renewed f.shell font.shell) fonts
 
--- what fonts rejoin to is the canonical file of a font whose kept texts are those of each of them, renewed
-abbrev pub RejoinedRenewed : Type 0
-RejoinedRenewed = (form : Form) (fonts : List FontValue) (text : List ℕ) → RejoinsTo form fonts (Ok text) →
-    (j : FontValue) × (text ≡ canon j form) × AllByRecursion (λ f. Renewed f.shell j.shell) fonts
+-- What fonts rejoin to is so. That no font lacks a Subr which its glyphs execute and another has is what this needs: fonts that do are refused. And truncated
+-- subsets of one font rejoin, to the subset over all the names.
+pub record Rejoined : Type 0 where
+  pub any : (form : Form) (fonts : List FontValue) (bytes : List ℕ) → AllByRecursion IsFont fonts → RejoinsTo form fonts (Ok bytes) →
+      IsRejoined form fonts bytes
+  pub cuts : TruncatedSubsetsRejoin

@@ -1,7 +1,7 @@
 //! Laws of the engines, over the definitions alone.
 
 ghost use Rattle.t1_cmd.specs.{Mends.{MendsAgain, MendsNothing, MendedIsSpelled, TellsNothing, RejoinsMended}, Rejoins.{RejoinsWhatMerges}};
-ghost use Rattle.t1_cmd.specs.{Cuts.{RejoinedDraw, RejoinedRenewed}, Subsets.{SubsetWithoutCodes}, Extracts.{TakesOutMended}};
+ghost use Rattle.t1_cmd.specs.{Cuts.{Rejoined}, Subsets.{SubsetWithoutCodes}, Extracts.{TakesOutMended}};
 
 /// Fonts that merge rejoin to the file of what they merge to, with normalized texts, and to nothing else: where the texts are normalized and
 /// have no test to lose, [`run_rejoin`](crate::run_rejoin) writes what [`run_merge`](crate::run_merge) writes, unless a growth was
@@ -17,15 +17,11 @@ pub fn subset_without_codes()
 {}
 
 /// What fonts rejoin to is the canonical file of a font in which each of their glyphs runs and draws as it did, or has the fault that
-/// it had, where hints are replaced and where they are kept, over the maps of both fonts and as calls see them.
-pub fn rejoined_draw()
-    ensures { RejoinedDraw }
-{}
-
-/// Word by word the kept texts of that font are those of each of the fonts, but for the words of lines that number the font, which go,
-/// the tags of its name, the numbers of its FontBBox and the declared count of Subrs.
-pub fn rejoined_renewed()
-    ensures { RejoinedRenewed }
+/// it had, where hints are replaced and where they are kept, over the maps of both fonts and as calls see them. Word by word the kept
+/// texts of that font are those of each of the fonts, but for the words of lines that number the font, which go, the tags of its name,
+/// the numbers of its FontBBox and the declared count of Subrs. Truncated subsets of one font rejoin to the subset over all the names.
+pub fn rejoined()
+    ensures { Rejoined }
 {}
 
 /// A file that [`mend_file`](crate::mend_file) wrote is mended to itself in the same form and, in the other form, to what the

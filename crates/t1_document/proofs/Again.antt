@@ -3,13 +3,13 @@ use Rattle.std.proofs.{Common.{◌≡◌, ℕ, Bool, true, false, cond, refl, sy
 use Rattle.std.proofs.{lemmas.Bool.{and_parts, true≢false}, lemmas.List.{map-append}, lemmas.Option.{none-some, same_Some}, lemmas.Slice.Eq.{bytes_eq-Decides}}
 use Rattle.std.specs.{Prelude.{◌&&◌, ◌||◌, not}, List.{AllByRecursion, list_all}, Option.{option_and_then}, Str.{bytes_eq}}
 use Rattle.t1_font.specs.{declared.fault.ReadFault.{ReadFault}, FontValue.{FontValue}}
-use Rattle.t1_document.specs.{declared.rewriting.Way.TheVariants.{Level, Pool}, declared.joins.Outcome.{Outcome}, declared.joins.Outcome.TheVariants.{Same, Joined, Stays}}
+use Rattle.t1_document.specs.{declared.joins.Outcome.{Outcome}, declared.joins.Outcome.TheVariants.{Same, Joined, Stays}}
 use Rattle.t1_document.specs.Documents.{Place, Document, document_bytes, document_of}
-use Rattle.t1_document.specs.Rewriting.{NewTexts, can_stand, is_barred, is_refused, standing, document_rewritten, levelled, with_new, renewed, ArePooled}
-use Rattle.t1_document.specs.Joins.{Outcomes, AreOutcomes, places_of_all, places_under, fonts_of_places, new_texts, text_for_places, ComeTo, OfPlaces, OfFonts, IsSame, PooledBy, LevelsTo}
-use Rattle.t1_document.specs.{Laws.{HasNew, NoneRefused}, JoinLaws.{NewTextsStand, PooledAgain, LevelledAgain}}
+use Rattle.t1_document.specs.Rewriting.{NewTexts, can_stand, is_barred, is_refused, standing, levelled, with_new, renewed}
+use Rattle.t1_document.specs.Joins.{Outcomes, AreOutcomes, places_of_all, places_under, fonts_of_places, new_texts, text_for_places, ComeTo, OfPlaces, OfFonts, IsSame, LevelsTo}
+use Rattle.t1_document.specs.{Laws.{HasNew, NoneRefused}, JoinLaws.{NewTextsStand, LevelledAgain}}
 use Rattle.t1_document.proofs.{PlaceLemmas.{document_text}, OwnTexts.{Own, own_texts_stand, own_texts_stay}, Rewritten.{same_bytes, where_stands, rewritten_is_read, level_renews}}
-use Rattle.t1_document.proofs.{Pooled.{bare, pools_all, kept_left, pooled_stays}, OneOutcome.{same_text, one_text_for}, Bare.{to_bare}}
+use Rattle.t1_document.proofs.{OneOutcome.{same_text, one_text_for}, Bare.{bare, to_bare}}
 
 -- ---- lists
 
@@ -172,59 +172,6 @@ module _ (old left : List Place) (a b : Outcomes) (are_old : AreOutcomes old a) 
           sym same ∙ e
       by_old (Some t) h = h ∙ ap (λ (u : List ℕ). Some u) (one_had name t (places_under name left) (have name t h) (b name) text (are_left name) e)
 
--- ---- pooled
-
-pub pooled_have : (new : NewTexts) (ps : List Place) → ArePooled new ps → (name text : List ℕ) → new name ≡ Some text → HaveText text (places_under name ps)
-pooled_have new [] h name text e = tt
-pooled_have new (p ∷ ps) h name text e = by_test (bytes_eq p.name name) refl (pooled_have new ps h.1 name text e)
-  where
-    by_test : (b : Bool) → bytes_eq p.name name ≡ b → HaveText text (places_under name ps) →
-        HaveText text (cond b (p ∷ places_under name ps) (places_under name ps))
-    by_test true k more = ((h.0 text (ap new ((bytes_eq-Decides p.name name).0 k) ∙ e)).0, more)
-    by_test false k more = more
-
-pub pooled_by_fewer : (new fewer : NewTexts) → ((name text : List ℕ) → fewer name ≡ Some text → new name ≡ Some text) → (ps : List Place) → ArePooled new ps →
-    ArePooled fewer ps
-pooled_by_fewer new fewer inside [] h = tt
-pooled_by_fewer new fewer inside (p ∷ ps) h = (λ text e. h.0 text (inside p.name text e), pooled_by_fewer new fewer inside ps h.1)
-
--- Places of a text that was pooled with these outcomes: each has the new text of its name, and behind one at depth 0 is no other of that name; those of names
--- without a new text are as they were.
-pub record WerePooled (old : List Place) (outcomes : Outcomes) (ps : List Place) : Type 0 where
-  pub pooled : ArePooled (new_texts outcomes) ps
-  pub kept : (name : List ℕ) → new_texts outcomes name ≡ None → map bare (places_under name ps) ≡ map bare (places_under name old)
-
-pub were_pooled : (text a : List ℕ) (h : PooledBy text a) → WerePooled (document_of text).places h.0 (document_of a).places
-were_pooled text a h =
-    let new = new_texts h.0 in
-    let d = document_of text in
-    let left = document_rewritten Pool new d in
-    let read : document_of a ≡ left = ap document_of h.2 ∙ rewritten_is_read Pool new text in
-    let stand : standing new d.places ≡ new = all_standing new d.places (unrefused new d.places (all_can_have d.places h.0 (own_texts_stand text) h.1)) in
-    let left_are : WerePooled d.places h.0 left.places = record {
-      pooled = subst (λ (n : NewTexts). ArePooled n left.places) stand (pools_all new d);
-      kept = λ name e. kept_left d.last name (standing new d.places) [] d.places (ap (λ (n : NewTexts). n name) stand ∙ e);
-    } in
-    subst (λ (x : Document). WerePooled d.places h.0 x.places) (sym read) left_are
-
--- places that are pooled so stay, with texts that they have
-pub pooled_keeps : (new : NewTexts) (d : Document) → ArePooled (standing new d.places) d.places → document_rewritten Pool new d ≡ d
-pooled_keeps new d all =
-    pooled_stays d.last (standing new d.places) (standing new d.places) (λ name. refl) [] d.places all (λ name t s e. absurd (true≢false (sym s)))
-
-pub pooled_again : PooledAgain
-pooled_again text a b h k =
-    let new = new_texts h.0 in
-    let more = new_texts k.0 in
-    let d = document_of text in
-    let left = document_of a in
-    let were = were_pooled text a h in
-    let fewer : NewTexts = standing more left.places in
-    let inside : (name t : List ℕ) → fewer name ≡ Some t → new name ≡ Some t =
-    λ name t e. among d.places left.places h.0 k.0 h.1 k.1 (pooled_have new left.places were.pooled) were.kept name t
-    (where_stands (is_refused more left.places name) (more name) t e).1 in
-    k.2 ∙ (ap document_bytes (pooled_keeps more left (pooled_by_fewer new fewer inside left.places were.pooled)) ∙ document_text a)
-
 -- ---- levelled
 
 module _ (new : NewTexts) where
@@ -235,7 +182,7 @@ module _ (new : NewTexts) where
   levelled_places (d ∷ ds) h =
       let ps = (document_of d).places in
       let own : (document_of (levelled new d)).places ≡ map (renewed new) ps =
-      ap (λ (x : Document). x.places) (rewritten_is_read Level new d ∙ level_renews new (document_of d))
+      ap (λ (x : Document). x.places) (rewritten_is_read new d ∙ level_renews new (document_of d))
       ∙ ap (λ (n : NewTexts). map (renewed n) ps) (all_standing new ps h.0) in
       (λ i. own i ++ levelled_places ds h.1 i) ∙ sym (map-append (renewed new) ps (places_of_all ds))
 

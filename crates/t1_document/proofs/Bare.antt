@@ -3,7 +3,10 @@ use Rattle.std.{proofs.Common.{◌≡◌, ℕ, Bool, true, false, refl, sym, ◌
 use Rattle.t1_font.specs.{declared.fault.ReadFault.{ReadFault}, FontValue.{FontValue}, ReadFont.{read_font_widely}, FontNames.{normalized_named}}
 use Rattle.t1_document.specs.{declared.joins.Kept.TheVariants.{Unread, Unlike, Barred}, declared.joins.Outcome.{Outcome}, declared.joins.Outcome.TheVariants.{Same, Joined, Stays}, Documents.{Place}}
 use Rattle.t1_document.specs.{Rewriting.{can_stand}, Joins.{fonts_of_places, with_font, ComeTo, OfPlaces, OfFonts, OfNormalized}}
-use Rattle.t1_document.proofs.Pooled.{bare}
+
+-- a place without the bytes before it
+abbrev pub bare : Place → Place
+bare p = record p { before = [] }
 
 fonts_bare : (ps : List Place) → fonts_of_places (map bare ps) ≡ fonts_of_places ps
 fonts_bare [] = refl

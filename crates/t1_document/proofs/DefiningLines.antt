@@ -6,7 +6,7 @@ use Rattle.t1_grammar.specs.Grammar.{Stops}
 use Rattle.t1_bytes.specs.White.{has_bytes}
 use Rattle.t1_text.{specs.{Words.{is_regular, all_regular, keyword}, Tags.{untagged}}, proofs.TagLemmas.{ends_untagged}}
 use Rattle.t1_document.specs.{declared.pooling.Key.{Key}, declared.pooling.Key.TheVariants.{Name, Family}, Pooling.{defined_as, renaming, key_of}, PoolLaws.{defining, renames}}
-use Rattle.t1_document.proofs.AliasLines.{IsRegular}
+use Rattle.t1_document.proofs.RegularNames.{IsRegular}
 
 -- ---- names of regular bytes
 

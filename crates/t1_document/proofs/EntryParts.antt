@@ -11,7 +11,7 @@ use Rattle.t1_document.specs.Pooling.{Entry, entry_bytes, behind_text, renaming,
 use Rattle.t1_document.specs.Pooling.{entry_name, takes_line, entry_named, entry_for, first_of_several, entry_leaving, entry_by, entry_of}
 use Rattle.t1_document.proofs.{LineLemmas.{lines_apart, breaks-nil, breaks_behind}, StretchLemmas.{none_in_nothing, stretches_again}}
 use Rattle.t1_document.proofs.{Breaks.{breaks-behind, begun, mark_starts}, FontLemmas.{font_stands}}
-use Rattle.t1_document.proofs.{AliasLines.{IsRegular, regular_ends, no_end-append, whole_line, slash_no_mark, name_regular}, Spelled.{spells_name}}
+use Rattle.t1_document.proofs.{RegularNames.{IsRegular, regular_ends, no_end-append, whole_line, slash_no_mark, name_regular}, Spelled.{spells_name}}
 
 -- ---- what is known of an entry
 

@@ -4,7 +4,7 @@ use Rattle.std.proofs.{Common.{◌⊎◌, inl, inr, is_some, Bor}, lemmas.Bool.{
 use Rattle.std.proofs.{lemmas.List.Folds.{list_any-append}, Math.Bool.{or-false}, lemmas.Option.{none-some}, lemmas.Slice.Eq.{bytes_eq-Decides}}
 use Rattle.std.specs.{Prelude.{◌||◌, not}, Global.{Vec}, List.{list_any}, Option.{option_copied}, Str.{bytes_eq}}
 use Rattle.t1_document.proofs.WriteLoop.{same_test}
-use Rattle.t1_document.specs.{declared.documents.Place.{Place as CodePlace}, declared.joins.Outcome.{Outcome}, Documents.{Place}, Rewriting.{NewTexts, lacks_name}}
+use Rattle.t1_document.specs.{declared.documents.Place.{Place as CodePlace}, declared.joins.Outcome.{Outcome}, Documents.{Place}, Rewriting.{NewTexts}, Joins.{lacks_name}}
 use Rattle.t1_document.specs.{Joins.{places_under, ComeTo, AreOutcomes}, declared.joins.Joins.{Joins}, declared.texts.Texts.{Texts}, Texts.{text_in}, Groups.{places_of, outcome_in}}
 use Rattle.t1_document.specs.Views.{place_view}
 use Rattle.t1_font.specs.{declared.fault.ReadFault.{ReadFault}, FontValue.{FontValue}}

@@ -12,8 +12,8 @@ use Rattle.t1_document.specs.Pooling.{entry_by, entry_of, entry_in, entry_part, 
 use Rattle.t1_document.specs.Pooling.{keys_of, line_ends, entries, prolog, fate_ending, line_fates, document_pooled, pooled_by}
 use Rattle.t1_document.specs.PoolLaws.{PooledByKeys, PooledAgainByKeys}
 use Rattle.t1_document.proofs.{PlaceLemmas.{document_text}, Retold.{Fits, AllFit, given_line, fated_by}}
-use Rattle.t1_document.proofs.{Rewritten.{document_is, fated_is, same_bytes}, Pooled.{bare}, OneOutcome.{one_text_for}, Bare.{to_bare}}
-use Rattle.t1_document.proofs.{AliasLines.{IsRegular, IsNamed, places_named}, OwnTexts.{Own, own_texts_stand}}
+use Rattle.t1_document.proofs.{Rewritten.{document_is, fated_is, same_bytes}, OneOutcome.{one_text_for}, Bare.{bare, to_bare}}
+use Rattle.t1_document.proofs.{RegularNames.{IsRegular, IsNamed, places_named}, OwnTexts.{Own, own_texts_stand}}
 use Rattle.t1_document.proofs.{DefiningLines.{key_regular, colons_regular}, EntryParts.{IsEntry, known_entry}, KeyedPlaces.{names_hold}, EntryLines.{IsGiven, all_given}}
 use Rattle.t1_document.proofs.{FontLemmas.{font_stands}, OwnStarts.{own_length}, PlacesFind.{same_places, one_pooled_by_keys}}
 use Rattle.t1_document.proofs.OtherStarts.{start_is, free_has_more, clear_more, entry_same, entry_bare}

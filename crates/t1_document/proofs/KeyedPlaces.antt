@@ -5,7 +5,7 @@ use Rattle.t1_bytes.specs.{White.{has_bytes}, Laws.{AreBytes}}
 use Rattle.t1_text.{specs.Tags.{untagged}, proofs.{Bytes.{bytes_right}, TagLemmas.{ends_untagged}}}
 use Rattle.t1_document.specs.{declared.pooling.Key.{Key}, declared.pooling.Key.TheVariants.{Name, Family}, Documents.{Place}, Rewriting.{is_seen}, Joins.{names_from}}
 use Rattle.t1_document.specs.Pooling.{key_of, keyed, any_clashes, keys_of}
-use Rattle.t1_document.proofs.{NewTextsDraw.{IsSound}, AliasLines.{IsRegular, IsNamed}, DefiningLines.{key_regular}}
+use Rattle.t1_document.proofs.{NewTextsDraw.{IsSound}, RegularNames.{IsRegular, IsNamed}, DefiningLines.{key_regular}}
 
 -- a name in bytes has a key in bytes
 key_bytes : (by : Key) (name : List ℕ) → AreBytes name → AreBytes (key_of by name)

@@ -4,7 +4,18 @@ use Rattle.std.proofs.{lemmas.List.Concat.{flat_map-append}, lemmas.List.Folds.{
 use Rattle.std.specs.{Prelude.{◌&&◌, ◌||◌}, List.{flat_map}, Str.{bytes_eq}}
 use Rattle.t1_document.specs.{Lines.{breaks}, Documents.{Place, Document, place_bytes, document_bytes, behind_bytes, prepended, document_of, IsClosed, followed}}
 use Rattle.t1_document.specs.{Rewriting.{NewTexts, is_barred, is_refused, standing, levelled, with_new, renewed}, Laws.{NoneRefused}}
-use Rattle.t1_document.proofs.{PlaceLemmas.{prepended_bytes}, Rewritten.{level_renews}, Pooled.{refused_behind}, JoinedDocuments.{joined_documents}}
+use Rattle.t1_document.proofs.{PlaceLemmas.{prepended_bytes}, Rewritten.{level_renews}, JoinedDocuments.{joined_documents}}
+
+-- with other bytes before it a place bars what it barred
+refused_behind : (new : NewTexts) (name b : List ℕ) (ps : List Place) (last : List ℕ) →
+    is_refused new (behind_bytes b ps last).places name ≡ is_refused new ps name
+refused_behind new name b [] last = refl
+refused_behind new name b (p ∷ ps) last = by_new (new p.name)
+  where
+    by_new : (o : Option (List ℕ)) → ((bytes_eq name p.name && is_barred o (record p { before = b ++ p.before })) || is_refused new ps name)
+        ≡ ((bytes_eq name p.name && is_barred o p) || is_refused new ps name)
+    by_new None = refl
+    by_new (Some text) = refl
 
 -- the bytes of a document behind another
 followed_bytes : (d e : Document) → document_bytes (followed d e) ≡ document_bytes d ++ document_bytes e

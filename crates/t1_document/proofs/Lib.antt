@@ -1,5 +1,4 @@
 mod Rows
-mod FamilyRows
 mod PoolingRows
 pub mod LineLemmas
 pub mod StretchLemmas
@@ -12,7 +11,6 @@ pub mod Retold
 pub mod Rewritten
 pub mod Spelled
 pub mod WriteLoop
-pub mod Pooled
 pub mod OwnTexts
 pub mod JoinedDocuments
 pub mod LevelledApart
@@ -30,13 +28,7 @@ pub mod Exchanges
 pub mod DefiningLines
 pub mod KeyedPlaces
 pub mod AnyOrder
-pub mod AliasLines
-pub mod FamilyLoops
-pub mod Aliased
-pub mod SettledNames
-pub mod LeftPlaces
-pub mod LeftPooled
-pub mod AliasedAgain
+pub mod RegularNames
 pub mod OwnStarts
 pub mod PoolLoops
 pub mod PooledDocuments

@@ -1,8 +1,7 @@
 -- The new texts of a document's places, as code keeps them.
 use Rattle.std.proofs.{Common.{◌≡◌, ℕ, Bool, true, false, cond, List, [], ◌∷◌, None, refl, sym, ap, subst, ◌∙◌, inl, inr}, lemmas.Bool.{cases_Bool, cond-true, cond-false, true≢false}}
 use Rattle.std.specs.{Prelude.{◌||◌, not}, List.{list_any}, Option.{option_and_then}, Str.{bytes_eq}}
-use Rattle.t1_document.specs.{declared.rewriting.Way.TheVariants.{Pool}, Documents.{Place, Document, document_bytes, document_of}, Rewriting.{NewTexts, lacks_name, document_rewritten, pooled}}
-use Rattle.t1_document.specs.Joins.{places_under, ComeTo, Outcomes, AreOutcomes, text_for_places, new_texts}
+use Rattle.t1_document.specs.{Documents.{Place}, Rewriting.{NewTexts}, Joins.{lacks_name, places_under, ComeTo, Outcomes, AreOutcomes, text_for_places, new_texts}}
 use Rattle.t1_document.proofs.WriteLoop.{same_test}
 
 -- ---- new texts
@@ -32,11 +31,3 @@ module _ (ps : List Place) (outcomes : Outcomes) (are : AreOutcomes ps outcomes)
             ∙ ap (option_and_then text_for_places) (sym (none_out name t)))
         | inr f ↦ h name ∙ cond-false (lacks_name name ps) None (new_texts outcomes name) f
       ]
-
-  -- a document with them, of a text
-  pub pooled_so : (text : List ℕ) (last : List ℕ) (texts : NewTexts) (out : List ℕ) → record { places = ps; last = last } ≡ document_of text →
-      ((name : List ℕ) → texts name ≡ cond (lacks_name name ps) None (new_texts outcomes name)) →
-      out ≡ document_bytes (document_rewritten Pool texts (record { places = ps; last = last })) → out ≡ pooled (new_texts outcomes) text
-  pooled_so text last texts out is new e =
-      e ∙ (ap (λ (n : NewTexts). document_bytes (document_rewritten Pool n (record { places = ps; last = last }))) (texts_are texts new)
-      ∙ ap (λ (x : Document). document_bytes (document_rewritten Pool (new_texts outcomes) x)) is)

@@ -9,9 +9,9 @@ use Rattle.t1_subset.specs.{declared.conflict.Conflict.{Conflict}, declared.conf
 use Rattle.t1_subset.specs.{declared.fault.RejoinFault.TheVariants.{Lacks, Merge}, Merger.{NotMerged}, Rejoins.{Rejoin, NotRejoined, NotMergedFilled}}
 use Rattle.t1_subset.proofs.{Answered.{never_stops}, Rejoining.{light_or_heavy}}
 use Rattle.t1_document.specs.{declared.joins.Kept.{Kept}, declared.joins.Kept.TheVariants.{Unread, Unlike, Barred}, declared.joins.Outcome.{Outcome}}
-use Rattle.t1_document.specs.{declared.joins.Outcome.TheVariants.{Same, Joined, Stays}, Fonts.{canon_text}, Documents.{Place, document_of}, Rewriting.{NewTexts, can_stand, pooled, levelled}}
+use Rattle.t1_document.specs.{declared.joins.Outcome.TheVariants.{Same, Joined, Stays}, Fonts.{canon_text}, Documents.{Place}, Rewriting.{NewTexts, can_stand, levelled}}
 use Rattle.t1_document.specs.Joins.{is_full, wants_memory, places_under, fonts_of_places, new_texts, text_for_places, ComeTo, OfPlaces, OfFonts, OfNormalized, IsSame}
-use Rattle.t1_document.specs.JoinLaws.{OneOutcome, OnePooled, OneLevelled}
+use Rattle.t1_document.specs.JoinLaws.{OneOutcome, OneLevelled}
 
 -- ---- fonts that rejoin
 
@@ -83,11 +83,6 @@ one_text_for name (p ∷ ps) (Some a) (Some b) h k =
 
 pub one_outcome : OneOutcome
 one_outcome ps a b h k name = one_text_for name (places_under name ps) (a name) (b name) (h name) (k name)
-
-pub one_pooled : OnePooled
-one_pooled text a b h k =
-    let same : new_texts h.0 ≡ new_texts k.0 = λ i name. one_outcome (document_of text).places h.0 k.0 h.1 k.1 name i in
-    h.2 ∙ (ap (λ (new : NewTexts). pooled new text) same ∙ sym k.2)
 
 pub one_levelled : OneLevelled
 one_levelled documents a b h k =

@@ -10,8 +10,8 @@ use Rattle.t1_document.specs.{declared.marks.Mark.{Mark}, Lines.{is_line_end, in
 use Rattle.t1_document.specs.{Documents.{Place}, Rewriting.{can_give}}
 use Rattle.t1_document.specs.Pooling.{own_start, start_from, free_start, line_end, place_line, behind_text, leaves, is_so, clashes}
 use Rattle.t1_document.specs.Pooling.{named_by, if_clear, entry_name, takes_line, entry_named, entry_for, entry_leaving, entry_of}
-use Rattle.t1_document.proofs.{StretchLemmas.{any_mark}, Breaks.{breaks-behind, begun}, FontLemmas.{font_stands}, Pooled.{bare}, DefiningLines.{regular_both}, EntryParts.{font_named}}
-use Rattle.t1_document.proofs.AliasLines.{IsRegular, IsNamed, no_end, not_closed, regular_ends, no_end-append, slash_no_mark}
+use Rattle.t1_document.proofs.{StretchLemmas.{any_mark}, Breaks.{breaks-behind, begun}, FontLemmas.{font_stands}, Bare.{bare}, DefiningLines.{regular_both}, EntryParts.{font_named}}
+use Rattle.t1_document.proofs.RegularNames.{IsRegular, IsNamed, no_end, not_closed, regular_ends, no_end-append, slash_no_mark}
 
 -- ---- colons
 

@@ -19,7 +19,7 @@ use Rattle.t1_document.specs.PoolLaws.{Found, with_found, own_name, KeepsOwn, de
 use Rattle.t1_document.specs.PoolLaws.{takes_answer, behind_line, RunsStretches, EntersOne, EntersAll, FindsFont, AllFind}
 use Rattle.t1_document.specs.PoolLaws.{place_fates, PlacesFind, KeepsRest, PooledOthersStay, OnePooledByKeys}
 use Rattle.t1_document.proofs.{NewTextsDraw.{IsGood, places_sound, sound_under, come_to}, Drawn.{stays_in_itself}, OneOutcome.{one_outcome}, Rewritten.{same_bytes, fated_written}}
-use Rattle.t1_document.proofs.{AliasLines.{IsRegular, IsNamed, places_named}, OwnTexts.{Own, own_texts_stand}}
+use Rattle.t1_document.proofs.{RegularNames.{IsRegular, IsNamed, places_named}, OwnTexts.{Own, own_texts_stand}}
 use Rattle.t1_document.proofs.{Retold.{no_font_in_line, stands_font}, KeyedPlaces.{keyed_sound, keys_regular}, EntryLines.{IsGiven, all_given}}
 use Rattle.t1_document.proofs.{DefiningLines.{regular_both, key_regular, colons_regular, defining_read, renames_read}, EntryParts.{IsEntry, known_entry, font_regular, stretches_of_entry}}
 

@@ -7,7 +7,7 @@ use Rattle.t1_document.specs.{Stretches.{Stretch, Stretches, stretches, stretche
 use Rattle.t1_document.specs.Documents.{Place, Document, none_open, next_mark, place_with, place_at, behind_bytes, prepended}
 use Rattle.t1_document.specs.Documents.{at_stretch, document_from, document_of, open_at_end, ends_in_part, IsClosed}
 use Rattle.t1_document.specs.{Rewriting.{NewTexts}, Pooling.{Entry, behind_text, entry_bytes, text_part, entry_part, entries}}
-use Rattle.t1_document.proofs.{LineLemmas.{breaks-append}, StretchLemmas.{stretches_again}, Pooled.{bare}, JoinedDocuments.{begins_no_place, joined_documents}, AliasLines.{IsRegular}}
+use Rattle.t1_document.proofs.{LineLemmas.{breaks-append}, StretchLemmas.{stretches_again}, Bare.{bare}, JoinedDocuments.{begins_no_place, joined_documents}, RegularNames.{IsRegular}}
 use Rattle.t1_document.proofs.{DefiningLines.{regular_both}}
 use Rattle.t1_document.proofs.EntryParts.{IsEntry, font_regular, lf_ends, front_of, renaming_ends, word_ends, part, part_end, bytes_are, part_is, end_is}
 

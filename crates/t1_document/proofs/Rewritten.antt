@@ -2,11 +2,11 @@
 use Rattle.std.proofs.{Common.{◌≡◌, ℕ, Bool, true, false, cond, List, [], ◌∷◌, ◌++◌, map, Option, Some, None, refl, sym, ap, ◌∙◌, append_assoc, inl}, lemmas.Bool.{or_parts}, lemmas.Option.{none-some}}
 use Rattle.std.proofs.lemmas.Slice.Eq.{bytes_eq-Decides}
 use Rattle.std.specs.{Prelude.{◌&&◌, ◌||◌, not}, Str.{bytes_eq}}
-use Rattle.t1_document.specs.{declared.marks.Open.{Open}, declared.marks.Mark.{Mark}, declared.rewriting.Way.{Way}, declared.rewriting.Way.TheVariants.{Level}}
+use Rattle.t1_document.specs.{declared.marks.Open.{Open}, declared.marks.Mark.{Mark}}
 use Rattle.t1_document.specs.Stretches.{Stretch, Stretches, stretches, stretches_bytes, stretches_text, mark_lines, AreThose}
 use Rattle.t1_document.specs.Documents.{Place, Document, document_bytes, place_bytes, none_open, open_behind, next_mark, place_at, prepended, document_from, document_of_stretches, document_of}
-use Rattle.t1_document.specs.Rewriting.{NewTexts, can_stand, is_barred, is_refused, standing, Fate, Stays, Becomes, Gives, Goes, is_pool, is_seen, fate_of, seen_behind, at_fate, fated, fated_bytes}
-use Rattle.t1_document.specs.Rewriting.{rewritten_from, document_rewritten, fate_bytes, written_from, levelled, with_new, renewed}
+use Rattle.t1_document.specs.Rewriting.{NewTexts, can_stand, is_barred, is_refused, standing, Fate, Stays, Becomes, Gives, at_fate, fated, fated_bytes}
+use Rattle.t1_document.specs.Rewriting.{level_fate, level_fates, document_rewritten, fate_bytes, levelled, with_new, renewed}
 use Rattle.t1_document.proofs.{StretchLemmas.{stretches_those, stretches_again}, PlaceLemmas.{prepended_bytes, from_bytes}, Breaks.{breaks-same}}
 use Rattle.t1_document.proofs.Retold.{Fits, fated_by, AllFit, all_behind, told_at, left_at, mark_same, line_same, retold, document_retold, start_same, are_retold, fated-prepended}
 
@@ -114,53 +114,42 @@ lines_stay fs text all = ap (λ (x : Stretches). mark_lines x.1) (stretches_are 
 
 -- ---- with new texts
 
-module _ (way : Way) (new : NewTexts) where
-  -- what becomes of places behind these names
-  abbrev fates_from : List (List ℕ) → List Place → List Fate
-  fates_from seen [] = []
-  fates_from seen (p ∷ ps) = fate_of way seen p (new p.name) ∷ fates_from (seen_behind (fate_of way seen p (new p.name)) p seen) ps
+module _ (new : NewTexts) where
+  -- what becomes of places
+  abbrev fates_by : List Place → List Fate
+  fates_by ps = map (λ p. level_fate (new p.name)) ps
 
-  rewritten_fated : (seen : List (List ℕ)) (ps : List Place) (last : List ℕ) → rewritten_from way new seen ps last ≡ fated_by (fates_from seen ps) ps last
-  unfolding rewritten_from fated_by
-  rewritten_fated seen [] last = refl
-  rewritten_fated seen (p ∷ ps) last =
-      let f = fate_of way seen p (new p.name) in
-      ap (at_fate f p) (rewritten_fated (seen_behind f p seen) ps last)
+  level_split : (ps : List Place) (last : List ℕ) → fated (level_fates new ps) last ≡ fated_by (fates_by ps) ps last
+  unfolding fated fated_by
+  level_split [] last = refl
+  level_split (p ∷ ps) last = ap (at_fate (level_fate (new p.name)) p) (level_split ps last)
 
-  goes_or_becomes : (p : Place) (text : List ℕ) (b : Bool) → can_stand text p ≡ true → Fits (cond b Goes (Becomes text)) p
-  goes_or_becomes p text true h = inl refl
-  goes_or_becomes p text false h = h
+  level_fits : (p : Place) (o : Option (List ℕ)) → ((text : List ℕ) → o ≡ Some text → can_stand text p ≡ true) → Fits (level_fate o) p
+  level_fits p None h = tt
+  level_fits p (Some text) h = h text refl
 
-  fate_fits : (seen : List (List ℕ)) (p : Place) (o : Option (List ℕ)) → ((text : List ℕ) → o ≡ Some text → can_stand text p ≡ true) →
-      Fits (fate_of way seen p o) p
-  fate_fits seen p None h = tt
-  fate_fits seen p (Some text) h = goes_or_becomes p text (is_pool way && is_seen seen p.name) (h text refl)
-
-  all_fit : (seen : List (List ℕ)) (ps : List Place) → AllStand new ps → AllFit (fates_from seen ps) ps
-  all_fit seen [] h = tt
-  all_fit seen (p ∷ ps) h = (
-    fate_fits seen p (new p.name) h.0,
-    all_fit (seen_behind (fate_of way seen p (new p.name)) p seen) ps h.1,
-  )
+  all_fit : (ps : List Place) → AllStand new ps → AllFit (fates_by ps) ps
+  all_fit [] h = tt
+  all_fit (p ∷ ps) h = (level_fits p (new p.name) h.0, all_fit ps h.1)
 
 -- what is written is read as it was meant
-pub rewritten_is_read : (way : Way) (new : NewTexts) (text : List ℕ) →
-    document_of (document_bytes (document_rewritten way new (document_of text))) ≡ document_rewritten way new (document_of text)
-rewritten_is_read way new text =
+pub rewritten_is_read : (new : NewTexts) (text : List ℕ) →
+    document_of (document_bytes (document_rewritten new (document_of text))) ≡ document_rewritten new (document_of text)
+rewritten_is_read new text =
     let d = document_of text in
     let stand = standing new d.places in
-    let is : document_rewritten way new d ≡ fated_by (fates_from way stand [] d.places) d.places d.last = rewritten_fated way stand [] d.places d.last in
+    let is : document_rewritten new d ≡ fated_by (fates_by stand d.places) d.places d.last = level_split stand d.places d.last in
     ap (λ (x : Document). document_of (document_bytes x)) is
-    ∙ (document_is (fates_from way stand [] d.places) text (all_fit way stand [] d.places (standing_stands new d.places)) ∙ sym is)
+    ∙ (document_is (fates_by stand d.places) text (all_fit stand d.places (standing_stands new d.places)) ∙ sym is)
 
 -- the marks stay
-pub marks_stay : (way : Way) (new : NewTexts) (text : List ℕ) →
-    mark_lines (stretches (document_bytes (document_rewritten way new (document_of text)))).1 ≡ mark_lines (stretches text).1
-marks_stay way new text =
+pub marks_stay : (new : NewTexts) (text : List ℕ) →
+    mark_lines (stretches (document_bytes (document_rewritten new (document_of text)))).1 ≡ mark_lines (stretches text).1
+marks_stay new text =
     let d = document_of text in
     let stand = standing new d.places in
-    ap (λ (x : Document). mark_lines (stretches (document_bytes x)).1) (rewritten_fated way stand [] d.places d.last)
-    ∙ lines_stay (fates_from way stand [] d.places) text (all_fit way stand [] d.places (standing_stands new d.places))
+    ap (λ (x : Document). mark_lines (stretches (document_bytes x)).1) (level_split stand d.places d.last)
+    ∙ lines_stay (fates_by stand d.places) text (all_fit stand d.places (standing_stands new d.places))
 
 -- ---- its bytes
 
@@ -183,36 +172,24 @@ unfolding fated fated_by
 fated_is [] last = refl
 fated_is (x ∷ xs) last = ap (at_fate x.1 x.0) (fated_is xs last)
 
--- the bytes are those that are written place by place
-pub written_is : (way : Way) (new : NewTexts) (seen : List (List ℕ)) (ps : List Place) (last : List ℕ) →
-    document_bytes (rewritten_from way new seen ps last) ≡ written_from way new seen ps last
-unfolding rewritten_from written_from
-written_is way new seen [] last = refl
-written_is way new seen (p ∷ ps) last =
-    let f = fate_of way seen p (new p.name) in
-    fate_written f p (rewritten_from way new (seen_behind f p seen) ps last)
-    ∙ ap (λ (t : List ℕ). p.before ++ (fate_bytes f p ++ t)) (written_is way new (seen_behind f p seen) ps last)
-
 -- ---- levelled
 
-level_fate : (seen : List (List ℕ)) (p : Place) (o : Option (List ℕ)) (d : Document) →
-    at_fate (fate_of Level seen p o) p d ≡ record { places = with_new o p ∷ d.places; last = d.last }
-level_fate seen p None d = refl
-level_fate seen p (Some text) d = refl
+level_at : (p : Place) (o : Option (List ℕ)) (d : Document) → at_fate (level_fate o) p d ≡ record { places = with_new o p ∷ d.places; last = d.last }
+level_at p None d = refl
+level_at p (Some text) d = refl
 
-level_is : (new : NewTexts) (seen : List (List ℕ)) (ps : List Place) (last : List ℕ) →
-    rewritten_from Level new seen ps last ≡ record { places = map (renewed new) ps; last = last }
-unfolding rewritten_from
-level_is new seen [] last = refl
-level_is new seen (p ∷ ps) last =
-    let f = fate_of Level seen p (new p.name) in
-    level_fate seen p (new p.name) (rewritten_from Level new (seen_behind f p seen) ps last)
-    ∙ ap (λ (d : Document). record { places = renewed new p ∷ d.places; last = d.last }) (level_is new (seen_behind f p seen) ps last)
+level_is : (new : NewTexts) (ps : List Place) (last : List ℕ) →
+    fated (level_fates new ps) last ≡ record { places = map (renewed new) ps; last = last }
+unfolding fated
+level_is new [] last = refl
+level_is new (p ∷ ps) last =
+    level_at p (new p.name) (fated (level_fates new ps) last)
+    ∙ ap (λ (d : Document). record { places = renewed new p ∷ d.places; last = d.last }) (level_is new ps last)
 
 -- a levelled document has the new texts, and is else the same
 pub level_renews : (new : NewTexts) (d : Document) →
-    document_rewritten Level new d ≡ record { places = map (renewed (standing new d.places)) d.places; last = d.last }
-level_renews new d = level_is (standing new d.places) [] d.places d.last
+    document_rewritten new d ≡ record { places = map (renewed (standing new d.places)) d.places; last = d.last }
+level_renews new d = level_is (standing new d.places) d.places d.last
 
 -- a place that has a new text bars what it barred
 barred_same : (new : NewTexts) (name : List ℕ) (o : Option (List ℕ)) (p : Place) →
@@ -256,10 +233,10 @@ levelled_twice new text =
     let d = document_of text in
     let stand = standing new d.places in
     let e : Document = record { places = map (renewed stand) d.places; last = d.last } in
-    let first : document_rewritten Level new d ≡ e = level_renews new d in
-    let again : document_rewritten Level new e ≡ e =
+    let first : document_rewritten new d ≡ e = level_renews new d in
+    let again : document_rewritten new e ≡ e =
     level_renews new e
     ∙ ap (λ (ps : List Place). record { places = ps; last = d.last })
     (renewed_twice stand (standing new e.places) (same_standing new stand d.places) d.places) in
-    ap (λ (x : Document). document_bytes (document_rewritten Level new x)) (rewritten_is_read Level new text ∙ first)
+    ap (λ (x : Document). document_bytes (document_rewritten new x)) (rewritten_is_read new text ∙ first)
     ∙ (ap document_bytes again ∙ ap document_bytes (sym first))

@@ -2,7 +2,7 @@
 use Rattle.std.{proofs.{Common.{◌≡◌, ℕ, Bool, true, false, cond, refl, sym, ◌∙◌, ap, List, [], ◌∷◌, ◌++◌, map}, lemmas.List.{append-nil}}, specs.Str.{bytes_eq}}
 use Rattle.t1_document.specs.{Documents.{Place, Document, behind_bytes, document_of, prepended, followed}, Rewriting.{levelled}, Joins.{places_of_all, places_under, new_texts}}
 use Rattle.t1_document.specs.JoinLaws.{LevelledTogether}
-use Rattle.t1_document.proofs.{Pooled.{bare}, Bare.{come_alike}, JoinedDocuments.{joined_documents}, LevelledApart.{levelled_apart}, Again.{new_texts_stand}}
+use Rattle.t1_document.proofs.{Bare.{bare, come_alike}, JoinedDocuments.{joined_documents}, LevelledApart.{levelled_apart}, Again.{new_texts_stand}}
 
 module _ (name : List ℕ) where
   -- places behind one more, of either list

@@ -3,7 +3,7 @@ use Rattle.std.specs.{Prelude.{◌≡◌, ℕ, true, List, [], ◌∷◌, ◌++�
 use Rattle.t1_bytes.specs.Laws.{AreBytes}
 use Rattle.t1_font.specs.{FontValue.{FontValue}, ReadFont.{read_font_widely}, Encodings.{SameKind}, Renewing.{RenewedAndNamed}}
 use Rattle.t1_algebra.specs.{Keep.{has}, States.{code_state}, Alike.{DrawsAlike}, Laws.{AnswersAlike}}
-use Rattle.t1_document.specs.{Lines.{breaks}, Documents.{Place, IsClosed}, Joins.{Outcomes, AreOutcomes, places_of_all, places_under, new_texts, PooledBy, LevelsTo}, Laws.{NoneRefused}}
+use Rattle.t1_document.specs.{Lines.{breaks}, Documents.{Place, IsClosed}, Joins.{Outcomes, AreOutcomes, places_of_all, places_under, new_texts, LevelsTo}, Laws.{NoneRefused}}
 
 -- ---- glyphs
 
@@ -36,17 +36,9 @@ NewTextsStand = (documents : List (List ℕ)) (outcomes : Outcomes) → AreOutco
 abbrev pub OneOutcome : Type 0
 OneOutcome = (ps : List Place) (a b : Outcomes) → AreOutcomes ps a → AreOutcomes ps b → (name : List ℕ) → new_texts a name ≡ new_texts b name
 
--- a text is pooled to one text
-abbrev pub OnePooled : Type 0
-OnePooled = (text a b : List ℕ) → PooledBy text a → PooledBy text b → a ≡ b
-
 -- documents are levelled to one list of documents
 abbrev pub OneLevelled : Type 0
 OneLevelled = (documents a b : List (List ℕ)) → LevelsTo documents a → LevelsTo documents b → a ≡ b
-
--- what was pooled is pooled to itself
-abbrev pub PooledAgain : Type 0
-PooledAgain = (text a b : List ℕ) → PooledBy text a → PooledBy a b → b ≡ a
 
 -- documents that were levelled are levelled to themselves
 abbrev pub LevelledAgain : Type 0

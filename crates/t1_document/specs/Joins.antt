@@ -1,11 +1,12 @@
 -- What becomes of the fonts of a document: those of one name are joined.
-use Rattle.std.specs.{Prelude.{◌≡◌, ℕ, map, Bool, true, false, List, [], ◌∷◌, filter, codes, Option, Some, None, Result, Ok, Err, if◌then◌else◌}, List.{list_all, flat_map}, Option.{option_and_then}}
+use Rattle.std.specs.Prelude.{◌≡◌, ℕ, map, Bool, true, false, List, [], ◌∷◌, filter, codes, Option, Some, None, Result, Ok, Err, not, if◌then◌else◌}
+use Rattle.std.specs.{List.{list_all, list_any, flat_map}, Option.{option_and_then}}
 use Rattle.std.specs.Str.{bytes_eq}
 use Rattle.t1_font.specs.{declared.fault.ReadFault.{ReadFault}, FontValue.{FontValue}, FaultTexts.{fault_text}, ReadFont.{read_font_widely}, FontNames.{normalized_named}}
 use Rattle.t1_subset.specs.{FaultTexts.{rejoin_text}, declared.fault.RejoinFault.{RejoinFault}, declared.fault.RejoinFault.TheVariants.{Lacks, Merge}, declared.conflict.Conflict.{Conflict}}
 use Rattle.t1_subset.specs.{declared.conflict.Conflict.TheVariants.{Memory}, Rejoins.{Rejoin, NotRejoined}}
 use Rattle.t1_document.specs.{declared.joins.Kept.{Kept}, declared.joins.Kept.TheVariants.{Unread, Unlike, Barred}, declared.joins.Outcome.{Outcome}}
-use Rattle.t1_document.specs.{declared.joins.Outcome.TheVariants.{Same, Joined, Stays}, Fonts.{canon_text}, Documents.{Place, document_of}, Rewriting.{NewTexts, can_stand, is_seen, pooled, levelled}}
+use Rattle.t1_document.specs.{declared.joins.Outcome.TheVariants.{Same, Joined, Stays}, Fonts.{canon_text}, Documents.{Place, document_of}, Rewriting.{NewTexts, can_stand, is_seen, levelled}}
 
 -- what is printed of a reason to keep texts
 abbrev pub kept_text : Kept → List ℕ
@@ -103,10 +104,6 @@ new_texts outcomes name = option_and_then text_for_places (outcomes name)
 
 -- ---- documents
 
--- the outcomes are those of the fonts of a text, and the text with each font once is this
-abbrev pub PooledBy : List ℕ → List ℕ → Type 0
-PooledBy text out = (outcomes : Outcomes) × AreOutcomes (document_of text).places outcomes × (out ≡ pooled (new_texts outcomes) text)
-
 -- the outcomes are those of the fonts of all documents, and each document with them is one of these
 abbrev pub LevelsTo : List (List ℕ) → List (List ℕ) → Type 0
 LevelsTo documents out = (outcomes : Outcomes) × AreOutcomes (places_of_all documents) outcomes × (out ≡ map (levelled (new_texts outcomes)) documents)
@@ -117,3 +114,7 @@ LevelsTo documents out = (outcomes : Outcomes) × AreOutcomes (places_of_all doc
 abbrev pub names_from : List (List ℕ) → List Place → List (List ℕ)
 names_from seen [] = []
 names_from seen (p ∷ ps) = if is_seen seen p.name then names_from seen ps else p.name ∷ names_from (p.name ∷ seen) ps
+
+-- no place has this name
+abbrev pub lacks_name : List ℕ → List Place → Bool
+lacks_name name ps = not (list_any (λ p. bytes_eq name p.name) ps)

@@ -3,9 +3,9 @@ use Rattle.std.specs.{Prelude.{◌≡◌, ◌⊎◌, ◌<◌, ℕ, List, [], ◌
 use Rattle.t1_font.specs.{FontValue.{FontValue}, IsFont.{IsFont}, Canon.{canon}, ReadFont.{read_font_widely}}
 use Rattle.t1_text.specs.Tags.{name_in}
 use Rattle.t1_bytes.specs.declared.form.Form.TheVariants.{Pfa}
-use Rattle.t1_document.specs.{declared.rewriting.Way.{Way}, declared.rewriting.Way.TheVariants.{Level, Pool}, Lines.{breaks}, Stretches.{Stretches, stretches, stretches_text, mark_lines, AreThose}}
+use Rattle.t1_document.specs.{Lines.{breaks}, Stretches.{Stretches, stretches, stretches_text, mark_lines, AreThose}}
 use Rattle.t1_document.specs.{Marks.{has_mark}, Fonts.{font_in, canon_text}, Documents.{Place, Document, document_bytes, document_of, IsClosed, followed}}
-use Rattle.t1_document.specs.Rewriting.{NewTexts, can_stand, is_refused, standing, document_rewritten, written_from, levelled, pooled, renewed, ArePooled}
+use Rattle.t1_document.specs.Rewriting.{NewTexts, can_stand, is_refused, standing, document_rewritten, fated_bytes, level_fates, levelled, renewed}
 
 -- ---- stretches
 
@@ -43,23 +43,23 @@ JoinedDocuments = (a b : List ℕ) → breaks a b ≡ true → IsClosed a → do
 
 -- what is written is read as the document that was to be written
 abbrev pub RewrittenIsRead : Type 0
-RewrittenIsRead = (way : Way) (new : NewTexts) (text : List ℕ) →
-    document_of (document_bytes (document_rewritten way new (document_of text))) ≡ document_rewritten way new (document_of text)
+RewrittenIsRead = (new : NewTexts) (text : List ℕ) →
+    document_of (document_bytes (document_rewritten new (document_of text))) ≡ document_rewritten new (document_of text)
 
 -- its marks stay, each in its line
 abbrev pub MarksStay : Type 0
-MarksStay = (way : Way) (new : NewTexts) (text : List ℕ) →
-    mark_lines (stretches (document_bytes (document_rewritten way new (document_of text)))).1 ≡ mark_lines (stretches text).1
+MarksStay = (new : NewTexts) (text : List ℕ) →
+    mark_lines (stretches (document_bytes (document_rewritten new (document_of text)))).1 ≡ mark_lines (stretches text).1
 
 -- its bytes are, place by place, those before the place and what becomes of the place, and then the last bytes
 abbrev pub OthersStay : Type 0
-OthersStay = (way : Way) (new : NewTexts) (d : Document) →
-    document_bytes (document_rewritten way new d) ≡ written_from way (standing new d.places) [] d.places d.last
+OthersStay = (new : NewTexts) (d : Document) →
+    document_bytes (document_rewritten new d) ≡ fated_bytes (level_fates (standing new d.places) d.places) d.last
 
 -- where fonts are levelled, each place has the new text of its name, and all else stays
 abbrev pub LevelRenews : Type 0
 LevelRenews = (new : NewTexts) (d : Document) →
-    document_rewritten Level new d ≡ record { places = map (renewed (standing new d.places)) d.places; last = d.last }
+    document_rewritten new d ≡ record { places = map (renewed (standing new d.places)) d.places; last = d.last }
 
 -- the font text of each place of a document can stand there
 abbrev pub OwnTextsStand : Type 0
@@ -100,11 +100,3 @@ NoneRefused new text = (name : List ℕ) → is_refused new (document_of text).p
 abbrev pub LevelledApart : Type 0
 LevelledApart = (new : NewTexts) (a b : List ℕ) → breaks a b ≡ true → IsClosed a → NoneRefused new a → NoneRefused new b →
     levelled new (a ++ b) ≡ levelled new a ++ levelled new b
-
--- where fonts are pooled, each place of a name has its new text, and behind one at depth 0 there is no other
-abbrev pub PoolsAll : Type 0
-PoolsAll = (new : NewTexts) (d : Document) → ArePooled (standing new d.places) (document_rewritten Pool new d).places
-
--- to pool twice is to pool once
-abbrev pub PooledTwice : Type 0
-PooledTwice = (new : NewTexts) (text : List ℕ) → pooled new (pooled new text) ≡ pooled new text

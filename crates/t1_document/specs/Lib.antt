@@ -11,6 +11,5 @@ pub mod Joins
 pub mod Groups
 pub mod JoinLaws
 pub mod Families
-pub mod FamilyLaws
 pub mod Pooling
 pub mod PoolLaws

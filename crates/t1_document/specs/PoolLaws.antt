@@ -175,3 +175,15 @@ PooledAgainByKeys = (by : Key) (text a b : List ℕ) → PooledByKeys by text a 
 abbrev pub InAnyOrderByKeys : Type 0
 InAnyOrderByKeys = (by : Key) (documents others : List (List ℕ)) → AllByRecursion AreBytes documents → IsPermutation documents others → (a b : Outcomes) →
     AreOutcomes (keyed by (places_of_all documents)) a → AreOutcomes (keyed by (places_of_all others)) b → (key : List ℕ) → new_texts a key ≡ new_texts b key
+
+-- ---- all of them
+
+-- All that is known of what texts are pooled to. One premise is left: the entries are run, and no job ends between them and a place, since then the fonts
+-- of the pool's names would be gone.
+pub record Pooled : Type 0 where
+  pub finds : PlacesFind
+  pub others : PooledOthersStay
+  pub free : StartIsFree
+  pub one : OnePooledByKeys
+  pub again : PooledAgainByKeys
+  pub orders : InAnyOrderByKeys

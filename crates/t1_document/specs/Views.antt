@@ -1,11 +1,8 @@
 -- What code keeps, as values.
-use Rattle.std.specs.{Prelude.{[], map}, Option.{option_map}}
+use Rattle.std.specs.Prelude.{map}
 use Rattle.t1_document.specs.{declared.stretches.Stretch.{Stretch as CodeStretch}, declared.fonts.FontText.{FontText as CodeFontText}, declared.documents.Place.{Place as CodePlace}}
-use Rattle.t1_document.specs.{declared.documents.Document.{Document as CodeDocument}, declared.families.Led.{Led as CodeLed}, declared.rewriting.Fate.{Fate as CodeFate}}
-use Rattle.t1_document.specs.declared.entries.Entry.{Entry as CodeEntry}
-use Rattle.t1_document.specs.{declared.rewriting.Fate.TheVariants.{Stays, Becomes, Goes}, Stretches.{Stretch}, Fonts.{FontText}, Documents.{Place, Document}, Rewriting.{Fate}}
-use Rattle.t1_document.specs.{Families.{Led}, Pooling.{Entry}}
-use Rattle.t1_document.specs.Rewriting as fates
+use Rattle.t1_document.specs.{declared.documents.Document.{Document as CodeDocument}, declared.entries.Entry.{Entry as CodeEntry}}
+use Rattle.t1_document.specs.{Stretches.{Stretch}, Fonts.{FontText}, Documents.{Place, Document}, Pooling.{Entry}}
 
 -- a stretch of borrowed bytes
 abbrev pub stretch_view : CodeStretch → Stretch
@@ -22,16 +19,6 @@ place_view p = record { before = p.before.now; kind = p.kind; depth = p.depth; n
 -- a document of borrowed bytes
 abbrev pub document_view : CodeDocument → Document
 document_view d = record { places = map place_view d.places.items; last = d.last.now }
-
--- what becomes of a place, with a borrowed text
-abbrev pub fate_view : CodeFate → Fate
-fate_view Stays = fates.Stays
-fate_view (Becomes text) = fates.Becomes text.now
-fate_view Goes = fates.Gives []
-
--- a place and its leader, borrowed
-abbrev pub led_view : CodeLed → Led
-led_view l = record { place = place_view l.place; leader = option_map (λ n. n.now) l.leader }
 
 -- an entry whose text is borrowed
 abbrev pub entry_view : CodeEntry → Entry

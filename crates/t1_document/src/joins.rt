@@ -4,8 +4,8 @@ ghost use Rattle.std.specs.{Prelude.{◌≡◌, ℕ, List, Some, None, map, not,
 ghost use Rattle.std.specs.{Option.{option_map, option_copied}, Str.{bytes_eq}};
 ghost use Rattle.t1_font.specs.Answers.{Answers};
 ghost use Rattle.t1_subset.specs.Rejoins.{NotRejoined};
-ghost use Rattle.t1_document.specs.{Fonts.{canon_text}, Rewriting.{can_stand, lacks_name}};
-ghost use Rattle.t1_document.specs.Joins.{fonts_of_places, wants_memory, text_for_places, kept_text, RejoinToText, OfNormalized, OfFonts, ComeTo, AreOutcomes};
+ghost use Rattle.t1_document.specs.{Fonts.{canon_text}, Rewriting.{can_stand}};
+ghost use Rattle.t1_document.specs.Joins.{fonts_of_places, wants_memory, text_for_places, kept_text, RejoinToText, OfNormalized, OfFonts, ComeTo, AreOutcomes, lacks_name};
 ghost use Rattle.t1_document.specs.{Joins.{places_under, new_texts}, Groups.{places_in, outcome_in}, Texts.{text_in}, Views.{place_view, document_view}};
 
 use crate::documents::{Document, Place};

@@ -1,12 +1,9 @@
 //! Laws of documents.
 
 ghost use Rattle.t1_document.specs.Laws.{StretchesOfText, ReadAgain, DocumentOfText, PlacesSpell, JoinedDocuments, RewrittenIsRead, MarksStay, OthersStay};
-ghost use Rattle.t1_document.specs.Laws.{LevelRenews, CanonStands, OwnTextsStand, OwnTextsStay, LevelledTwice, LevelledApart, PoolsAll, PooledTwice};
-ghost use Rattle.t1_document.specs.JoinLaws.{NewTextsDraw, NewTextsStand, OneOutcome, OnePooled, OneLevelled, PooledAgain, LevelledAgain, LevelledTogether};
-ghost use Rattle.t1_document.specs.JoinLaws.{InAnyOrder};
-ghost use Rattle.t1_document.specs.FamilyLaws.{AliasedIsRead, AliasedMarksStay, AliasedOthersStay, AliasesDraw, OneAliased, OneByFamilies, FamiliesAgain};
-ghost use Rattle.t1_document.specs.PoolLaws.{StartIsFree, PlacesFind, PooledOthersStay, OnePooledByKeys};
-ghost use Rattle.t1_document.specs.PoolLaws.{PooledAgainByKeys, InAnyOrderByKeys};
+ghost use Rattle.t1_document.specs.Laws.{LevelRenews, CanonStands, OwnTextsStand, OwnTextsStay, LevelledTwice, LevelledApart};
+ghost use Rattle.t1_document.specs.JoinLaws.{NewTextsDraw, NewTextsStand, OneOutcome, OneLevelled, LevelledAgain, LevelledTogether, InAnyOrder};
+ghost use Rattle.t1_document.specs.PoolLaws.{Pooled};
 
 /// The stretches of a text, joined, are the text.
 pub fn stretches_of_text()
@@ -34,13 +31,13 @@ pub fn joined_documents()
 {}
 
 /// What is written for new texts is read again as it was meant: each place has its name, kind, depth, rest and the bytes before
-/// it, those whose names are not refused have the new texts, and a place that went is no place.
+/// it, and those whose names are not refused have the new texts.
 pub fn rewritten_is_read()
     ensures { RewrittenIsRead }
 {}
 
 /// The marks of a document stay where its fonts get new texts, each in its line; and each byte stays outside the font texts
-/// and the rests of places that become something else.
+/// that become something else.
 pub fn others_stay()
     ensures marks { MarksStay }
     ensures bytes { OthersStay }
@@ -73,17 +70,6 @@ pub fn levelled_apart()
     ensures { LevelledApart }
 {}
 
-/// Where fonts are pooled, each place of a name that isn't refused has its new text, and behind one at depth 0 there is no
-/// other place of that name.
-pub fn pools_all()
-    ensures { PoolsAll }
-{}
-
-/// To pool twice with the same new texts is to pool once.
-pub fn pooled_twice()
-    ensures { PooledTwice }
-{}
-
 /// What the places of a name get spells a font in which each glyph of the font of one of these places runs and draws as it did there,
 /// its faults included, and each code keeps its name; word by word the kept texts are those of that font, but for what normalizing may
 /// change and the name itself.
@@ -96,17 +82,10 @@ pub fn new_texts_stand()
     ensures { NewTextsStand }
 {}
 
-/// What places get for a name is one text or none, so there is one text that documents are pooled to, and one list of documents
-/// that they are levelled to.
+/// What places get for a name is one text or none, so there is one list of documents that documents are levelled to.
 pub fn one_outcome()
     ensures texts { OneOutcome }
-    ensures pooled { OnePooled }
     ensures levelled { OneLevelled }
-{}
-
-/// A text that was pooled is pooled to itself.
-pub fn pooled_again()
-    ensures { PooledAgain }
 {}
 
 /// Documents that were levelled are levelled to themselves.
@@ -125,65 +104,11 @@ pub fn in_any_order()
     ensures { InAnyOrder }
 {}
 
-/// What is written where families have one font each is read again as it was meant: the places of a leader have its new text, and
-/// those that gave way to a line are no places.
-pub fn aliased_is_read()
-    ensures { AliasedIsRead }
-{}
-
-/// The marks of a document stay where its families have one font each, each in its line; and each byte stays outside the font
-/// texts and the rests of places that become something else.
-pub fn aliased_others_stay()
-    ensures marks { AliasedMarksStay }
-    ensures bytes { AliasedOthersStay }
-{}
-
-/// What the places of a leader get spells a font in which each glyph of the font of a place under that leader runs and draws as it did
-/// there, its faults included, and each code keeps its name; word by word the kept texts are those of that font, but for what normalizing
-/// may change and the name itself.
-pub fn aliases_draw()
-    ensures { AliasesDraw }
-{}
-
-/// There is one text that a text comes to where its families have one font each, and one where it is pooled before.
-pub fn one_by_families()
-    ensures aliased { OneAliased }
-    ensures families { OneByFamilies }
-{}
-
-/// A text that was pooled by families is pooled so to itself.
-pub fn families_again()
-    ensures { FamiliesAgain }
-{}
-
-/// What the names of a pool begin with stands nowhere in the text that is pooled.
-pub fn start_is_free()
-    ensures { StartIsFree }
-{}
-
 /// Where the bytes of a pooled text's entries are run, and then those at its places, the name of each place finds a font right behind
-/// the font text or the line that stands there, in which the place's own stays, whatever is run between that leaves the pool's names.
-pub fn places_find()
-    ensures { PlacesFind }
-{}
-
-/// The bytes of a pooled text are its entries and then, place by place, those before the place, its font text or a line, and its
-/// rest; and the last bytes.
-pub fn pooled_others_stay()
-    ensures { PooledOthersStay }
-{}
-
-/// A text is pooled by keys to one text.
-pub fn one_pooled_by_keys()
-    ensures { OnePooledByKeys }
-{}
-
-/// A text that was pooled by keys is pooled by them to itself.
-pub fn pooled_again_by_keys()
-    ensures { PooledAgainByKeys }
-{}
-
-/// In any order documents get the same texts for their keys.
-pub fn in_any_order_by_keys()
-    ensures { InAnyOrderByKeys }
+/// the font text or the line that stands there, in which the place's own stays, whatever is run between that leaves the pool's names,
+/// which begin as nothing in the text does. The bytes of a pooled text are its entries and then, place by place, those before the
+/// place, its font text or a line, and its rest; and the last bytes. A text is pooled to one text, and that is pooled to itself; in
+/// any order documents get the same texts for their keys.
+pub fn pooled()
+    ensures { Pooled }
 {}

@@ -1,14 +1,12 @@
 //! Type 1 fonts in PostScript documents.
 //!
 //! [`read_document`] finds the places of fonts in a document, between the marks that producers write around them. Each
-//! [`Place`] has the name of its font, lends its text, and reads the font again. [`Document::level`] and [`Document::pool`]
-//! write the document with new texts for some names, at each place or once for all that follow.
+//! [`Place`] has the name of its font, lends its text, and reads the font again. [`join_fonts`] says what the fonts of each name
+//! come to. [`Document::level`] writes the document with new texts at the places of some names, and [`pool_document`] with each
+//! font once, before all places.
 //!
 //! ```text
-//! let document = read_document(alloc, text)?;
-//! let mut texts = Texts::new(alloc);
-//! texts.put(b"CMR10", font_text)?;
-//! let pooled = document.pool(alloc, &texts)?;
+//! let pooled = pool_document(alloc, Key::Name, text)?;
 //! ```
 //!
 //! The specifications speak of a document by its lines (`specs/Lines.antt`), its marks and the stretches behind them
@@ -33,7 +31,6 @@ mod stretches;
 mod texts;
 
 pub use documents::{Document, Place, read_document};
-pub use families::members_of;
 pub use joins::{Joins, Kept, Outcome, join_fonts};
 pub use lines::push_document;
 pub use marks::{Kind, Mark, Side};

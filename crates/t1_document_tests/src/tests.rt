@@ -1,6 +1,5 @@
 //! Documents as producers write them: which places they have, and what they become with new texts.
 
-mod families;
 mod growths;
 mod joins;
 mod kept;

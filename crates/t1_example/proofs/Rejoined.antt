@@ -3,7 +3,7 @@ use Rattle.std.proofs.Common.{◌≡◌, ℕ, sym, ◌∙◌, subst, List, [], �
 use Rattle.t1_bytes.specs.{declared.form.Form.{Form}, Laws.{AreBytes}}
 use Rattle.t1_font.specs.{FontValue.{FontValue}, Canon.{canon}}
 use Rattle.t1_cmd.specs.{Files.{Values, value_before, values_from, OfFiles}, Fonts.{mended_input}, Rejoins.{RejoinsTo}, Cuts.{AllDrawIn}}
-use Rattle.t1_cmd.proofs.{CutLemmas.{rejoined_draw}, MendLemmas.{mended_font}}
+use Rattle.t1_cmd.proofs.{CutLemmas.{rejoined_any}, MendLemmas.{mended_font}}
 
 -- what two files say
 both_said : (first second : List ℕ) (f g : FontValue) → mended_input first ≡ Ok f → mended_input second ≡ Ok g →
@@ -17,10 +17,10 @@ pub drawn_so : {V : Type 0} (view : V → List ℕ) (form : Form) (first second 
     (j : FontValue) × (view result ≡ canon j form) × AllDrawIn (f ∷ g ∷ []) j
 drawn_so view form first second result b c d f g e k =
     let fonts : d.0 ≡ f ∷ g ∷ [] = same d.0 (sym d.1 ∙ both_said first second f g e k) in
-    let all = rejoined_draw form (f ∷ g ∷ []) (view result)
+    let all = rejoined_any form (f ∷ g ∷ []) (view result)
     ((mended_font first f b e).0, ((mended_font second g c k).0, tt))
     (subst (λ (fs : List FontValue). RejoinsTo form fs (Ok (view result))) fonts d.2) in
-    (all.0, all.2, all.3)
+    (all.font, all.file, all.draws)
   where
     same : (fs : List FontValue) → ◌≡◌ {A = Values FontValue} (Ok fs) (Ok (f ∷ g ∷ [])) → fs ≡ f ∷ g ∷ []
     same fs e = cc

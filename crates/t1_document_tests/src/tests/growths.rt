@@ -1,11 +1,11 @@
 //! Each call that grows, over a small document. `tools/sweep_growths.py` refuses one growth after the other: a call that then
 //! answers want of memory answers right when it is made again.
 
-use super::rewriting::rewritten;
+use super::rewriting::levelled;
 use super::tiny;
 use std::alloc::{AllocError, Global};
 use t1_document::{
-    Document, Joins, Outcome, Place, join_fonts, members_of, names_of, push_document, read_document,
+    Document, Joins, Outcome, Place, join_fonts, names_of, push_document, read_document,
 };
 use t1_font::ReadFault;
 use t1_font_shared_tests::{joined, seen, used};
@@ -73,47 +73,23 @@ fn joins_right(alloc: Global, text: &[u8]) -> Result<bool, AllocError> {
     )
 }
 
-/// Whether a document stays this text, with one font for each family of which these are the members.
-fn stays(
-    alloc: Global,
-    document: &Document<'_>,
-    members: &[Place<'_>],
-    text: &[u8],
-) -> Result<bool, AllocError> {
-    let same = used(join_fonts(alloc, members), |joins| {
-        Ok(document.alias(alloc, joins)?.as_slice() == text)
-    });
-    Ok(members.len() == 1 && same?)
-}
-
-/// Whether a text with one place stays, with one font for each family.
-fn keeps_family(alloc: Global, text: &[u8]) -> Result<bool, AllocError> {
-    used(read_document(alloc, text), |document| {
-        used(members_of(alloc, document.places.as_slice()), |members| {
-            stays(alloc, document, members.as_slice(), text)
-        })
-    })
-}
-
 /// Whether a text is read right, and joins.
 fn is_read_right(alloc: Global, text: &[u8]) -> Result<bool, AllocError> {
     let read = used(
         read_document(alloc, text),
         |document| is_at(alloc, document, 12),
     )?;
-    Ok(read && joins_right(alloc, text)? && keeps_family(alloc, text)?)
+    Ok(read && joins_right(alloc, text)?)
 }
 
-/// Whether a document gets a new text, levelled and pooled.
-fn is_rewritten(
+/// Whether a document gets a new text.
+fn is_levelled(
     alloc: Global,
     parts: &[&[u8]],
     new: &[u8],
     want: &[u8],
 ) -> Result<bool, AllocError> {
-    let levelled = rewritten(alloc, parts, new, false)?;
-    let pooled = rewritten(alloc, parts, new, true)?;
-    Ok(levelled.as_slice() == want && pooled.as_slice() == want)
+    Ok(levelled(alloc, parts, new)?.as_slice() == want)
 }
 
 /// Whether each call answers right.
@@ -125,7 +101,7 @@ fn all_answer_right(alloc: Global) -> Result<bool, AllocError> {
     let want = joined(alloc, &[b"%%BeginFont\n", new.as_slice(), b"\n%%EndFont\n"])?;
     Ok(
         is_read_right(alloc, text.as_slice())?
-            && is_rewritten(alloc, &parts, new.as_slice(), want.as_slice())?,
+            && is_levelled(alloc, &parts, new.as_slice(), want.as_slice())?,
     )
 }
 

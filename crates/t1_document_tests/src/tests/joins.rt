@@ -4,7 +4,7 @@ use super::tiny;
 use std::alloc::{AllocError, Global};
 use std::test::Fail;
 use t1_document::{
-    Document, Joins, Outcome, Place, Texts, join_fonts, names_of, push_document, read_document,
+    Document, Joins, Outcome, Place, join_fonts, names_of, push_document, read_document,
 };
 use t1_font::{Font, Form, write};
 use t1_font_shared_tests::{are_same, is, joined, of_font, seen, used, with};
@@ -46,47 +46,37 @@ pub fn lines(
     )
 }
 
-/// Whether a document with these texts is levelled to this and pooled to that.
-fn is_rewritten(
-    alloc: Global,
-    document: &Document<'_>,
-    texts: &Texts<'_>,
-    level: &[&[u8]],
-    pool: &[&[u8]],
-) -> bool {
-    are_same(document.level(alloc, texts), joined(alloc, level))
-        && are_same(document.pool(alloc, texts), joined(alloc, pool))
-}
-
-/// Whether a document whose fonts come to this has these lines, and is rewritten so.
+/// Whether a document whose fonts come to this has these lines, and is levelled so.
 fn joins_to(
     alloc: Global,
     document: &Document<'_>,
     joins: &Joins<'_>,
     told: &[u8],
     level: &[&[u8]],
-    pool: &[&[u8]],
 ) -> bool {
-    let rewritten = seen(document.new_texts(alloc, joins), |texts| {
-        is_rewritten(alloc, document, texts, level, pool)
-    });
-    rewritten == Ok(true) && is(lines(alloc, document.places.as_slice(), joins), told)
+    let levelled = used(
+        document.new_texts(alloc, joins),
+        |texts| document.level(alloc, texts),
+    );
+    are_same(levelled, joined(alloc, level))
+        && is(lines(alloc, document.places.as_slice(), joins), told)
 }
 
 /// Whether a text comes to this.
-fn text_comes(alloc: Global, text: &[u8], told: &[u8], level: &[&[u8]], pool: &[&[u8]]) -> bool {
+fn text_comes(alloc: Global, text: &[u8], told: &[u8], level: &[&[u8]]) -> bool {
     let comes = used(read_document(alloc, text), |document| {
-        seen(join_fonts(alloc, document.places.as_slice()), |joins| {
-            joins_to(alloc, document, joins, told, level, pool)
-        })
+        seen(
+            join_fonts(alloc, document.places.as_slice()),
+            |joins| joins_to(alloc, document, joins, told, level),
+        )
     });
     comes == Ok(true)
 }
 
-/// Whether a document of these parts has these lines, a line for each name, and is levelled to this and pooled to that.
-pub fn comes(alloc: Global, parts: &[&[u8]], told: &[u8], level: &[&[u8]], pool: &[&[u8]]) -> bool {
+/// Whether a document of these parts has these lines, a line for each name, and is levelled to this.
+pub fn comes(alloc: Global, parts: &[&[u8]], told: &[u8], level: &[&[u8]]) -> bool {
     match joined(alloc, parts) {
-        Ok(text) => text_comes(alloc, text.as_slice(), told, level, pool),
+        Ok(text) => text_comes(alloc, text.as_slice(), told, level),
         Err(_) => false,
     }
 }
@@ -128,8 +118,6 @@ pub const BEGIN: &[u8] = b"%%BeginResource: font CMR10\n";
 
 pub const END: &[u8] = b"\n{restore}if\n%%EndResource\n";
 
-pub const EMPTY_END: &[u8] = b"%%EndResource\n";
-
 const INSIDE: &[u8] = b"%%BeginDocument: a\n";
 
 const BEHIND: &[u8] = b"%%EndDocument\n";
@@ -141,7 +129,6 @@ fn two_join<'a>(alloc: Global, a: &'a [u8], b: &'a [u8]) -> bool {
         &[BEGIN, a, END, b"x\n", BEGIN, b, END],
         b"Tiny joined\n",
         &[BEGIN, b, END, b"x\n", BEGIN, b, END],
-        &[BEGIN, b, END, b"x\n", BEGIN, EMPTY_END],
     )
 }
 
@@ -150,23 +137,16 @@ fn what_is_wrong<'a>(alloc: Global, a: &'a [u8], b: &'a [u8], c: &'a [u8]) -> &'
     const SAME: &[u8] = b"Tiny same\n";
     let kept = [BEGIN, a, END, BEGIN, c, END];
     let twice = [BEGIN, a, END, BEGIN, a, END];
-    let pooled = [BEGIN, a, END, BEGIN, EMPTY_END];
     let line = b"Tiny shells differ in head\n";
-    if !comes(alloc, &[b"%!\n"], b"", &[b"%!\n"], &[b"%!\n"]) {
+    if !comes(alloc, &[b"%!\n"], b"", &[b"%!\n"]) {
         "no place"
-    } else if !comes(
-        alloc,
-        &[BEGIN, a, END],
-        SAME,
-        &[BEGIN, a, END],
-        &[BEGIN, a, END],
-    ) {
+    } else if !comes(alloc, &[BEGIN, a, END], SAME, &[BEGIN, a, END]) {
         "one place"
-    } else if !comes(alloc, &twice, SAME, &twice, &pooled) {
+    } else if !comes(alloc, &twice, SAME, &twice) {
         "one text"
     } else if !two_join(alloc, a, b) {
         "two subsets"
-    } else if !comes(alloc, &kept, line, &kept, &kept) {
+    } else if !comes(alloc, &kept, line, &kept) {
         "another font"
     } else {
         ""
@@ -200,9 +180,6 @@ fn fonts_in_a_document_inside(rt: HostRuntime) -> Result<(), Fail> {
         &[INSIDE, BEGIN, a, END, BEHIND, BEGIN, b, END, BEGIN, a, END],
         b"Tiny joined\n",
         &[INSIDE, BEGIN, b, END, BEHIND, BEGIN, b, END, BEGIN, b, END],
-        &[
-            INSIDE, BEGIN, b, END, BEHIND, BEGIN, b, END, BEGIN, EMPTY_END,
-        ],
     );
     assert!(rt; right);
     Ok(())
@@ -212,12 +189,11 @@ fn fonts_in_a_document_inside(rt: HostRuntime) -> Result<(), Fail> {
 fn what_of_tags_is_wrong<'a>(alloc: Global, a: &'a [u8], b: &'a [u8], c: &'a [u8]) -> &'static str {
     let parts = [BEGIN, a, END, BEGIN, b, END];
     let level = [BEGIN, b, END, BEGIN, b, END];
-    let pool = [BEGIN, b, END, BEGIN, EMPTY_END];
     let both = [BEGIN, b, END, BEGIN, c, END];
     let lines = b"ABCDEF+Tiny same\nGHIJKL+Tiny same\n";
-    if !comes(alloc, &parts, b"ABCDEF+Tiny joined\n", &level, &pool) {
+    if !comes(alloc, &parts, b"ABCDEF+Tiny joined\n", &level) {
         "one tag"
-    } else if !comes(alloc, &both, lines, &both, &both) {
+    } else if !comes(alloc, &both, lines, &both) {
         "two tags"
     } else {
         ""
@@ -248,7 +224,7 @@ fn mark_in_the_joined_font(rt: HostRuntime) -> Result<(), Fail> {
     let b = joined(alloc, &[b"%!\n %%EndFont\n", whole.as_slice()])?;
     let parts = [BEGIN, a.as_slice(), END, BEGIN, b.as_slice(), END];
     let line = b"Tiny the joined font does not fit a place\n";
-    assert!(rt; comes(alloc, &parts, line, &parts, &parts));
+    assert!(rt; comes(alloc, &parts, line, &parts));
     Ok(())
 }
 

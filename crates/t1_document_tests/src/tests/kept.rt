@@ -1,6 +1,6 @@
 //! A name whose places keep their fonts for a lack, and documents of many bytes and of very many places.
 
-use super::joins::{BEGIN, EMPTY_END, END, comes, cut, font_text, whole};
+use super::joins::{BEGIN, END, comes, cut, font_text, whole};
 use super::tiny;
 use std::alloc::{AllocError, Global};
 use std::test::Fail;
@@ -47,7 +47,7 @@ fn a_name_kept_for_a_lack(rt: HostRuntime) -> Result<(), Fail> {
     let whole = whole(alloc)?;
     let parts = [BEGIN, less.as_slice(), END, BEGIN, whole.as_slice(), END];
     let line = b"Tiny glyph X lacks subr 5\n";
-    assert!(rt; comes(alloc, &parts, line, &parts, &parts));
+    assert!(rt; comes(alloc, &parts, line, &parts));
     Ok(())
 }
 
@@ -65,7 +65,6 @@ fn long(alloc: Global, text: &[u8]) -> Result<Vec<u8>, AllocError> {
 // meets join_fonts Ok at 250000 bytes
 // meets Document::new_texts Ok at 250000 bytes
 // meets Document::level Ok at 250000 bytes
-// meets Document::pool Ok at 250000 bytes
 #[test]
 fn a_long_document(rt: HostRuntime) -> Result<(), Fail> {
     let alloc = rt.alloc();
@@ -81,7 +80,6 @@ fn a_long_document(rt: HostRuntime) -> Result<(), Fail> {
         &[BEGIN, a, END, BEGIN, b, END, last],
         b"Tiny joined\n",
         &[BEGIN, b, END, BEGIN, b, END, last],
-        &[BEGIN, b, END, BEGIN, EMPTY_END, last],
     );
     assert!(rt; right);
     Ok(())
@@ -90,39 +88,29 @@ fn a_long_document(rt: HostRuntime) -> Result<(), Fail> {
 /// How many places a document of very many has.
 const MANY: usize = 1_000;
 
-/// A first place, and behind it so many times another, both in parts.
+/// These parts, so many times.
 fn repeated<'a>(
     alloc: Global,
-    first: &[&'a [u8]],
-    other: &[&'a [u8]],
+    parts: &[&'a [u8]],
     times: usize,
 ) -> Result<Vec<&'a [u8]>, AllocError> {
-    let mut parts = Vec::from_slice(alloc, first)?;
+    let mut all = Vec::new(alloc);
     for _ in 0..times {
-        parts.extend_from_slice(other)?;
+        all.extend_from_slice(parts)?;
     }
-    Ok(parts)
+    Ok(all)
 }
 
 // meets join_fonts Ok at 1000 places
 // meets names_of Ok at 1000 places
 // meets Document::new_texts Ok at 1000 places
 // meets Document::level Ok at 1000 places
-// meets Document::pool Ok at 1000 places
 #[test]
 fn very_many_places(rt: HostRuntime) -> Result<(), Fail> {
     let alloc = rt.alloc();
     let font = tiny(alloc, b"%!")?;
-    let first = [BEGIN, font.as_slice(), END];
-    let parts = repeated(alloc, &first, &first, MANY - 1)?;
-    let pooled = repeated(alloc, &first, &[BEGIN, EMPTY_END], MANY - 1)?;
-    let right = comes(
-        alloc,
-        parts.as_slice(),
-        b"Tiny same\n",
-        parts.as_slice(),
-        pooled.as_slice(),
-    );
+    let parts = repeated(alloc, &[BEGIN, font.as_slice(), END], MANY)?;
+    let right = comes(alloc, parts.as_slice(), b"Tiny same\n", parts.as_slice());
     assert!(rt; right);
     Ok(())
 }

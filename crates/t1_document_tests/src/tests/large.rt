@@ -1,7 +1,6 @@
 //! Documents of many places and marks.
 
-use super::rewriting::rewritten;
-use super::tiny;
+use super::{rewriting, tiny};
 use std::alloc::{AllocError, Global};
 use std::test::Fail;
 use t1_document::{Document, Joins, Texts, join_fonts, names_of, read_document};
@@ -137,33 +136,33 @@ fn many_names(rt: HostRuntime) -> Result<(), Fail> {
     Ok(())
 }
 
-/// How long a document is when it is pooled with the fonts that its names come to.
-fn pooled_length(
+/// How long a document is when it is levelled with the fonts that its names come to.
+fn levelled_length(
     alloc: Global,
     document: &Document<'_>,
     joins: &Joins<'_>,
 ) -> Result<usize, AllocError> {
     used(document.new_texts(alloc, joins), |texts| {
-        seen(document.pool(alloc, texts), |pooled| pooled.len())
+        seen(document.level(alloc, texts), |levelled| levelled.len())
     })
 }
 
-/// How many names a document has, and how long it is when it is pooled so.
-fn pooled_of(alloc: Global, document: &Document<'_>) -> Result<(usize, usize), AllocError> {
+/// How many names a document has, and how long it is when it is levelled so.
+fn levelled_of(alloc: Global, document: &Document<'_>) -> Result<(usize, usize), AllocError> {
     let places = document.places.as_slice();
     let count = seen(names_of(alloc, places), |names| names.len())?;
     let length = used(
         join_fonts(alloc, places),
-        |joins| pooled_length(alloc, document, joins),
+        |joins| levelled_length(alloc, document, joins),
     )?;
     Ok((count, length))
 }
 
 /// The same of a text.
-fn pooled(alloc: Global, text: &[u8]) -> Result<(usize, usize), AllocError> {
+fn text_levelled(alloc: Global, text: &[u8]) -> Result<(usize, usize), AllocError> {
     used(
         read_document(alloc, text),
-        |document| pooled_of(alloc, document),
+        |document| levelled_of(alloc, document),
     )
 }
 
@@ -176,14 +175,12 @@ fn many_fonts_of_each(rt: HostRuntime) -> Result<(), Fail> {
     let fonts = fonts(alloc, b"%!", names.as_slice())?;
     let once = document_of(alloc, fonts.as_slice())?;
     let all = repeated(alloc, once.as_slice(), 3)?;
-    let empty = b"%%BeginResource: font\n%%EndResource\n".len();
-    let length = once.len().saturating_add(empty.saturating_mul(200));
-    assert!(rt; pooled(alloc, all.as_slice()) == Ok((100, length)));
+    assert!(rt; text_levelled(alloc, all.as_slice()) == Ok((100, all.len())));
     Ok(())
 }
 
 // meets read_document Ok at 0, 300 places
-// meets Document::pool Ok at 300 places
+// meets Document::level Ok at 300 places
 #[test]
 fn many_places(rt: HostRuntime) -> Result<(), Fail> {
     let alloc = rt.alloc();
@@ -196,8 +193,9 @@ fn many_places(rt: HostRuntime) -> Result<(), Fail> {
     assert!(rt; count(alloc, many.as_slice())? == 300);
     let last = last_offset(alloc, many.as_slice())?;
     assert!(rt; last == Some(many.len().saturating_sub(place.len()).saturating_add(12)));
-    let pooled = rewritten(alloc, &[many.as_slice()], font.as_slice(), true)?;
-    assert!(rt; pooled.len() == place.len() + 299 * 22);
+    let new = tiny(alloc, b"%! new")?;
+    let renewed = rewriting::levelled(alloc, &[many.as_slice()], new.as_slice())?;
+    assert!(rt; renewed.len() == many.len().saturating_add(300 * 4));
     Ok(())
 }
 

@@ -1,8 +1,9 @@
-use Rattle.std.proofs.Common.{map}
-use Rattle.t1_document.{specs.{Rewriting.{standing}, Texts.{text_in}, Views.{place_view}}, proofs.WriteLoop.{Writes}}
+use Rattle.std.proofs.Common.{◌≡◌, ◌++◌, map, drop}
+use Rattle.t1_document.specs.{Rewriting.{standing, level_fates, fated_bytes}, Texts.{text_in}, Views.{place_view}}
 use Rattle.t1_document.proofs.rewriting.write.Given as goal
 
 abbrev pub invariant-places : goal.invariant-places
 invariant-places l =
-    Writes l.way (standing (text_in l.new) (map place_view l.document.places.items)) l.document.last.now l.document.places.items l.place-index
-    l.out.items l.seen
+    l.out.items ++ fated_bytes (level_fates (standing (text_in l.new) (map place_view l.document.places.items))
+    (map place_view (drop l.place-index l.document.places.items))) l.document.last.now
+    ≡ fated_bytes (level_fates (standing (text_in l.new) (map place_view l.document.places.items)) (map place_view l.document.places.items)) l.document.last.now

@@ -1,12 +1,11 @@
--- The line by which a name becomes one of the font that another names.
+-- Names of regular bytes, and lines of them.
 use Rattle.std.proofs.Common.{◌≡◌, ℕ, ◌+◌, suc, Bool, true, false, cond, refl, sym, ◌∙◌, ap, subst, List, [], ◌∷◌, ◌++◌, take, inl, inr, Option, Some, None, arith, append_assoc}
 use Rattle.std.proofs.{lemmas.Bool.{cases_Bool, eqb-true, and_parts, true≢false}, lemmas.Option.{none-some, same_Some}}
 use Rattle.std.specs.{Prelude.{◌==◌, ◌&&◌, ◌||◌, not, codes, is_some}, List.{AllByRecursion, list_any, prefix_len}, Option.{option_map}}
 use Rattle.t1_grammar.specs.Grammar.{first}
 use Rattle.t1_text.specs.{Words.{is_regular, all_regular}, Rewriting.{parted}, Tags.{name_marker, name_in}}
 use Rattle.t1_document.specs.{declared.marks.Mark.{Mark}, Lines.{line_closes, lf_comes, is_line_end, into_first, lines_of, breaks}, Marks.{mark_of}, Documents.{Place, document_of}, Laws.{SpellsPlace}}
-use Rattle.t1_document.specs.Families.{alias_line}
-use Rattle.t1_document.proofs.{Breaks.{breaks-behind, mark_starts}, Retold.{IsLine, slash_or_percent}, Spelled.{places_spell}}
+use Rattle.t1_document.proofs.{Breaks.{mark_starts}, Retold.{slash_or_percent}, Spelled.{places_spell}}
 
 -- ---- names
 
@@ -104,24 +103,3 @@ slash_no_mark inner = by_mark (mark_of (47 ∷ inner)) refl
     by_mark : (o : Option Mark) → mark_of (47 ∷ inner) ≡ o → o ≡ None
     by_mark None e = refl
     by_mark (Some m) e = let starts = mark_starts (47 ∷ inner) m e in absurd (slash_or_percent inner starts.0 starts.1)
-
-regroup : (a b c d e f : List ℕ) → a ++ (b ++ (c ++ (d ++ (e ++ f)))) ≡ (a ++ (b ++ (c ++ (d ++ e)))) ++ f
-regroup a b c d e f = simp append_assoc
-
--- the line of names of regular bytes is one, and no mark
-pub alias_is_line : (name leader : List ℕ) → IsRegular name → IsRegular leader → IsLine (alias_line name leader)
-alias_is_line name leader h k =
-    let word = codes " findfont definefont pop" in
-    let front : List ℕ = codes "/" ++ (name ++ (codes " /" ++ (leader ++ word))) in
-    let inner : List ℕ = name ++ (codes " /" ++ (leader ++ (word ++ 10 ∷ []))) in
-    let ends : alias_line name leader ≡ front ++ 10 ∷ [] = regroup (codes "/") name (codes " /") leader word (10 ∷ []) in
-    let free : no_end front ≡ true =
-    no_end-append name (codes " /" ++ (leader ++ word)) (regular_ends name h) (no_end-append leader word (regular_ends leader k) refl) in
-    let one : lines_of (alias_line name leader) ≡ (47 ∷ inner) ∷ [] = ap lines_of ends ∙ (whole_line front free ∙ ap (λ (t : List ℕ). t ∷ []) (sym ends)) in
-    record {
-      inner = inner;
-      starts = refl;
-      ends = ap (λ (t : List ℕ). breaks t (37 ∷ [])) ends ∙ breaks-behind front 10 [] (37 ∷ []);
-      unmarked = ap (λ (ls : List (List ℕ)). list_any (λ line. is_some (mark_of line)) ls) one
-          ∙ ap (λ (m : Option _). is_some m || false) (slash_no_mark inner);
-    }
