@@ -16,7 +16,7 @@ use Rattle.t1_document.proofs.Drawn.{drawn_through, shells_are_fonts, each_fille
 use Rattle.t1_subset.proofs.Rejoining.{light_or_heavy}
 use Rattle.t1_cmd.specs.{declared.counting.Counted.{Counted}, declared.faults.Reason.{Reason}, declared.faults.Reason.TheVariants.{Memory}, declared.faults.RunFault.{RunFault}}
 use Rattle.t1_cmd.specs.{declared.faults.FilesRefusal.{FilesRefusal}, Inputs.{Input, value_and, values_of}, Files.{Values, value_before, values_from, OfFiles, RefusesFiles}, Runs.{RunEnds}}
-use Rattle.t1_cmd.specs.{Fonts.{mended_input}, Rejoins.{RejoinsUnless, RejoinsTo}, Cuts.{AreCutFiles, OfRejoined, InputsAreCuts, WritesRejoined, AllDrawIn, IsRejoined}}
+use Rattle.t1_cmd.specs.{Fonts.{mended_input}, Rejoins.{RejoinsUnless, RejoinsTo}, Cuts.{AreCutFiles, OfRejoined, InputsAreCuts, WritesRejoined, IsRejoined}}
 use Rattle.t1_cmd.proofs.{OneAnswer.{OneAnswer, files_answered, inputs_answered}, RejoinLemmas.{all_light, rejoins_unlacking, with_no_lack, has_no_lack, rejoins_apart}}
 use Rattle.std.specs.FinMap as maps
 

@@ -1,25 +1,55 @@
 -- Documents that are levelled, each by itself.
-use Rattle.std.{proofs.{Common.{◌≡◌, ℕ, List, [], ◌∷◌, ◌++◌, map, refl, ap, Option, Some, None, Result, Ok, Err, IfErr, IsSome, IsOkUnless}, lemmas.Bool.{false≢true}}, specs.List.{flat_map}}
-use Rattle.t1_document.specs.{Documents.{Place, Document, document_of}, Rewriting.{NewTexts, document_levelled, levelled}, Joins.{places_of_all}}
+use Rattle.std.proofs.Common.{◌≡◌, ◌∙◌, ◌<◌, ◌≤◌, ◌+◌, ℕ, List, [], ◌∷◌, ◌++◌, length, get_or, drop, map, refl, sym, ap, arith, append_assoc, Bor, Vec}
+use Rattle.std.proofs.{Common.{Option, Some, None, Result, Ok, Err, IfErr, IsSome, IsOkUnless}, lemmas.Bool.{false≢true}, lemmas.List.{append-nil, drop_more, drop_all, length-map}}
+use Rattle.t1_jobs.specs.Jobs.{with_document}
+use Rattle.t1_subset.specs.NameSets.{lent}
+use Rattle.t1_document.specs.Rewriting.{NewTexts, levelled}
+use Rattle.t1_cmd.specs.Levels.{carried, levelled_file, files_with}
 use Rattle.t1_cmd.specs.{declared.faults.Reason.{Reason}}
 use Rattle.t1_cmd.specs.declared.faults.Reason.TheVariants.{TooLong, Memory, List as ListReason, Join as JoinReason, Font, NoGlyph, NoCode}
 use Rattle.t1_cmd.specs.declared.faults.Reason.TheVariants.{NoFont, Document as DocumentReason, TooManyTokens, Lacks, Merge}
 use Rattle.t1_cmd.specs.{declared.faults.RunFault.{RunFault}, declared.faults.RunFault.TheVariants.{Refused, Read, Write}, Inputs.{Input, AllQuiet, values_of}, Mergers.{InputsStop}}
 use Rattle.t1_cmd.proofs.RunLemmas.{first_refused, first_failed}
 
--- what is made of what was made
-pub map_twice : {A B C : Type 0} (g : B → C) (f : A → B) (xs : List A) → map g (map f xs) ≡ map (λ x. g (f x)) xs
-map_twice g f [] = refl
-map_twice g f (x ∷ xs) = ap (λ ys. g (f x) ∷ ys) (map_twice g f xs)
+-- files with their documents levelled
+pub with_levelled : (new : NewTexts) (files : List (List ℕ)) → files_with files (map (levelled new) (map carried files)) ≡ map (levelled_file new) files
+with_levelled new [] = refl
+with_levelled new (f ∷ fs) = ap (λ (ts : List (List ℕ)). levelled_file new f ∷ ts) (with_levelled new fs)
 
--- the places of documents of texts
-pub places_all : (texts : List (List ℕ)) → flat_map (λ (e : Document). e.places) (map document_of texts) ≡ places_of_all texts
-places_all [] = refl
-places_all (t ∷ ts) = ap (λ (ps : List Place). (document_of t).places ++ ps) (places_all ts)
+module _ {Z : Type 0} (files : List (Bor (List ℕ))) (documents : List (Vec ℕ Z)) where
+  -- what is left of both
+  abbrev left : ℕ → List (List ℕ)
+  left i = files_with (lent (drop i files)) (map (λ d. d.items) (drop i documents))
 
--- levelled texts, by their documents
-pub levels_all : (new : NewTexts) (texts : List (List ℕ)) → map (document_levelled new) (map document_of texts) ≡ map (levelled new) texts
-levels_all new texts = map_twice (document_levelled new) document_of texts
+  -- one file more
+  pub one_file : (i : ℕ) (f : Bor (List ℕ)) (d : Vec ℕ Z) → i < length files → length files ≡ length documents →
+      (all out more : List (List ℕ)) →
+      more ≡ out ++ with_document (get_or files i f).now (get_or documents i d).items ∷ [] → out ++ left i ≡ all → more ++ left (i + 1) ≡ all
+  one_file i f d lt same all out more is was =
+      let next : left i ≡ with_document (get_or files i f).now (get_or documents i d).items ∷ left (i + 1) =
+      λ k. files_with (lent (drop_more files i f lt k)) (map (λ e. e.items) (drop_more documents i d (omega (arith, lt, same)) k)) in
+      ap (λ (ts : List (List ℕ)). ts ++ left (i + 1)) is
+      ∙ (append_assoc out (with_document (get_or files i f).now (get_or documents i d).items ∷ []) (left (i + 1))
+      ∙ (ap (λ (ts : List (List ℕ)). out ++ ts) (sym next) ∙ was))
+
+  -- in the end none is left
+  pub all_files : (i : ℕ) → length files ≤ i → (all out : List (List ℕ)) → out ++ left i ≡ all → out ≡ all
+  all_files i le all out was =
+      let none : left i ≡ [] = ap (λ (fs : List (Bor (List ℕ))). files_with (lent fs) (map (λ d. d.items) (drop i documents))) (drop_all i files le) in
+      sym (append-nil out) ∙ (ap (λ (ts : List (List ℕ)). out ++ ts) (sym none) ∙ was)
+
+-- as many documents are levelled as there are files
+pub same_count : {Z : Type 0} (new : NewTexts) (files : List (Bor (List ℕ))) (texts : List (Vec ℕ Z)) →
+    map (λ t. t.items) texts ≡ map (levelled new) (map carried (lent files)) → length files ≡ length texts
+same_count new files texts e =
+    omega (
+      arith,
+      ap length e,
+      length-map texts (λ t. t.items),
+      length-map (map carried (lent files)) (levelled new),
+      length-map (lent files) carried,
+      length-map files (λ f. f.now),
+    )
 
 -- ---- how reading stops
 

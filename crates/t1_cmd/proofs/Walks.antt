@@ -1,14 +1,14 @@
 -- Walks over numbers that meet each entry of a map, and over its keys.
-use Rattle.std.proofs.Common.{◌≡◌, ℕ, ◌+◌, ◌≤◌, ◌<◌, Bool, true, false, cond, ◌&&◌, ltb, List, [], ◌∷◌, ◌++◌, length, map, Option, Some, None, is_some, IsSome, refl, sym, ◌∙◌, ap, subst, Ordering}
-use Rattle.std.proofs.{Common.{Less, Equal, Greater, is_lt, is_eq, arith, append_assoc, length-append}, lemmas.Bool.{lt-ltb, le-ltb}, lemmas.List.{append-nil, length-map}}
+use Rattle.std.proofs.Common.{◌≡◌, ℕ, ◌+◌, ◌≤◌, ◌<◌, Bool, true, false, cond, ◌&&◌, ltb, List, [], ◌∷◌, ◌++◌, Option, Some, None, refl, sym, ◌∙◌, ap, Ordering}
+use Rattle.std.proofs.{Common.{Less, Equal, Greater, is_lt, is_eq, arith, append_assoc}, lemmas.Bool.{lt-ltb, le-ltb}, lemmas.List.{append-nil}}
 use Rattle.std.proofs.lemmas.Grind.{flat_map-append}
-use Rattle.std.specs.{List.{filter, flat_map, AllByRecursion}, Ordering.{nat_cmp}, Cmp.{IsTotalOrder, nat_cmp_total, ranked}, Cmp.Lexicographic.{nat_list_cmp_total}}
-use Rattle.std.specs.FinMap.{FinMap, get, len, len-entries, contains_key, entries, entries_sorted, find, is_sorted, get-entries, IsAntisymmetric, nat_cmp-IsAntisymmetric, slice_cmp-IsAntisymmetric}
+use Rattle.std.specs.{List.{filter, flat_map, AllByRecursion}, Ordering.{nat_cmp}, Cmp.{nat_cmp_total, ranked}}
+use Rattle.std.specs.FinMap.{FinMap, get, entries, entries_sorted, find, is_sorted, get-entries, nat_cmp-IsAntisymmetric}
 use Rattle.std.specs.FinMap.Entries.{below_all}
-use Rattle.t1_font.specs.FontValue.{FontValue, Encoding, Word, Codes, SparseArray, CharStrings, declared_count, names_in}
-use Rattle.t1_font.specs.{FontModel.{subr_at, subrs_below, name_at, word_of}, IsFont.{IsFont, IsEncoding}}
-use Rattle.t1_font.proofs.{FontReaders.{subrs_seen}, MapLemmas.{T_true, entries_all}}
-use Rattle.t1_cmd.specs.ListText.{line_at, code_line, subr_length_line, glyph_length_line, encoding_lines}
+use Rattle.t1_font.specs.FontValue.{Encoding, Word, Codes}
+use Rattle.t1_font.specs.{FontModel.{name_at, word_of}, IsFont.{IsEncoding}}
+use Rattle.t1_font.proofs.{MapLemmas.{T_true, entries_all}}
+use Rattle.t1_cmd.specs.ListText.{line_at, code_line, encoding_lines}
 
 -- the entries whose keys are below n
 abbrev pub under : {X : Type 0} → ℕ → List (ℕ × X) → List (ℕ × X)

@@ -383,6 +383,30 @@ fn pool(alloc: Global, tags: bool, documents: &[&[u8]]) -> Result<Pooled, Reason
     Ok(pool_text(alloc, tags, text)?)
 }
 
+// Documents that are owned, one behind the other.
+fn joined(alloc: Global, documents: &[Vec<u8>]) -> Result<Vec<u8>, Reason>
+    ensures text { IfOk result (λ t. t.items ≡ one_text (map (λ d. d.items) documents.now)) }
+    ensures short { IfOk result (λ t. length t.items ≤ file_limit) }
+    ensures refused { IfErr result (λ e. (tags : Bool) → MayRefuse (PoolsTo tags (map (λ d. d.items) documents.now)) e) }
+{
+    let documents = lent(alloc, documents)?;
+    one_text(alloc, documents.as_slice())
+}
+
+// Documents as one text, with each font once. They are dropped before it is pooled.
+fn pool_owned(alloc: Global, tags: bool, documents: Vec<Vec<u8>>) -> Result<Pooled, Reason>
+    ensures text { IfOk result (λ p. PoolsTo tags (map (λ d. d.items) documents.items) (Ok p.text.items)) }
+    ensures kept { IfOk result (λ p. TellsPooled tags (one_text (map (λ d. d.items) documents.items)) p.kept.items) }
+    ensures refused { IfErr result (MayRefuse (PoolsTo tags (map (λ d. d.items) documents.items))) }
+{
+    let text = match joined(alloc, documents.as_slice()) {
+        Ok(text) => text,
+        Err(reason) => return Err(reason),
+    };
+    drop(documents);
+    Ok(pool_text(alloc, tags, text)?)
+}
+
 /// Documents in memory, one behind the other, with each font once, and a line for each name that keeps its fonts, as [`run_pool`]
 /// has them; with `tags` names that are equal without their tags have one font.
 ///
@@ -421,12 +445,11 @@ fn write_pooled<R: Read, W: Write>(
         (λ documents. TellsPooled tags (one_text documents) lines.items)) }
     ensures turns { InTurns readers.old readers.new }
 {
-    let texts = match read_texts(alloc, Taken::Document, readers) {
-        Ok(texts) => texts,
+    let documents = match read_texts(alloc, Taken::Document, readers) {
+        Ok(documents) => documents,
         Err(fault) => return Err(fault),
     };
-    let documents = lent(alloc, texts.as_slice())?;
-    let pooled = match pool(alloc, tags, documents.as_slice()) {
+    let pooled = match pool_owned(alloc, tags, documents) {
         Ok(pooled) => pooled,
         Err(reason) => return Err(RunFault::Refused(reason)),
     };

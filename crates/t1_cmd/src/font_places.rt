@@ -11,11 +11,12 @@ use crate::counting::Counted;
 use crate::document_commands::{DocumentsCommand, run_documents, text_of_documents};
 use crate::documents::push_why;
 use crate::faults::{FilesRefusal, Reason, RunFault};
-use crate::levels::{all_places, documents_of};
 use crate::texts::{push_about, push_number, push_shown};
 use std::alloc::{AllocError, Global};
 use std::io::{Read, Write};
-use t1_document::{Document, Joins, Outcome, Place, join_fonts, names_of};
+use t1_document::{
+    Document, Joins, Outcome, Place, all_places, join_fonts, names_of, read_documents,
+};
 use t1_font::Source;
 
 // ---- a place
@@ -191,9 +192,9 @@ fn push_counts(
 fn fonts_text(alloc: Global, labels: &[&[u8]], texts: &[&[u8]]) -> Result<Vec<u8>, AllocError>
     ensures { IfOk result (λ text. ListsTo (lent labels.now) (lent texts.now) (Ok text.items)) }
 {
-    let documents = documents_of(alloc, texts)?;
-    let all = all_places(alloc, documents.as_slice())?;
-    let joins = join_fonts(alloc, all.places.as_slice())?;
+    let documents = read_documents(alloc, texts)?;
+    let places = all_places(alloc, documents.as_slice())?;
+    let joins = join_fonts(alloc, places.as_slice())?;
     let mut text = Vec::new(alloc);
     push_documents(
         alloc,
@@ -203,7 +204,7 @@ fn fonts_text(alloc: Global, labels: &[&[u8]], texts: &[&[u8]]) -> Result<Vec<u8
         documents.as_slice(),
         &joins,
     )?;
-    push_counts(alloc, &mut text, all.places.as_slice(), &joins)?;
+    push_counts(alloc, &mut text, places.as_slice(), &joins)?;
     Ok(text)
 }
 

@@ -1,9 +1,8 @@
 //! The engine that levels documents: each place of a name gets one font.
-ghost use Rattle.std.specs.{Prelude.{◌≡◌, [], map, Ok, IfOk, IfErr, IfSome, OnOk, IsSome, IsOkUnless}, List.{flat_map}};
+ghost use Rattle.std.specs.Prelude.{◌≡◌, [], map, length, Ok, IfOk, IfErr, IfSome, OnOk, IsSome, IsOkUnless};
 ghost use Rattle.t1_subset.specs.NameSets.{lent};
-ghost use Rattle.t1_document.specs.{Documents.{document_of}, Texts.{text_in}, Views.{document_view}};
 ghost use Rattle.t1_document.specs.Joins.{places_of_all};
-ghost use Rattle.t1_cmd.specs.Levels.{carried, levelled_file, LevelsFiles};
+ghost use Rattle.t1_cmd.specs.Levels.{carried, files_with, LevelsFiles};
 ghost use Rattle.t1_cmd.specs.{declared.faults.Reason.TheVariants.{Memory}, declared.faults.RunFault.TheVariants.{Refused}, Inputs.{AllQuiet, values_of}};
 ghost use Rattle.t1_cmd.specs.{Files.{SaidBy, IsUnread}, Mergers.{inputs_of, InTurns, InputsStop}, Documents.{file_input, TellsKept}};
 
@@ -12,7 +11,7 @@ use crate::documents::{Taken, all_taken, kept_lines, lent, read_texts};
 use crate::faults::{FilesRefusal, Reason, RunFault};
 use std::alloc::{AllocError, Global};
 use std::io::Read;
-use t1_document::{Document, Texts, join_fonts, read_document};
+use t1_document::level_documents;
 use t1_jobs::{job_of, with_document};
 use t1_join::push_item;
 
@@ -23,38 +22,6 @@ pub struct Levelled {
     pub texts: Vec<Vec<u8>>,
     /// Lines of the names that keep their fonts.
     pub kept: Vec<u8>,
-}
-
-// The documents that texts are, each by itself.
-pub(crate) fn documents_of<'a>(
-    alloc: Global,
-    texts: &[&'a [u8]],
-) -> Result<Vec<Document<'a>>, AllocError>
-    ensures { IfOk result (λ ds. map document_view ds.items ≡ map document_of (lent texts.now)) }
-{
-    let mut documents = Vec::with_capacity(alloc, texts.len())?;
-    'texts: for text in texts {
-        let document = match read_document(alloc, text) {
-            Ok(document) => document,
-            Err(fault) => return Err(fault),
-        };
-        push_item(&mut documents, document)?;
-    }
-    Ok(documents)
-}
-
-// The places of documents, as those of one.
-pub(crate) fn all_places<'a>(
-    alloc: Global,
-    documents: &[Document<'a>],
-) -> Result<Document<'a>, AllocError>
-    ensures { IfOk result (λ d. (document_view d).places ≡ flat_map (λ e. e.places) (map document_view documents.now)) }
-{
-    let mut places = Vec::new(alloc);
-    'documents: for document in documents {
-        places.extend_from_slice(document.places.as_slice())?;
-    }
-    Ok(Document { places, last: &[] })
 }
 
 // The document that a file carries; no bytes where it carries none.
@@ -78,36 +45,21 @@ fn all_carried<'a>(alloc: Global, files: &[&'a [u8]]) -> Result<Vec<&'a [u8]>, A
     Ok(documents)
 }
 
-// A file with its document levelled.
-fn level_file(
-    alloc: Global,
-    file: &[u8],
-    document: &Document<'_>,
-    new: &Texts<'_>,
-) -> Result<Vec<u8>, AllocError>
-    requires { document_view document.now ≡ document_of (carried file.now) }
-    ensures { IfOk result (λ v. v.items ≡ levelled_file (text_in new.now) file.now) }
-{
-    let text = document.level(alloc, new)?;
-    with_document(alloc, file, text.as_slice())
-}
-
-// Each file with its document levelled.
-fn each_level(
+// Files that carry these documents in place of their own, one for one.
+fn files_with(
     alloc: Global,
     files: &[&[u8]],
-    documents: &[Document<'_>],
-    new: &Texts<'_>,
+    documents: &[Vec<u8>],
 ) -> Result<Vec<Vec<u8>>, AllocError>
-    requires { map document_view documents.now ≡ map (λ f. document_of (carried f)) (lent files.now) }
-    ensures { IfOk result (λ v. map (λ t. t.items) v.items ≡ map (levelled_file (text_in new.now)) (lent files.now)) }
+    requires { length files.now ≡ length documents.now }
+    ensures { IfOk result (λ v. map (λ t. t.items) v.items ≡ files_with (lent files.now) (map (λ d. d.items) documents.now)) }
 {
-    let mut texts = Vec::with_capacity(alloc, files.len())?;
+    let mut all = Vec::with_capacity(alloc, files.len())?;
     'files: for i in 0..files.len() {
-        let text = level_file(alloc, files[i], &documents[i], new)?;
-        push_item(&mut texts, text)?;
+        let whole = with_document(alloc, files[i], documents[i].as_slice())?;
+        push_item(&mut all, whole)?;
     }
-    Ok(texts)
+    Ok(all)
 }
 
 // Files whose documents have one font of a name at each place.
@@ -115,13 +67,10 @@ fn level(alloc: Global, files: &[&[u8]]) -> Result<Levelled, AllocError>
     ensures levels { IfOk result (λ l. LevelsFiles (lent files.now) (map (λ t. t.items) l.texts.items)) }
     ensures kept { IfOk result (λ l. TellsKept (places_of_all (map carried (lent files.now))) l.kept.items) }
 {
-    let texts = all_carried(alloc, files)?;
-    let documents = documents_of(alloc, texts.as_slice())?;
-    let all = all_places(alloc, documents.as_slice())?;
-    let joins = join_fonts(alloc, all.places.as_slice())?;
-    let kept = kept_lines(alloc, all.places.as_slice(), &joins)?;
-    let new = all.new_texts(alloc, &joins)?;
-    let texts = each_level(alloc, files, documents.as_slice(), &new)?;
+    let documents = all_carried(alloc, files)?;
+    let levelled = level_documents(alloc, documents.as_slice())?;
+    let kept = kept_lines(alloc, levelled.places.as_slice(), &levelled.joins)?;
+    let texts = files_with(alloc, files, levelled.texts.as_slice())?;
     Ok(Levelled { texts, kept })
 }
 
@@ -171,10 +120,9 @@ fn read_levelled<R: Read>(alloc: Global, readers: &mut [Counted<R>]) -> Result<L
 
 /// Documents whose fonts of a name are one font at each place, and a line for each name that keeps its fonts.
 ///
-/// Each document is read by itself ([`read_document`]), and the fonts of a name are those of all documents
-/// ([`join_fonts`](t1_document::join_fonts)). Nothing but the font texts of names that don't keep theirs changes
-/// ([`Document::level`]). What stands around a document in its file, as the words of a print job or the header of an EPS file for DOS,
-/// stays, too ([`with_document`]).
+/// Each document is read by itself, and the fonts of a name are those of all documents ([`level_documents`]). Nothing but the font
+/// texts of names that don't keep theirs changes. What stands around a document in its file, as the words of a print job or the
+/// header of an EPS file for DOS, stays, too ([`with_document`]).
 ///
 /// The inputs are read one after the other. [`Reason::TooLong`] is answered if one of them is over the file limit, and
 /// [`Reason::Document`] if one carries no document. Nothing else is refused but for want of memory.

@@ -1,14 +1,14 @@
 -- What was joined is joined to itself.
 use Rattle.std.proofs.{Common.{◌≡◌, ℕ, Bool, true, false, cond, refl, sym, ◌∙◌, ap, subst, List, [], ◌∷◌, ◌++◌, map, inl, inr, Option, Some, None, Result, Ok, Err}, Math.Bool.{and-false}}
-use Rattle.std.proofs.{lemmas.Bool.{and_parts, true≢false}, lemmas.List.{map-append}, lemmas.Option.{none-some, same_Some}, lemmas.Slice.Eq.{bytes_eq-Decides}}
+use Rattle.std.proofs.{lemmas.Bool.{and_parts}, lemmas.List.{map-append}, lemmas.Option.{none-some, same_Some}, lemmas.Slice.Eq.{bytes_eq-Decides}}
 use Rattle.std.specs.{Prelude.{◌&&◌, ◌||◌, not}, List.{AllByRecursion, list_all}, Option.{option_and_then}, Str.{bytes_eq}}
 use Rattle.t1_font.specs.{declared.fault.ReadFault.{ReadFault}, FontValue.{FontValue}}
 use Rattle.t1_document.specs.{declared.joins.Outcome.{Outcome}, declared.joins.Outcome.TheVariants.{Same, Joined, Stays}}
-use Rattle.t1_document.specs.Documents.{Place, Document, document_bytes, document_of}
+use Rattle.t1_document.specs.Documents.{Place, Document, document_of}
 use Rattle.t1_document.specs.Rewriting.{NewTexts, can_stand, is_barred, is_refused, standing, levelled, with_new, renewed}
 use Rattle.t1_document.specs.Joins.{Outcomes, AreOutcomes, places_of_all, places_under, fonts_of_places, new_texts, text_for_places, ComeTo, OfPlaces, OfFonts, IsSame, LevelsTo}
 use Rattle.t1_document.specs.{Laws.{HasNew, NoneRefused}, JoinLaws.{NewTextsStand, LevelledAgain}}
-use Rattle.t1_document.proofs.{PlaceLemmas.{document_text}, OwnTexts.{Own, own_texts_stand, own_texts_stay}, Rewritten.{same_bytes, where_stands, rewritten_is_read, level_renews}}
+use Rattle.t1_document.proofs.{OwnTexts.{Own, own_texts_stand, own_texts_stay}, Rewritten.{same_bytes, rewritten_is_read, level_renews}}
 use Rattle.t1_document.proofs.{OneOutcome.{same_text, one_text_for}, Bare.{bare, to_bare}}
 
 -- ---- lists

@@ -1,11 +1,11 @@
 -- The loops over places that are joined.
 use Rattle.std.proofs.Common.{◌≡◌, ◌<◌, ◌≤◌, ◌+◌, ℕ, Bool, true, false, cond, List, [], ◌∷◌, ◌++◌, length, get_or, take, drop, map, Option, Some, None, Result, Ok, Err, refl, sym, ap, ◌∙◌, subst}
-use Rattle.std.proofs.{Common.{◌⊎◌, inl, inr, is_some, Bor}, lemmas.Bool.{cases_Bool, cond-true, cond-false, true≢false}, lemmas.List.{take_more, map-append, drop_more, drop_all}}
+use Rattle.std.proofs.{Common.{◌⊎◌, inl, inr, is_some, Bor}, lemmas.Bool.{cases_Bool, cond-true, cond-false, and_parts, true≢false}, lemmas.List.{take_more, map-append, drop_more, drop_all}}
 use Rattle.std.proofs.{lemmas.List.Folds.{list_any-append}, Math.Bool.{or-false}, lemmas.Option.{none-some}, lemmas.Slice.Eq.{bytes_eq-Decides}}
-use Rattle.std.specs.{Prelude.{◌||◌, not}, Global.{Vec}, List.{list_any}, Option.{option_copied}, Str.{bytes_eq}}
+use Rattle.std.specs.{Prelude.{◌&&◌, ◌||◌, not}, Global.{Vec}, List.{list_any, list_all}, Option.{option_copied}, Str.{bytes_eq}}
 use Rattle.t1_document.proofs.WriteLoop.{same_test}
-use Rattle.t1_document.specs.{declared.documents.Place.{Place as CodePlace}, declared.joins.Outcome.{Outcome}, Documents.{Place}, Rewriting.{NewTexts}, Joins.{lacks_name}}
-use Rattle.t1_document.specs.{Joins.{places_under, ComeTo, AreOutcomes}, declared.joins.Joins.{Joins}, declared.texts.Texts.{Texts}, Texts.{text_in}, Groups.{places_of, outcome_in}}
+use Rattle.t1_document.specs.{declared.documents.Place.{Place as CodePlace}, declared.joins.Outcome.{Outcome}, Documents.{Place}, Rewriting.{NewTexts, can_stand, can_stand_before, is_like}}
+use Rattle.t1_document.specs.{Joins.{lacks_name, places_under, ComeTo, AreOutcomes}, declared.joins.Joins.{Joins}, declared.texts.Texts.{Texts}, Texts.{text_in}, Groups.{places_of, outcome_in}}
 use Rattle.t1_document.specs.Views.{place_view}
 use Rattle.t1_font.specs.{declared.fault.ReadFault.{ReadFault}, FontValue.{FontValue}}
 
@@ -186,3 +186,30 @@ none_put ps i d new t lt none so_far name =
 -- in texts that are the same
 pub puts_same : (ps : List CodePlace) (i : ℕ) (new : NewTexts) (t u : Texts) → u ≡ t → Puts ps i new t → Puts ps i new u
 puts_same ps i new t u e h name = ap (λ (v : Texts). text_in v name) e ∙ h name
+
+-- ---- a text at places
+
+-- a text can stand at a place, if there is one
+abbrev pub StandsAt : List ℕ → Option Place → Type 0
+StandsAt text None = Unit {0}
+StandsAt text (Some p) = can_stand text p ≡ true
+
+-- so it can at a place that is like it
+pub like_stands : (text : List ℕ) (o : Option Place) (q : Place) → is_like o q ≡ true → StandsAt text o → can_stand text q ≡ true
+like_stands text None q e h = absurd (true≢false (sym e))
+like_stands text (Some p) q e h =
+    let parts = and_parts (bytes_eq p.name q.name) (bytes_eq p.rest q.rest) e in
+    let name = (bytes_eq-Decides p.name q.name).0 parts.0 in
+    let rest = (bytes_eq-Decides p.rest q.rest).0 parts.1 in
+    sym (λ i. can_stand_before text (name i) (rest i)) ∙ h
+
+-- one place more, at which it can stand
+pub stands_more : (text : List ℕ) (ps : List CodePlace) (i : ℕ) (d : CodePlace) → i < length ps → can_stand text (place_view (get_or ps i d)) ≡ true →
+    list_all (can_stand text) (map place_view (drop i ps)) ≡ list_all (can_stand text) (map place_view ps) →
+    (list_all (can_stand text) (map place_view (drop (i + 1) ps)) ≡ list_all (can_stand text) (map place_view ps))
+    × StandsAt text (Some (place_view (get_or ps i d)))
+stands_more text ps i d h stands was =
+    let left : Bool = list_all (can_stand text) (map place_view (drop (i + 1) ps)) in (
+      sym (ap (λ (qs : List CodePlace). list_all (can_stand text) (map place_view qs)) (drop_more ps i d h) ∙ ap (λ (b : Bool). b && left) stands) ∙ was,
+      stands,
+    )

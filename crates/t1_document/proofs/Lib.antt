@@ -39,3 +39,4 @@ pub mod OtherStarts
 pub mod PrologParts
 pub mod KeyedNames
 pub mod KeyedAgain
+pub mod LevelLemmas

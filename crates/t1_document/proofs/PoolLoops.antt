@@ -3,7 +3,7 @@ use Rattle.std.proofs.Common.{◌≡◌, ◌≤◌, ◌<◌, ◌+◌, ℕ, Bool,
 use Rattle.std.proofs.{Math.Bool.{or-false}, lemmas.Bool.{cond-true, cond-false}, lemmas.List.Elements.{filter-append}, lemmas.List.Folds.{list_any-append}}
 use Rattle.std.proofs.lemmas.{List.{append-nil, drop_more, drop_all, take_more, take_all, map-append}, Slice.Eq.{bytes_eq-Decides}}
 use Rattle.std.specs.{Prelude.{◌&&◌, ◌||◌, filter}, Str.{bytes_eq}}
-use Rattle.t1_document.specs.{declared.documents.Place.{Place as CodePlace}, Documents.{Place}, Rewriting.{NewTexts, Fate, fate_bytes, fated_bytes, is_seen}, Views.{place_view}}
+use Rattle.t1_document.specs.{declared.documents.Place.{Place as CodePlace}, Documents.{Place}, Rewriting.{NewTexts, Fate, level_fate, fate_bytes, fated_bytes, is_seen}, Views.{place_view}}
 use Rattle.t1_document.specs.Pooling.{Entry, entry_part, end_by, end_added, line_ends, entries}
 use Rattle.t1_document.proofs.WriteLoop.{same_test}
 
@@ -34,6 +34,15 @@ module _ (f : Place → Fate) (last : List ℕ) (ps : List CodePlace) where
   unfolding fated_bytes
   all_fates i le all out was =
       sym (ap (λ (qs : List CodePlace). out ++ fated_bytes (map (λ q. (q, f q)) (map place_view qs)) last) (drop_all i ps le)) ∙ was
+
+-- the same of places that get the new texts of their names
+pub one_level : (new : NewTexts) (last : List ℕ) (ps : List CodePlace) (i : ℕ) (d : CodePlace) → i < length ps →
+    (all out before more : List ℕ) (o : Option (List ℕ)) → before ≡ out ++ (get_or ps i d).before.now → o ≡ new (get_or ps i d).name.now →
+    more ≡ before ++ fate_bytes (level_fate o) (place_view (get_or ps i d)) →
+    out ++ fates_left (λ p. level_fate (new p.name)) last ps i ≡ all → more ++ fates_left (λ p. level_fate (new p.name)) last ps (i + 1) ≡ all
+one_level new last ps i d h all out before more o e is k was =
+    one_fate (λ p. level_fate (new p.name)) last ps i d h all out before more e
+    (k ∙ ap (λ (x : Option (List ℕ)). before ++ fate_bytes (level_fate x) (place_view (get_or ps i d))) is) was
 
 -- ---- keys, of which some have entries
 

@@ -1,10 +1,10 @@
 -- Names of regular bytes, and lines of them.
-use Rattle.std.proofs.Common.{◌≡◌, ℕ, ◌+◌, suc, Bool, true, false, cond, refl, sym, ◌∙◌, ap, subst, List, [], ◌∷◌, ◌++◌, take, inl, inr, Option, Some, None, arith, append_assoc}
+use Rattle.std.proofs.Common.{◌≡◌, ℕ, ◌+◌, suc, Bool, true, false, cond, refl, sym, ◌∙◌, ap, subst, List, [], ◌∷◌, ◌++◌, take, inl, inr, Option, Some, None, arith}
 use Rattle.std.proofs.{lemmas.Bool.{cases_Bool, eqb-true, and_parts, true≢false}, lemmas.Option.{none-some, same_Some}}
-use Rattle.std.specs.{Prelude.{◌==◌, ◌&&◌, ◌||◌, not, codes, is_some}, List.{AllByRecursion, list_any, prefix_len}, Option.{option_map}}
+use Rattle.std.specs.{Prelude.{◌==◌, ◌&&◌, ◌||◌, not}, List.{AllByRecursion, prefix_len}, Option.{option_map}}
 use Rattle.t1_grammar.specs.Grammar.{first}
 use Rattle.t1_text.specs.{Words.{is_regular, all_regular}, Rewriting.{parted}, Tags.{name_marker, name_in}}
-use Rattle.t1_document.specs.{declared.marks.Mark.{Mark}, Lines.{line_closes, lf_comes, is_line_end, into_first, lines_of, breaks}, Marks.{mark_of}, Documents.{Place, document_of}, Laws.{SpellsPlace}}
+use Rattle.t1_document.specs.{declared.marks.Mark.{Mark}, Lines.{line_closes, lf_comes, is_line_end, into_first, lines_of}, Marks.{mark_of}, Documents.{Place, document_of}, Laws.{SpellsPlace}}
 use Rattle.t1_document.proofs.{Breaks.{mark_starts}, Retold.{slash_or_percent}, Spelled.{places_spell}}
 
 -- ---- names

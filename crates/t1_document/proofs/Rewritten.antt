@@ -1,5 +1,5 @@
 -- The laws of rewriting.
-use Rattle.std.proofs.{Common.{◌≡◌, ℕ, Bool, true, false, cond, List, [], ◌∷◌, ◌++◌, map, Option, Some, None, refl, sym, ap, ◌∙◌, append_assoc, inl}, lemmas.Bool.{or_parts}, lemmas.Option.{none-some}}
+use Rattle.std.proofs.{Common.{◌≡◌, ℕ, Bool, true, false, cond, List, [], ◌∷◌, ◌++◌, map, Option, Some, None, refl, sym, ap, ◌∙◌, append_assoc}, lemmas.Bool.{or_parts}, lemmas.Option.{none-some}}
 use Rattle.std.proofs.lemmas.Slice.Eq.{bytes_eq-Decides}
 use Rattle.std.specs.{Prelude.{◌&&◌, ◌||◌, not}, Str.{bytes_eq}}
 use Rattle.t1_document.specs.{declared.marks.Open.{Open}, declared.marks.Mark.{Mark}}

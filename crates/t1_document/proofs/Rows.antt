@@ -1,8 +1,8 @@
 -- Worked rows of the definitions, computed.
 use Rattle.std.{proofs.Common.{◌≡◌, ℕ, true, false, List, [], ◌∷◌, ◌++◌, Some, None, refl}, specs.{Prelude.{codes, if◌then◌else◌}, Str.{bytes_eq}}}
 use Rattle.t1_document.specs.{declared.marks.Side.TheVariants.{Begin, End}, declared.marks.Kind.TheVariants.{Font, ProcSet, Resource, Document, Data, Binary}, declared.marks.Side.{Side}}
-use Rattle.t1_document.specs.{declared.marks.Kind.{Kind}, declared.marks.Mark.{Mark}, declared.rewriting.Way.TheVariants.{Level, Pool}, Documents.{Place, none_open, open_at_end, encloses}}
-use Rattle.t1_document.specs.{Rewriting.{NewTexts, rewritten_from, written_from}, Lines.{lines_of, line_of, line_len, breaks}, Marks.{mark_of, kind_of}, Stretches.{Stretch, stretches}}
+use Rattle.t1_document.specs.{declared.marks.Kind.{Kind}, declared.marks.Mark.{Mark}, Documents.{Place, none_open, open_at_end, encloses}}
+use Rattle.t1_document.specs.{Rewriting.{NewTexts, fated, fated_bytes, level_fates}, Lines.{lines_of, line_of, line_len, breaks}, Marks.{mark_of, kind_of}, Stretches.{Stretch, stretches}}
 
 -- ---- lines
 
@@ -116,19 +116,14 @@ abbrev only_a : NewTexts
 only_a name = if bytes_eq name (codes "A") then Some (codes "N") else None
 
 -- each place of A gets the new text, and B keeps its own
-all_get_it : written_from Level only_a [] three (codes "!") ≡ codes "-N.-N.-N.-4.!"
-unfolding written_from
+all_get_it : fated_bytes (level_fates only_a three) (codes "!") ≡ codes "-N.-N.-N.-4.!"
+unfolding fated_bytes
 all_get_it = refl
 
--- the place at depth 1 is not seen; behind the one at depth 0 the next one goes, with its rest
-one_goes : written_from Pool only_a [] three (codes "!") ≡ codes "-N.-N.--4.!"
-unfolding written_from
-one_goes = refl
-
-one_went : rewritten_from Pool only_a [] three (codes "!") ≡ record {
-  places = place_in 1 (codes "A") (codes "N") ∷ place_in 0 (codes "A") (codes "N")
-      ∷ record { before = codes "--"; kind = Font; depth = 0; name = codes "B"; text = codes "4"; rest = codes "." } ∷ [];
+levelled_so : fated (level_fates only_a three) (codes "!") ≡ record {
+  places = place_in 1 (codes "A") (codes "N") ∷ place_in 0 (codes "A") (codes "N") ∷ place_in 0 (codes "A") (codes "N")
+      ∷ place_in 0 (codes "B") (codes "4") ∷ [];
   last = codes "!";
 }
-unfolding rewritten_from
-one_went = refl
+unfolding fated
+levelled_so = refl

@@ -1,10 +1,10 @@
--- The loops that find the names that are refused, and that write a document with new texts.
-use Rattle.std.proofs.Common.{◌≡◌, ◌<◌, ◌≤◌, ◌+◌, ℕ, Bool, true, false, cond, List, [], ◌∷◌, ◌++◌, length, get_or, take, drop, map, Option, Some, None, refl, sym, ap, ◌∙◌, append_assoc, is_some}
-use Rattle.std.proofs.{Common.{Bor, inl, inr}, Math.Bool.{or-false, and-true, and-false}, lemmas.Bool.{cases_Bool, true≢false}, lemmas.List.{at_drop_more, at_drop_all, map-append, take_more}}
-use Rattle.std.proofs.{lemmas.List.Folds.{list_any-append}, lemmas.Slice.Eq.{bytes_eq-Decides}}
-use Rattle.std.specs.{Prelude.{◌&&◌, ◌||◌}, List.{list_any}, Option.{option_map}, Str.{bytes_eq}}
-use Rattle.t1_document.specs.{declared.documents.Place.{Place as CodePlace}, declared.texts.Texts.{Texts}, declared.rewriting.Way.{Way}, Documents.{Place}}
-use Rattle.t1_document.specs.{Rewriting.{NewTexts, is_refused, standing, is_seen, Fate, fate_by, fate_of, fate_bytes, seen_behind, written_from}, Texts.{text_in, has_text, Sees}, Views.{place_view}}
+-- The loop that finds the names that are refused.
+use Rattle.std.proofs.Common.{◌≡◌, ◌<◌, ◌+◌, ℕ, Bool, true, false, cond, List, [], ◌∷◌, length, get_or, take, map, Option, Some, None, refl, sym, ap, ◌∙◌, is_some}
+use Rattle.std.proofs.{Common.{inl, inr}, Math.Bool.{or-false, and-true, and-false}, lemmas.Bool.{cases_Bool, cond-true, cond-false, true≢false}}
+use Rattle.std.proofs.lemmas.{List.{map-append, take_more}, List.Folds.{list_any-append}, Option.{same_Some}, Slice.Eq.{bytes_eq-Decides}}
+use Rattle.std.specs.{Prelude.{◌&&◌, ◌||◌}, List.{list_any}, Str.{bytes_eq}}
+use Rattle.t1_document.specs.{declared.documents.Place.{Place as CodePlace}, declared.texts.Texts.{Texts}, Documents.{Place}}
+use Rattle.t1_document.specs.{Rewriting.{NewTexts, can_stand_before, AllTried, is_refused}, Texts.{text_in, has_text}, Views.{place_view}}
 
 -- ---- names of places that pass a test
 
@@ -72,3 +72,18 @@ flags_same test ps r s e k name = ap (λ (t : Texts). has_text t name) e ∙ k n
 -- these names are refused at these places
 abbrev pub Refuses : NewTexts → List Place → Texts → Type 0
 Refuses new ps r = (name : List ℕ) → has_text r name ≡ is_refused new ps name
+
+-- ---- rests that are noted
+
+-- a rest more is noted, before which the new text of its name can stand
+pub tried_more : (new tried more : NewTexts) (own text rest : List ℕ) → AllTried new tried →
+    ((other : List ℕ) → more other ≡ cond (bytes_eq own other) (Some rest) (tried other)) → new own ≡ Some text →
+    can_stand_before text own rest ≡ true → AllTried new more
+tried_more new tried more own text rest all put is stands name r t e k = elim (cases_Bool (bytes_eq own name)) [
+  | inl s ↦
+      let same = (bytes_eq-Decides own name).0 s in
+      let left : rest ≡ r = same_Some rest r (sym (put name ∙ cond-true (bytes_eq own name) (Some rest) (tried name) s) ∙ e) in
+      let there : text ≡ t = same_Some text t (sym is ∙ (ap new same ∙ k)) in
+      sym (λ i. can_stand_before (there i) (same i) (left i)) ∙ stands
+  | inr s ↦ all name r t (sym (put name ∙ cond-false (bytes_eq own name) (Some rest) (tried name) s) ∙ e) k
+]

@@ -92,9 +92,13 @@ pub record CanonStands : Type 0 where
 abbrev pub LevelledTwice : Type 0
 LevelledTwice = (new : NewTexts) (text : List ℕ) → levelled new (levelled new text) ≡ levelled new text
 
+-- no new text is refused in a document
+abbrev pub NoneIsRefused : NewTexts → Document → Type 0
+NoneIsRefused new d = (name : List ℕ) → is_refused new d.places name ≡ false
+
 -- no new text is refused in a text
 abbrev pub NoneRefused : NewTexts → List ℕ → Type 0
-NoneRefused new text = (name : List ℕ) → is_refused new (document_of text).places name ≡ false
+NoneRefused new text = NoneIsRefused new (document_of text)
 
 -- where no new text is refused, two texts of which the first leaves nothing open are levelled together as each by itself
 abbrev pub LevelledApart : Type 0

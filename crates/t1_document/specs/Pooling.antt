@@ -1,10 +1,11 @@
 -- Documents pooled: the font of each key stands once, before the first document, under a name of the pool's own, and each place of the key gets it by a line.
-use Rattle.std.specs.{Prelude.{ℕ, zero, suc, ◌&&◌, ◌||◌, not, Bool, true, false, List, [], ◌∷◌, ◌++◌, map, filter, replicate, length, codes, Option, Some, None, if◌then◌else◌}}
+use Rattle.std.specs.{Prelude.{ℕ, zero, suc, ◌&&◌, ◌||◌, not, Bool, true, false, List, [], ◌∷◌, ◌++◌, map, filter, replicate, length, codes, Option, Some, None, is_some, if◌then◌else◌}}
 use Rattle.std.specs.{Prelude.{Result, Ok, Err}, List.{list_all, list_any, flat_map}, Option.{option_map, option_and_then}, Str.{bytes_eq}}
 use Rattle.t1_grammar.specs.{Grammar.{fixed}, Places.{occurs}}
 use Rattle.t1_bytes.specs.White.{has_bytes}
 use Rattle.t1_text.specs.Words.{regular_comes}
-use Rattle.t1_font.specs.{declared.fault.ReadFault.{ReadFault}, declared.mend.Mend.{Mend}, declared.mend.Mend.TheVariants.{TestTakenOut}, Mends.{mends_of}}
+use Rattle.t1_text.specs.FontTest.{taken_test}
+use Rattle.t1_font.specs.{declared.fault.ReadFault.{ReadFault}, FontValue.{FontValue}, ReadFont.{read_font_widely}}
 use Rattle.t1_document.specs.{declared.pooling.Key.{Key}, declared.pooling.Key.TheVariants.{Name, Family}, Marks.{begins_with, has_mark}, Fonts.{FontText, font_in}}
 use Rattle.t1_document.specs.{Documents.{Place, Document, document_bytes, document_of}, Rewriting.{NewTexts, can_give, is_seen, Fate, Stays, Gives, fated}}
 use Rattle.t1_document.specs.{Families.{family}, Joins.{names_from}}
@@ -86,20 +87,15 @@ entry_bytes start key e = text_part e ++ renaming start key e.name
 abbrev pub asks : List ℕ → Bool
 asks text = occurs (fixed (codes "FontDirectory")) text
 
--- it is the test that a font loses when it is mended
-abbrev pub is_test : Mend → Bool
-is_test (TestTakenOut at) = true
-is_test mend = false
-
--- there is such a test
-abbrev pub has_test : Result (List Mend) ReadFault → Bool
-has_test (Ok mends) = list_any is_test mends
-has_test (Err fault) = false
+-- what a text that asks leaves: an answer where a font was read whose head has the test that it loses when it is mended; else it isn't known
+abbrev pub left_by : Result FontValue ReadFault → Option Bool
+left_by (Ok f) = if is_some (taken_test f.shell.head) then Some true else None
+left_by (Err fault) = None
 
 -- Whether a font text leaves an answer on the operand stack: that of its test whether its font was loaded before. Where a text asks in another way, it
 -- isn't known.
 abbrev pub leaves : List ℕ → Option Bool
-leaves text = if asks text then (if has_test (mends_of text) then Some true else None) else Some false
+leaves text = if asks text then left_by (read_font_widely text) else Some false
 
 -- it is known, and so
 abbrev pub is_so : Bool → Option Bool → Bool

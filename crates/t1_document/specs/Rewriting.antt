@@ -1,5 +1,5 @@
 -- A document whose fonts get new texts.
-use Rattle.std.specs.{Prelude.{ℕ, ◌==◌, ◌&&◌, not, Bool, true, false, List, [], ◌∷◌, ◌++◌, map, codes, Option, Some, None, if◌then◌else◌}, List.{list_any}, Str.{bytes_eq}}
+use Rattle.std.specs.{Prelude.{◌≡◌, ℕ, ◌==◌, ◌&&◌, not, Bool, true, false, List, [], ◌∷◌, ◌++◌, map, codes, Option, Some, None, if◌then◌else◌}, List.{list_any}, Str.{bytes_eq}}
 use Rattle.t1_document.specs.{Lines.{breaks}, Marks.{has_mark}, Fonts.{FontText, font_in}}
 use Rattle.t1_document.specs.Documents.{Place, Document, document_bytes, prepended, document_of}
 
@@ -14,23 +14,48 @@ abbrev pub is_font : List ℕ → List ℕ → List ℕ → Option FontText → 
 is_font name text rest None = false
 is_font name text rest (Some f) = bytes_eq f.name name && bytes_eq f.text text && bytes_eq f.rest rest
 
--- A text can stand at a place: with the rest of the place behind it, it has no mark, and it is read again as a font text of the place's name
--- before that rest.
+-- a text can stand before this rest, for a font of this name: with the rest behind it, it has no mark, and it is read again as such a font text
+abbrev pub can_stand_before : List ℕ → List ℕ → List ℕ → Bool
+can_stand_before text name rest = not (has_mark (text ++ rest)) && is_font name text rest (font_in (text ++ rest))
+
+-- a text can stand at a place
 abbrev pub can_stand : List ℕ → Place → Bool
-can_stand text p = not (has_mark (text ++ p.rest)) && is_font p.name text p.rest (font_in (text ++ p.rest))
+can_stand text p = can_stand_before text p.name p.rest
+
+-- two places have one name and one rest, so that the same texts can stand at both
+abbrev pub are_like : Place → Place → Bool
+are_like p q = bytes_eq p.name q.name && bytes_eq p.rest q.rest
+
+-- there is a place, and another is like it
+abbrev pub is_like : Option Place → Place → Bool
+is_like None q = false
+is_like (Some p) q = are_like p q
 
 -- there is a text, and it can't stand at a place
 abbrev pub is_barred : Option (List ℕ) → Place → Bool
 is_barred None p = false
 is_barred (Some text) p = not (can_stand text p)
 
+-- there is a text, and it is this one
+abbrev pub is_text : List ℕ → Option (List ℕ) → Bool
+is_text text None = false
+is_text text (Some other) = bytes_eq other text
+
+-- the new text of each of these names can stand before the rest that is noted for it
+abbrev pub AllTried : NewTexts → NewTexts → Type 0
+AllTried new tried = (name rest text : List ℕ) → tried name ≡ Some rest → new name ≡ Some text → can_stand_before text name rest ≡ true
+
 -- the new text of a name can't stand at one of its places
 abbrev pub is_refused : NewTexts → List Place → List ℕ → Bool
 is_refused new ps name = list_any (λ p. bytes_eq name p.name && is_barred (new p.name) p) ps
 
--- the new texts of the names that are not refused
+-- the new texts of names but for those that are refused
+abbrev pub without_refused : (List ℕ → Bool) → NewTexts → NewTexts
+without_refused refused new name = if refused name then None else new name
+
+-- the new texts of the names that are not refused at one of their places
 abbrev pub standing : NewTexts → List Place → NewTexts
-standing new ps name = if is_refused new ps name then None else new name
+standing new ps = without_refused (is_refused new ps) new
 
 -- a slash comes
 abbrev pub slash_comes : List ℕ → Bool

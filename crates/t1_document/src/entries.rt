@@ -1,9 +1,10 @@
 //! The entries of a pool: the fonts that stand before the documents.
 
-ghost use Rattle.std.specs.{Prelude.{◌≡◌, ◌++◌, ℕ, List, map, codes, IfOk, OnOk}, List.{list_all, list_any}};
+ghost use Rattle.std.specs.{Prelude.{◌≡◌, ◌++◌, ℕ, List, map, codes, is_some, true, Some, None, IfOk, OnOk, if◌then◌else◌}, List.{list_all}};
 ghost use Rattle.std.specs.Option.{option_map};
 ghost use Rattle.t1_document.specs.{Joins.{new_texts}, Groups.{outcome_in, places_in}, Texts.{text_in}, Views.{font_view, place_view, entry_view}};
-ghost use Rattle.t1_document.specs.Pooling.{behind_text, text_part, renaming, entry_bytes, asks, is_test, has_test, leaves, is_so, named_by, entry_name, takes_line};
+ghost use Rattle.t1_text.specs.FontTest.{taken_test};
+ghost use Rattle.t1_document.specs.Pooling.{behind_text, text_part, renaming, entry_bytes, asks, leaves, is_so, named_by, entry_name, takes_line};
 ghost use Rattle.t1_document.specs.Pooling.{entry_for, first_of_several, entry_of, entry_part, end_added, entries, line_ends};
 
 use crate::documents::Place;
@@ -14,7 +15,8 @@ use crate::own_names::{can_give, clashes, line_end, push_defined, push_line, sta
 use crate::rewriting::has_mark;
 use crate::texts::Texts;
 use std::alloc::{AllocError, Global};
-use t1_font::{Mend, ReadFault, mends};
+use t1_font::{Part, ReadFault, Source, read_wide};
+use t1_text::font_test::taken_test;
 use t1_text::words::regular_comes;
 
 /// A font text before the documents, the name of its font, and whether the text leaves an answer on the operand stack.
@@ -39,23 +41,19 @@ fn asks(text: &[u8]) -> bool
     stands_in(b"FontDirectory", text)
 }
 
-/// Whether a mend is the test that a font loses.
-fn is_test(mend: Mend) -> bool
-    ensures { result ≡ is_test mend }
+/// Whether the head of a font has the test that it loses when it is mended.
+fn has_test(alloc: Global, source: &Source) -> Result<bool, AllocError>
+    ensures { IfOk result (λ b. b ≡ is_some (taken_test source.now.shell.head)) }
 {
-    matches!(mend, Mend::TestTakenOut { .. })
+    let font = source.font(alloc)?;
+    Ok(taken_test(alloc, font.text(Part::Head))?.is_some())
 }
 
-/// Whether such a test is among some mends.
-fn has_test(mends: &[Mend]) -> bool
-    ensures { result ≡ list_any is_test mends.now }
+/// What a font leaves whose text asks: the answer of its test, if that is in its head. Else it isn't known.
+fn answer(has_test: bool) -> Option<bool>
+    ensures { result ≡ (if has_test then Some true else None) }
 {
-    'mends: for mend in mends {
-        if is_test(*mend) {
-            return true;
-        }
-    }
-    false
+    if has_test { Some(true) } else { None }
 }
 
 /// Whether a font text leaves an answer on the operand stack, if it is known.
@@ -65,8 +63,8 @@ fn leaves(alloc: Global, text: &[u8]) -> Result<Option<bool>, AllocError>
     if !asks(text) {
         return Ok(Some(false));
     }
-    match mends(alloc, text) {
-        Ok(mends) => Ok(if has_test(&mends) { Some(true) } else { None }),
+    match read_wide(alloc, text) {
+        Ok(source) => Ok(answer(has_test(alloc, &source)?)),
         Err(ReadFault::Memory) => Err(AllocError),
         Err(_) => Ok(None),
     }

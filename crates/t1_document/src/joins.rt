@@ -6,11 +6,12 @@ ghost use Rattle.t1_font.specs.Answers.{Answers};
 ghost use Rattle.t1_subset.specs.Rejoins.{NotRejoined};
 ghost use Rattle.t1_document.specs.{Fonts.{canon_text}, Rewriting.{can_stand}};
 ghost use Rattle.t1_document.specs.Joins.{fonts_of_places, wants_memory, text_for_places, kept_text, RejoinToText, OfNormalized, OfFonts, ComeTo, AreOutcomes, lacks_name};
-ghost use Rattle.t1_document.specs.{Joins.{places_under, new_texts}, Groups.{places_in, outcome_in}, Texts.{text_in}, Views.{place_view, document_view}};
+ghost use Rattle.t1_document.specs.{Joins.{places_under, new_texts}, Groups.{places_in, outcome_in}, Texts.{text_in}, Views.{place_view}};
 
-use crate::documents::{Document, Place};
+use crate::documents::Place;
 use crate::fonts::is_memory;
 use crate::groups::{Groups, groups_of};
+use crate::rewriting::is_like;
 use crate::texts::Texts;
 use std::alloc::{AllocError, Global};
 use std::collections::BTreeMap;
@@ -82,10 +83,12 @@ fn all_have(text: &[u8], places: &[Place<'_>]) -> bool
 fn stands(alloc: Global, text: &[u8], places: &[Place<'_>]) -> Result<bool, AllocError>
     ensures { IfOk result (λ b. b ≡ list_all (can_stand text.now) (map place_view places.now)) }
 {
+    let mut before = None;
     'places: for place in places {
-        if !place.can_stand(alloc, text)? {
+        if !is_like(before, place) && !place.can_stand(alloc, text)? {
             return Ok(false);
         }
+        before = Some(place);
     }
     Ok(true)
 }
@@ -233,6 +236,29 @@ impl<'a> Joins<'a> {
         self.outcomes.get(name)?.text()
     }
 
+    /// The new texts of the names of some places, those whose fonts come to one text.
+    ///
+    /// # Errors
+    ///
+    /// Only want of memory.
+    pub fn new_texts<'n>(
+        &'n self,
+        alloc: Global,
+        places: &[Place<'n>],
+    ) -> Result<Texts<'n>, AllocError>
+        ensures { IfOk result (λ t. (name : List ℕ) → text_in t name
+            ≡ (if lacks_name name (map place_view places.now) then None else new_texts (outcome_in self.now) name)) }
+    {
+        let mut texts = Texts::new(alloc);
+        'places: for place in places {
+            match self.text(place.name) {
+                Some(text) => texts.put(place.name, text)?,
+                None => {}
+            }
+        }
+        Ok(texts)
+    }
+
     /// Notes what the fonts of a name come to.
     fn put(&mut self, name: &'a [u8], outcome: Outcome<'a>) -> Result<(), AllocError>
         ensures { OnOk result ((other : List ℕ) → outcome_in self.new other
@@ -295,29 +321,4 @@ pub fn join_fonts<'a>(alloc: Global, places: &[Place<'a>]) -> Result<Joins<'a>, 
 {
     let groups = groups_of(alloc, places)?;
     joins_of(alloc, places, &groups)
-}
-
-impl<'a> Document<'a> {
-    /// The new texts of the names of this document, those whose fonts come to one text.
-    ///
-    /// # Errors
-    ///
-    /// Only want of memory.
-    pub fn new_texts<'n>(
-        &'n self,
-        alloc: Global,
-        joins: &'n Joins<'_>,
-    ) -> Result<Texts<'n>, AllocError>
-        ensures { IfOk result (λ t. (name : List ℕ) → text_in t name
-            ≡ (if lacks_name name (document_view self.now).places then None else new_texts (outcome_in joins.now) name)) }
-    {
-        let mut texts = Texts::new(alloc);
-        'places: for place in self.places.as_slice() {
-            match joins.text(place.name) {
-                Some(text) => texts.put(place.name, text)?,
-                None => {}
-            }
-        }
-        Ok(texts)
-    }
 }

@@ -21,6 +21,7 @@ mod fonts;
 mod groups;
 mod joins;
 pub mod laws;
+mod levelling;
 mod lines;
 mod marks;
 mod names;
@@ -32,6 +33,7 @@ mod texts;
 
 pub use documents::{Document, Place, read_document};
 pub use joins::{Joins, Kept, Outcome, join_fonts};
+pub use levelling::{LevelledTexts, all_places, level_documents, read_documents};
 pub use lines::push_document;
 pub use marks::{Kind, Mark, Side};
 pub use names::names_of;

@@ -2,7 +2,8 @@
 
 ghost use Rattle.std.specs.{Prelude.{◌≡◌, ◌<◌, ◌++◌, List, ℕ, map, None, IfOk, OnOk, if◌then◌else◌}, Option.{option_map}};
 ghost use Rattle.t1_document.specs.{Marks.{has_mark}, Texts.{text_in, has_text}, Views.{font_view, place_view, document_view}};
-ghost use Rattle.t1_document.specs.Rewriting.{is_font, can_stand, is_barred, is_refused, standing, level_fate, level_fates, fate_bytes, fated_bytes, document_levelled};
+ghost use Rattle.t1_document.specs.Rewriting.{is_font, can_stand, is_like, is_text, AllTried, is_barred};
+ghost use Rattle.t1_document.specs.Rewriting.{is_refused, without_refused, level_fate, level_fates, fate_bytes, fated_bytes, document_levelled};
 
 use crate::documents::{Document, Place};
 use crate::fonts::{FontText, font_in};
@@ -48,14 +49,49 @@ impl<'a> Place<'a> {
     }
 }
 
-/// Whether the new text of a place's name can't stand there.
-fn is_barred(alloc: Global, new: &Texts<'_>, place: &Place<'_>) -> Result<bool, AllocError>
-    ensures { IfOk result (λ b. b ≡ is_barred (text_in new.now place.now.name.now) (place_view place.now)) }
+/// Whether a place is like one that came before, so that the same texts can stand at both.
+pub(crate) fn is_like(before: Option<&Place<'_>>, place: &Place<'_>) -> bool
+    ensures { result ≡ is_like (option_map (λ p. place_view p.now) before.entry) (place_view place.now) }
 {
-    match new.get(place.name) {
-        Some(text) => Ok(!place.can_stand(alloc, text)?),
-        None => Ok(false),
+    match before {
+        Some(other) => other.name == place.name && other.rest == place.rest,
+        None => false,
     }
+}
+
+/// Whether this rest is noted for a name.
+fn is_noted(tried: &Texts<'_>, name: &[u8], rest: &[u8]) -> bool
+    ensures { result ≡ is_text rest.now (text_in tried.now name.now) }
+{
+    match tried.get(name) {
+        Some(noted) => noted == rest,
+        None => false,
+    }
+}
+
+/// Whether the new text of a place's name can't stand there. Where it can, the place's rest is noted, since the text need not be tried
+/// before it again.
+fn is_barred<'a>(
+    alloc: Global,
+    new: &Texts<'_>,
+    tried: &mut Texts<'a>,
+    place: &Place<'a>,
+) -> Result<bool, AllocError>
+    requires { AllTried (text_in new.now) (text_in tried.old) }
+    ensures barred { IfOk result (λ b. b ≡ is_barred (text_in new.now place.now.name.now) (place_view place.now)) }
+    ensures tried { OnOk result (AllTried (text_in new.now) (text_in tried.new)) }
+{
+    let Some(text) = new.get(place.name) else {
+        return Ok(false);
+    };
+    if is_noted(tried, place.name, place.rest) {
+        return Ok(false);
+    }
+    if !place.can_stand(alloc, text)? {
+        return Ok(true);
+    }
+    tried.put(place.name, place.rest)?;
+    Ok(false)
 }
 
 /// The names whose new texts can't stand at one of their places; the texts are the names again.
@@ -68,8 +104,9 @@ fn refused<'a>(
         ≡ is_refused (text_in new.now) (map place_view places.now) name) }
 {
     let mut refused = Texts::new(alloc);
+    let mut tried = Texts::new(alloc);
     'places: for place in places {
-        if is_barred(alloc, new, place)? {
+        if is_barred(alloc, new, &mut tried, place)? {
             refused.put(place.name, place.name)?;
         }
     }
@@ -79,7 +116,7 @@ fn refused<'a>(
 /// The new text of a name that is not refused.
 fn standing<'n>(new: &Texts<'n>, refused: &Texts<'_>, name: &[u8]) -> Option<&'n [u8]>
     ensures { option_map (λ t. t.now) result
-        ≡ (if has_text refused.now name.now then None else text_in new.now name.now) }
+        ≡ without_refused (has_text refused.now) (text_in new.now) name.now }
 {
     if refused.get(name).is_some() {
         return None;
@@ -99,8 +136,27 @@ fn push_place(out: &mut Vec<u8>, place: &Place<'_>, text: Option<&[u8]>) -> Resu
     out.extend_from_slice(place.rest)
 }
 
+/// Adds places whose fonts get the new texts of names that are not refused, and the bytes behind them.
+fn push_levelled(
+    out: &mut Vec<u8>,
+    places: &[Place<'_>],
+    last: &[u8],
+    new: &Texts<'_>,
+    refused: &Texts<'_>,
+) -> Result<(), AllocError>
+    ensures { OnOk result (out.new.items ≡ out.old.items
+        ++ fated_bytes (level_fates (without_refused (has_text refused.now) (text_in new.now)) (map place_view places.now)) last.now) }
+{
+    'places: for place in places {
+        out.extend_from_slice(place.before)?;
+        push_place(out, place, standing(new, refused, place.name))?;
+    }
+    out.extend_from_slice(last)?;
+    Ok(())
+}
+
 /// The bytes of a document whose fonts get the new texts of names that are not refused.
-fn write(
+pub(crate) fn write(
     alloc: Global,
     document: &Document<'_>,
     new: &Texts<'_>,
@@ -108,16 +164,16 @@ fn write(
 ) -> Result<Vec<u8>, AllocError>
     requires { (name : List ℕ) → has_text refused.now name
         ≡ is_refused (text_in new.now) (document_view document.now).places name }
-    ensures { IfOk result (λ v. v.items ≡ fated_bytes
-        (level_fates (standing (text_in new.now) (document_view document.now).places) (document_view document.now).places)
-        (document_view document.now).last) }
+    ensures { IfOk result (λ v. v.items ≡ document_levelled (text_in new.now) (document_view document.now)) }
 {
     let mut out = Vec::new(alloc);
-    'places: for place in document.places.as_slice() {
-        out.extend_from_slice(place.before)?;
-        push_place(&mut out, place, standing(new, refused, place.name))?;
-    }
-    out.extend_from_slice(document.last)?;
+    push_levelled(
+        &mut out,
+        document.places.as_slice(),
+        document.last,
+        new,
+        refused,
+    )?;
     Ok(out)
 }
 

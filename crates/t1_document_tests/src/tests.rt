@@ -4,6 +4,7 @@ mod growths;
 mod joins;
 mod kept;
 mod large;
+mod levelling;
 mod places;
 mod pooling;
 mod rewriting;

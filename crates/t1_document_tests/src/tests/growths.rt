@@ -1,6 +1,7 @@
 //! Each call that grows, over a small document. `tools/sweep_growths.py` refuses one growth after the other: a call that then
 //! answers want of memory answers right when it is made again.
 
+use super::levelling::{level_to, place_count};
 use super::rewriting::levelled;
 use super::tiny;
 use std::alloc::{AllocError, Global};
@@ -40,7 +41,7 @@ fn has_one_text(
 ) -> Result<bool, AllocError> {
     let same = matches!(joins.get(b"Tiny"), Some(Outcome::Same(_)));
     seen(
-        document.new_texts(alloc, joins),
+        joins.new_texts(alloc, document.places.as_slice()),
         |texts| same && texts.get(b"Tiny").is_some(),
     )
 }
@@ -92,6 +93,12 @@ fn is_levelled(
     Ok(levelled(alloc, parts, new)?.as_slice() == want)
 }
 
+/// Whether two documents with this text stay so, levelled together.
+fn stay_levelled(alloc: Global, text: &[u8]) -> Result<bool, AllocError> {
+    let both = [text, text];
+    Ok(place_count(alloc, &both)? == 2 && level_to(alloc, &both, &both)?)
+}
+
 /// Whether each call answers right.
 fn all_answer_right(alloc: Global) -> Result<bool, AllocError> {
     let font = tiny(alloc, b"%!")?;
@@ -101,6 +108,7 @@ fn all_answer_right(alloc: Global) -> Result<bool, AllocError> {
     let want = joined(alloc, &[b"%%BeginFont\n", new.as_slice(), b"\n%%EndFont\n"])?;
     Ok(
         is_read_right(alloc, text.as_slice())?
+            && stay_levelled(alloc, text.as_slice())?
             && is_levelled(alloc, &parts, new.as_slice(), want.as_slice())?,
     )
 }

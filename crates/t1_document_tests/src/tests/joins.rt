@@ -55,7 +55,7 @@ fn joins_to(
     level: &[&[u8]],
 ) -> bool {
     let levelled = used(
-        document.new_texts(alloc, joins),
+        joins.new_texts(alloc, document.places.as_slice()),
         |texts| document.level(alloc, texts),
     );
     are_same(levelled, joined(alloc, level))
@@ -155,7 +155,7 @@ fn what_is_wrong<'a>(alloc: Global, a: &'a [u8], b: &'a [u8], c: &'a [u8]) -> &'
 
 // meets join_fonts Ok at 0, 1, 2, 3 places
 // meets names_of Ok at 0, 1, 2, 3 places
-// meets Document::new_texts Ok at 0, 1, 2, 3 places
+// meets Joins::new_texts Ok at 0, 1, 2, 3 places
 #[test]
 fn fonts_of_a_name(rt: HostRuntime) -> Result<(), Fail> {
     let alloc = rt.alloc();

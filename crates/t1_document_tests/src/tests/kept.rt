@@ -63,7 +63,7 @@ fn long(alloc: Global, text: &[u8]) -> Result<Vec<u8>, AllocError> {
 
 // meets read_document Ok at 250000 bytes
 // meets join_fonts Ok at 250000 bytes
-// meets Document::new_texts Ok at 250000 bytes
+// meets Joins::new_texts Ok at 250000 bytes
 // meets Document::level Ok at 250000 bytes
 #[test]
 fn a_long_document(rt: HostRuntime) -> Result<(), Fail> {
@@ -103,7 +103,7 @@ fn repeated<'a>(
 
 // meets join_fonts Ok at 1000 places
 // meets names_of Ok at 1000 places
-// meets Document::new_texts Ok at 1000 places
+// meets Joins::new_texts Ok at 1000 places
 // meets Document::level Ok at 1000 places
 #[test]
 fn very_many_places(rt: HostRuntime) -> Result<(), Fail> {

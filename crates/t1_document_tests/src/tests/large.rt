@@ -142,9 +142,10 @@ fn levelled_length(
     document: &Document<'_>,
     joins: &Joins<'_>,
 ) -> Result<usize, AllocError> {
-    used(document.new_texts(alloc, joins), |texts| {
-        seen(document.level(alloc, texts), |levelled| levelled.len())
-    })
+    used(
+        joins.new_texts(alloc, document.places.as_slice()),
+        |texts| { seen(document.level(alloc, texts), |levelled| levelled.len()) },
+    )
 }
 
 /// How many names a document has, and how long it is when it is levelled so.
@@ -167,7 +168,7 @@ fn text_levelled(alloc: Global, text: &[u8]) -> Result<(usize, usize), AllocErro
 }
 
 // meets join_fonts Ok at 300 places
-// like join_fonts: names_of, Document::new_texts
+// like join_fonts: names_of, Joins::new_texts
 #[test]
 fn many_fonts_of_each(rt: HostRuntime) -> Result<(), Fail> {
     let alloc = rt.alloc();

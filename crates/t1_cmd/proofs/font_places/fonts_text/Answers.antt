@@ -2,7 +2,8 @@ use Rattle.std.{proofs.Common.{◌≡◌, ◌++◌, ℕ, List, map, ap, subst, �
 use Rattle.t1_subset.specs.NameSets.{lent}
 use Rattle.t1_document.specs.{declared.documents.Place.{Place as CodePlace}, declared.documents.Document.{Document as CodeDocument}, Documents.{Place, Document, document_of}, Groups.{outcome_in}}
 use Rattle.t1_document.specs.{Joins.{Outcomes, AreOutcomes, places_of_all}, Views.{place_view, document_view}}
-use Rattle.t1_cmd.{specs.FontPlaces.{document_lines, count_line}, proofs.LevelLemmas.{places_all}}
+use Rattle.t1_document.proofs.LevelLemmas.{places_all}
+use Rattle.t1_cmd.specs.FontPlaces.{document_lines, count_line}
 use Rattle.t1_cmd.proofs.font_places.fonts_text.Goals as goal
 
 pub returns : goal.returns
@@ -12,9 +13,9 @@ returns c =
     let outcomes : Outcomes = outcome_in c.in_ok-joins.joins in
     let read : map document_view c.as_slice.result.now ≡ map document_of texts =
     ap (λ (ds : List CodeDocument). map document_view ds) c.as_slice.ensures.value ∙ c.in_ok-documents.ensures in
-    let here : map place_view c.in_ok-all.all.places.items ≡ places_of_all texts =
-    c.in_ok-all.ensures ∙ (ap (flat_map (λ (e : Document). e.places)) read ∙ places_all texts) in
-    let are : AreOutcomes (map place_view c.in_ok-all.all.places.items) outcomes =
+    let here : map place_view c.in_ok-places.places.items ≡ places_of_all texts =
+    c.in_ok-places.ensures ∙ (ap (flat_map (λ (e : Document). e.places)) read ∙ places_all texts) in
+    let are : AreOutcomes (map place_view c.in_ok-places.places.items) outcomes =
     subst (λ (ps : List CodePlace). AreOutcomes (map place_view ps) outcomes) c.as_slice-2.ensures.value c.in_ok-joins.ensures in (
       outcomes,
       subst (λ (ps : List Place). AreOutcomes ps outcomes) here are,

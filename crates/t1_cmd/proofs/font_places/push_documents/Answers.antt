@@ -1,7 +1,8 @@
 use Rattle.std.proofs.{Common.{◌<◌, ℕ, List, length, get_or, Bor, arith, sym, ap, ◌∙◌}, lemmas.List.{get_or-map, length-map}}
 use Rattle.t1_subset.specs.NameSets.{lent}
 use Rattle.t1_document.specs.{Documents.{document_of}, Groups.{outcome_in}, Views.{document_view}}
-use Rattle.t1_cmd.proofs.{LevelLemmas.{map_twice}, FontPlaceLemmas.{same_at, same_lengths, document_on}}
+use Rattle.t1_document.proofs.LevelLemmas.{map_twice}
+use Rattle.t1_cmd.proofs.FontPlaceLemmas.{same_at, same_lengths, document_on}
 use Rattle.t1_cmd.proofs.font_places.push_documents.Goals as goal
 
 pub push_places-requires : goal.push_places-requires

@@ -1,5 +1,6 @@
 use Rattle.std.proofs.{Common.{ℕ, List, map, Bor, sym, ap, ◌∙◌}, lemmas.List.{take_all}}
-use Rattle.t1_cmd.{specs.Levels.{carried}, proofs.LevelLemmas.{map_twice}}
+use Rattle.t1_document.proofs.LevelLemmas.{map_twice}
+use Rattle.t1_cmd.specs.Levels.{carried}
 use Rattle.t1_cmd.proofs.levels.all_carried.Goals as goal
 
 pub returns : goal.returns

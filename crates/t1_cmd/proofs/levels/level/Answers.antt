@@ -1,58 +1,48 @@
-use Rattle.std.{proofs.Common.{◌≡◌, ℕ, List, Bor, map, ap, subst, ◌∙◌}, specs.List.{flat_map}}
+use Rattle.std.proofs.Common.{◌≡◌, ℕ, List, map, length, Bor, Vec, sym, ap, subst, ◌∙◌}
 use Rattle.t1_subset.specs.NameSets.{lent}
-use Rattle.t1_document.specs.{declared.documents.Place.{Place as CodePlace}, declared.documents.Document.{Document as CodeDocument}, Documents.{Place, Document, document_of}}
-use Rattle.t1_document.specs.{Rewriting.{NewTexts}, Groups.{outcome_in}, Joins.{Outcomes, AreOutcomes, new_texts, places_of_all}, Texts.{text_in}, Views.{place_view, document_view}}
-use Rattle.t1_document.proofs.NewTexts.{texts_are}
-use Rattle.t1_cmd.{specs.{Documents.{kept_lines}, Levels.{carried, levelled_file}}, proofs.LevelLemmas.{places_all, map_twice}}
+use Rattle.t1_document.specs.{Rewriting.{levelled}, Groups.{outcome_in}, Joins.{Outcomes, AreOutcomes, new_texts, places_of_all}}
+use Rattle.t1_document.specs.{declared.documents.Place.{Place as CodePlace}, Views.{place_view}}
+use Rattle.t1_cmd.{specs.{Documents.{kept_lines}, Levels.{carried, files_with}}, proofs.LevelLemmas.{with_levelled, same_count}}
 use Rattle.t1_cmd.proofs.levels.level.Goals as goal
 
--- documents as values
-abbrev seen : List CodeDocument → List Document
-seen ds = map document_view ds
+-- texts that are owned, as values
+abbrev values : {Z : Type 0} → List (Vec ℕ Z) → List (List ℕ)
+values ts = map (λ t. t.items) ts
 
--- what was read of the files is their documents
-read_of : (files : List (List ℕ)) (docs : List CodeDocument) (lent_texts texts : List (Bor (List ℕ))) → seen docs ≡ map document_of (lent lent_texts) →
-    lent_texts ≡ texts → lent texts ≡ map carried files → seen docs ≡ map document_of (map carried files)
-read_of files docs lent_texts texts r s t = r ∙ (ap (λ (ds : List (Bor (List ℕ))). map document_of (lent ds)) s ∙ ap (map document_of) t)
-
-pub each_level-requires : goal.each_level-requires
-each_level-requires c =
-    let files : List (List ℕ) = lent c.args.files.now in
-    let docs = read_of files c.in_ok-documents.documents.items c.as_slice.result.now c.in_ok-texts.texts.items c.in_ok-documents.ensures
-    c.as_slice.ensures.value c.in_ok-texts.ensures in
-    ap seen c.as_slice-5.ensures.value ∙ (docs ∙ map_twice document_of carried files)
+-- the documents that files carry, lent
+carried_of : (files : List (List ℕ)) (documents lent_documents : List (Bor (List ℕ))) → lent documents ≡ map carried files → lent_documents ≡ documents →
+    lent lent_documents ≡ map carried files
+carried_of files documents lent_documents e same = ap lent same ∙ e
 
 pub returns-clause-levels : goal.returns-clause-levels
 returns-clause-levels c =
     let files : List (List ℕ) = lent c.args.files.now in
-    let texts : List (List ℕ) = map carried files in
-    let outcomes : Outcomes = outcome_in c.in_ok-joins.joins in
-    let docs = read_of files c.in_ok-documents.documents.items c.as_slice.result.now c.in_ok-texts.texts.items c.in_ok-documents.ensures
-    c.as_slice.ensures.value c.in_ok-texts.ensures in
-    let here : map place_view c.in_ok-all.all.places.items ≡ places_of_all texts =
-    c.in_ok-all.ensures ∙ (ap (flat_map (λ (e : Document). e.places)) (ap seen c.as_slice-2.ensures.value ∙ docs) ∙ places_all texts) in
-    let are : AreOutcomes (map place_view c.in_ok-all.all.places.items) outcomes =
-    subst (λ (ps : List CodePlace). AreOutcomes (map place_view ps) outcomes) c.as_slice-3.ensures.value c.in_ok-joins.ensures in
-    let new : text_in c.in_ok-new.new ≡ new_texts outcomes =
-    texts_are (map place_view c.in_ok-all.all.places.items) outcomes are (text_in c.in_ok-new.new) c.in_ok-new.ensures in (
+    let outcomes : Outcomes = outcome_in c.in_ok-levelled.levelled.joins in
+    let documents = carried_of files c.in_ok-documents.documents.items c.as_slice.result.now c.in_ok-documents.ensures c.as_slice.ensures.value in (
       outcomes,
-      subst (λ (ps : List Place). AreOutcomes ps outcomes) here are,
-      c.in_ok-texts-2.ensures ∙ ap (λ (n : NewTexts). map (levelled_file n) files) new,
+      subst (λ (ds : List (List ℕ)). AreOutcomes (places_of_all ds) outcomes) documents c.in_ok-levelled.ensures.joins,
+      c.in_ok-texts.ensures
+          ∙ (ap (files_with files) (ap values c.as_slice-3.ensures.value
+          ∙ (c.in_ok-levelled.ensures.texts ∙ ap (map (levelled (new_texts outcomes))) documents))
+          ∙ with_levelled (new_texts outcomes) files),
     )
 
 pub returns-clause-kept : goal.returns-clause-kept
 returns-clause-kept c =
     let files : List (List ℕ) = lent c.args.files.now in
-    let texts : List (List ℕ) = map carried files in
-    let outcomes : Outcomes = outcome_in c.in_ok-joins.joins in
-    let docs = read_of files c.in_ok-documents.documents.items c.as_slice.result.now c.in_ok-texts.texts.items c.in_ok-documents.ensures
-    c.as_slice.ensures.value c.in_ok-texts.ensures in
-    let here : map place_view c.in_ok-all.all.places.items ≡ places_of_all texts =
-    c.in_ok-all.ensures ∙ (ap (flat_map (λ (e : Document). e.places)) (ap seen c.as_slice-2.ensures.value ∙ docs) ∙ places_all texts) in
-    let are : AreOutcomes (map place_view c.in_ok-all.all.places.items) outcomes =
-    subst (λ (ps : List CodePlace). AreOutcomes (map place_view ps) outcomes) c.as_slice-3.ensures.value c.in_ok-joins.ensures in (
+    let outcomes : Outcomes = outcome_in c.in_ok-levelled.levelled.joins in
+    let documents = carried_of files c.in_ok-documents.documents.items c.as_slice.result.now c.in_ok-documents.ensures c.as_slice.ensures.value in (
       outcomes,
-      subst (λ (ps : List Place). AreOutcomes ps outcomes) here are,
+      subst (λ (ds : List (List ℕ)). AreOutcomes (places_of_all ds) outcomes) documents c.in_ok-levelled.ensures.joins,
       c.in_ok-kept.ensures
-          ∙ (ap (λ (ps : List CodePlace). kept_lines outcomes (map place_view ps)) c.as_slice-4.ensures.value ∙ ap (kept_lines outcomes) here),
+          ∙ (ap (λ (ps : List CodePlace). kept_lines outcomes (map place_view ps)) c.as_slice-2.ensures.value
+          ∙ ap (kept_lines outcomes) (c.in_ok-levelled.ensures.places ∙ ap places_of_all documents)),
     )
+
+pub files_with-requires : goal.files_with-requires
+files_with-requires c =
+    let files : List (List ℕ) = lent c.args.files.now in
+    let documents = carried_of files c.in_ok-documents.documents.items c.as_slice.result.now c.in_ok-documents.ensures c.as_slice.ensures.value in
+    same_count (new_texts (outcome_in c.in_ok-levelled.levelled.joins)) c.args.files.now c.in_ok-levelled.levelled.texts.items
+    (c.in_ok-levelled.ensures.texts ∙ ap (map (levelled (new_texts (outcome_in c.in_ok-levelled.levelled.joins)))) documents)
+    ∙ ap length (sym c.as_slice-3.ensures.value)

@@ -1,4 +1,4 @@
-use Rattle.std.{proofs.Common.{◌≡◌, ◌∙◌, ap, sym, subst, List, ℕ, Result, Ok, IfOk, IfErr}, specs.Borrow.{Bor}}
+use Rattle.std.{proofs.Common.{◌∙◌, ap, sym, subst, List, ℕ, Result, Ok, IfOk, IfErr}, specs.Borrow.{Bor}}
 use Rattle.t1_subset.specs.NameSets.{lent}
 use Rattle.t1_cmd.specs.{declared.faults.Reason.{Reason}, Answers.{OfThere, MayRefuse}, Subsets.{names_with}, Budgets.{CutsWithin}}
 use Rattle.t1_cmd.proofs.Budgets.{refuses_there}

@@ -9,12 +9,16 @@ places-preserved c =
     let places = c.args.places.now in
     let i = c.places.place-index in
     elim c.if-branch.branch [
-      | then-branch+in_ok-put w ↦
-          flags_same test _ _ c.if-branch.refused w.refused-is
-          (flags_grow test places i _ c.places-test.true c.places.refused w.put.new.self c.in_ok-is_barred.field-0 c.places.invariant
-          c.in_ok-is_barred.ensures w.if-branch.true w.in_ok-put.ensures.put)
-      | else-branch w ↦
-          flags_same test _ _ c.if-branch.refused w.refused-is
-          (flags_stay test places i _ c.places-test.true c.places.refused c.in_ok-is_barred.field-0 c.places.invariant
-          c.in_ok-is_barred.ensures w.if-branch.false)
+      | then-branch+in_ok-put w ↦ (
+        flags_same test _ _ c.if-branch.refused w.refused-is
+            (flags_grow test places i _ c.places-test.true c.places.refused w.put.new.self c.in_ok-is_barred.field-0 c.places.invariant.0
+            c.in_ok-is_barred.ensures.barred w.if-branch.true w.in_ok-put.ensures.put),
+        c.in_ok-is_barred.ensures.tried,
+      )
+      | else-branch w ↦ (
+        flags_same test _ _ c.if-branch.refused w.refused-is
+            (flags_stay test places i _ c.places-test.true c.places.refused c.in_ok-is_barred.field-0 c.places.invariant.0
+            c.in_ok-is_barred.ensures.barred w.if-branch.false),
+        c.in_ok-is_barred.ensures.tried,
+      )
     ]

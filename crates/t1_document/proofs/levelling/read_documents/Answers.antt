@@ -1,7 +1,6 @@
 use Rattle.std.proofs.{Common.{ℕ, List, map, Bor, sym, ap, ◌∙◌}, lemmas.List.{take_all}}
-use Rattle.t1_document.specs.Documents.{document_of}
-use Rattle.t1_cmd.proofs.LevelLemmas.{map_twice}
-use Rattle.t1_cmd.proofs.levels.documents_of.Goals as goal
+use Rattle.t1_document.{specs.Documents.{document_of}, proofs.LevelLemmas.{map_twice}}
+use Rattle.t1_document.proofs.levelling.read_documents.Goals as goal
 
 pub returns : goal.returns
 returns c =
