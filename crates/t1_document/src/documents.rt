@@ -96,7 +96,7 @@ fn counted(side: Side, n: usize) -> usize
 
 impl Open {
     /// What is open behind a mark.
-    fn behind(self, mark: Mark) -> Open
+    pub fn behind(self, mark: Mark) -> Open
         requires documents { self.documents + 1 < 2 ^ 64 }
         requires raw { self.raw + 1 < 2 ^ 64 }
         ensures { result ≡ open_behind self mark }

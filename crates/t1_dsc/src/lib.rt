@@ -1,0 +1,12 @@
+//! PostScript documents as one document that conforms to Adobe's Document Structuring Conventions.
+#![tactic(auto)]
+
+mod joining;
+pub mod laws;
+mod lines;
+mod names;
+mod pages;
+mod parts;
+mod quiet;
+
+pub use joining::{JoinedPages, join_pages};
