@@ -1,6 +1,7 @@
 -- A start of names that stands nowhere.
 use Rattle.std.proofs.Common.{◌≡◌, ◌≤◌, ◌+◌, ◌-◌, ℕ, zero, suc, Bool, true, false, cond, List, [], ◌∷◌, ◌++◌, length, drop, replicate, Some, refl, sym, ap, ◌∙◌, inl, inr}
-use Rattle.std.proofs.{Common.{arith, append_assoc}, lemmas.Bool.{cases_Bool, cases_lt, lt-ltb, le-ltb}, lemmas.List.{replicate-append-replicate}, lemmas.Option.{none-some}, lemmas.Slice.Eq.{bytes_eq-Decides}}
+use Rattle.std.proofs.{Common.{arith, append_assoc}, lemmas.Bool.{cases_Bool, cases_lt, lt-ltb, le-ltb}, lemmas.List.{replicate-append-replicate}}
+use Rattle.std.proofs.lemmas.{Option.{none-some}, Slice.Eq.{bytes_eq-Decides}}
 use Rattle.std.specs.{Prelude.{codes}, List.{AllByRecursion}}
 use Rattle.t1_grammar.specs.{Grammar.{fixed, unread}, Places.{occurs, occurs_has, absent_lacks}}
 use Rattle.t1_document.{specs.Pooling.{own_start, start_from, free_start}, proofs.{FontLemmas.{fixed_is}, OwnStarts.{own_length, start_is_free}}}

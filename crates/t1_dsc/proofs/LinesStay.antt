@@ -5,8 +5,7 @@ use Rattle.t1_dsc.specs.{Laws.{LinesStay}}
 
 pub lines_stay : LinesStay
 lines_stay = record {
-  text = λ l e h. rw (h, e) refl;
-  structure = λ l e h. rw (h, e) refl;
-  unended = λ l e h. rw (h, e) refl;
+  text = λ l h. rw h refl;
+  structure = λ l h. rw h refl;
   inside = λ o line e. ap (λ (b : Bool). cond b (role_of line) Text) e;
 }

@@ -3,7 +3,7 @@ use Rattle.std.{proofs.Common.{◌≡◌, ℕ, false, List, [], ◌∷◌, refl}
 use Rattle.t1_document.specs.{Lines.{lines_of}, Marks.{mark_of, kind_of}}
 use Rattle.t1_dsc.specs.{declared.lines.Role.{Role}, declared.lines.Role.TheVariants.{Text, Page, Trailer, SetupEnd, Structure}}
 use Rattle.t1_dsc.specs.{Structure.{Line, role_of, lines_from, open_from, lines_in, left_open}, Parts.{header_len, parts_of, has_pages, comments_len, setup_len}}
-use Rattle.t1_dsc.specs.Joining.{quiet, closing, longer}
+use Rattle.t1_dsc.specs.Joining.{ended, quiet, closing, longer}
 
 -- ---- what a line is
 
@@ -93,10 +93,17 @@ no_setup = refl
 
 -- ---- what becomes of lines
 
--- what was structure becomes a comment, and a line without an end gets one
-marked : quiet (text_line (codes "%%BeginFont\r") ∷ line (codes "%%EndProlog\n") Structure ∷ end_of (codes "%%EOF") ∷ [])
+-- what was structure becomes a comment
+marked : quiet (text_line (codes "%%BeginFont\r") ∷ line (codes "%%EndProlog\n") Structure ∷ end_of (codes "%%EOF\n") ∷ [])
     ≡ codes "%%BeginFont\r% %%EndProlog\n% %%EOF\n"
 marked = refl
+
+-- a text gets an LF where a line lacks its end
+whole_already : ended (codes "a\r") ≡ codes "a\r"
+whole_already = refl
+
+made_whole : ended (codes "a\nb") ≡ codes "a\nb\n"
+made_whole = refl
 
 closed : closing (record { documents = 2; raw = 1 }) ≡ codes "%%EndDocument\n%%EndDocument\n%%EndData\n"
 closed = refl

@@ -5,7 +5,7 @@ use Rattle.std.specs.{Prelude.{not}, List.{prefix_len, list_all, concat}}
 use Rattle.t1_document.{specs.{declared.marks.Open.{Open}, Lines.{lines_of}, Documents.{none_open}}, proofs.LineLemmas.{lines_joined}}
 use Rattle.t1_dsc.specs.{declared.lines.Role.TheVariants.{Page, Trailer}, Structure.{Line, same_role, open_past, lines_from, lines_in}}
 use Rattle.t1_dsc.specs.Parts.{before, from, is_header, header_len, pages_in, has_pages, parts_of}
-use Rattle.t1_dsc.specs.{Laws.{texts, page_lines, part_lines, PartsAreWhole}}
+use Rattle.t1_dsc.specs.{Joining.{ended}, Laws.{texts, page_lines, part_lines, PartsAreWhole}}
 
 -- what comes first and passes a test passes it
 all_first : {X : Type 0} (p : X → Bool) (xs : List X) → list_all p (take (prefix_len p xs) xs) ≡ true
@@ -42,12 +42,16 @@ parts_cover ls = elim (cases_Bool (has_pages ls)) [
   | inr e ↦ rw e (append-nil (ls ++ []) ∙ append-nil ls)
 ]
 
+lines_whole : (text : List ℕ) →
+    texts (take (header_len (lines_in text)) (lines_in text)) ++ texts (part_lines (parts_of (drop (header_len (lines_in text)) (lines_in text)))) ≡ text
+lines_whole text =
+    let ls = lines_in text in
+    let n = header_len ls in
+    ap (λ (ks : List Line). texts (take n ls) ++ texts ks) (parts_cover (drop n ls))
+    ∙ (sym (texts-append (take n ls) (drop n ls)) ∙ (ap texts (take-append-drop n ls) ∙ (texts_are none_open (lines_of text) ∙ lines_joined text)))
+
 pub parts_are_whole : PartsAreWhole
 parts_are_whole = record {
-  comments = λ text. all_first (λ l. is_header l.text) (lines_in text);
-  whole = λ text.
-      let ls = lines_in text in
-      let n = header_len ls in
-      ap (λ (ks : List Line). texts (take n ls) ++ texts ks) (parts_cover (drop n ls))
-      ∙ (sym (texts-append (take n ls) (drop n ls)) ∙ (ap texts (take-append-drop n ls) ∙ (texts_are none_open (lines_of text) ∙ lines_joined text)));
+  comments = λ text. all_first (λ l. is_header l.text) (lines_in (ended text));
+  whole = λ text. lines_whole (ended text);
 }

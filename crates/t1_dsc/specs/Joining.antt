@@ -1,21 +1,23 @@
 -- Documents as one: each page with all that it stands on, one behind the other under new numbers.
-use Rattle.std.specs.{Prelude.{ℕ, ◌+◌, Bool, false, List, [], ◌∷◌, ◌++◌, take, drop, length, replicate, codes, decimal, if◌then◌else◌, nat_lt}}
+use Rattle.std.specs.{Prelude.{ℕ, ◌+◌, Bool, true, false, List, [], ◌∷◌, ◌++◌, take, drop, length, replicate, codes, decimal, if◌then◌else◌, nat_lt}}
 use Rattle.std.specs.List.{flat_map, concat}
 use Rattle.t1_document.specs.{declared.marks.Open.{Open}, Lines.{is_line_end}, Pooling.{free_start}}
 use Rattle.t1_dsc.specs.{declared.lines.Role.{Role}, declared.lines.Role.TheVariants.{Text}, Structure.{Line, same_role, lines_in, left_open}}
 use Rattle.t1_dsc.specs.Parts.{PageLines, Parts, behind_header, has_pages, parts_of, comments_len, setup_len}
 
--- ---- lines that were structure
+-- ---- whole lines
 
--- a text ends with LF or CR
-abbrev pub has_end : List ℕ → Bool
-has_end [] = false
-has_end (b ∷ []) = is_line_end b
-has_end (b ∷ c ∷ text) = has_end (c ∷ text)
+-- a text leaves no line without its end
+abbrev pub is_ended : List ℕ → Bool
+is_ended [] = true
+is_ended (b ∷ []) = is_line_end b
+is_ended (b ∷ c ∷ text) = is_ended (c ∷ text)
 
--- a line with its end: an LF stands behind it if it has none
+-- a text, with an LF behind it if it leaves a line without its end
 abbrev pub ended : List ℕ → List ℕ
-ended line = if has_end line then line else line ++ 10 ∷ []
+ended text = if is_ended text then text else text ++ 10 ∷ []
+
+-- ---- lines that were structure
 
 -- what stands before a line of another document: what was structure there becomes a comment
 abbrev pub quiet_mark : Role → List ℕ
@@ -23,7 +25,7 @@ quiet_mark role = if same_role Text role then [] else codes "% "
 
 -- a line of another document
 abbrev pub quiet_line : Line → List ℕ
-quiet_line l = quiet_mark l.role ++ ended l.text
+quiet_line l = quiet_mark l.role ++ l.text
 
 -- the bytes of such lines
 abbrev pub quiet : List Line → List ℕ
@@ -91,9 +93,10 @@ page_front start n body = page_line n ++ quiet (take (comments_len body) body) +
 abbrev pub with_setup : List Line → List ℕ
 with_setup lines = quiet (take (setup_len lines) lines) ++ codes "%%EndPageSetup\n" ++ quiet (drop (setup_len lines) lines)
 
--- what stands between the two procedures: the head of the page's document, and the page's own lines
+-- What stands between the two procedures: the head of the page's document, and the page's own lines. A line that is ours stands between, since the page's
+-- own line may end with CR, and the next one be an LF alone.
 unfoldable pub page_inner : List ℕ → PageLines → List ℕ
-page_inner head p = head ++ quiet p.own ++ with_setup (behind_comments p.body)
+page_inner head p = head ++ quiet p.own ++ codes "%\n" ++ with_setup (behind_comments p.body)
 
 -- A page: its front, its document's head, its own lines, and its document's trailer. The setup ends where the page's own did, or where there was none
 -- behind the head.
@@ -107,25 +110,41 @@ pages_bytes start frame n (p ∷ ps) = page_bytes start frame n p ++ pages_bytes
 
 -- ---- documents
 
+-- the parts of a text of whole lines
+abbrev pub parts_in : List ℕ → Parts
+parts_in text = parts_of (behind_header (lines_in text))
+
 -- the parts of a document
 abbrev pub document_parts : List ℕ → Parts
-document_parts text = parts_of (behind_header (lines_in text))
+document_parts text = parts_in (ended text)
 
 -- what all pages of a document have
 abbrev pub frame_of : Parts → Open → Frame
 frame_of parts o = record { head = quiet parts.head; tail = quiet parts.trailer ++ closing o }
 
+-- how many pages a text of whole lines becomes
+abbrev pub count_in : List ℕ → ℕ
+count_in text = length (parts_in text).pages
+
 -- how many pages a document becomes
 abbrev pub page_count : List ℕ → ℕ
-page_count text = length (document_parts text).pages
+page_count text = count_in (ended text)
 
--- how many pages a document has: none, where it becomes one whole
+-- how many pages a text of whole lines has: none, where it becomes one whole
+abbrev pub told_in : List ℕ → ℕ
+told_in text = if has_pages (behind_header (lines_in text)) then count_in text else 0
+
+-- how many pages a document has
 abbrev pub pages_told : List ℕ → ℕ
-pages_told text = if has_pages (behind_header (lines_in text)) then page_count text else 0
+pages_told text = told_in (ended text)
 
--- the pages of a document, numbered from this number on
-unfoldable pub document_bytes : List ℕ → ℕ → List ℕ → List ℕ
-document_bytes start n text = pages_bytes start (frame_of (document_parts text) (left_open text)) n (document_parts text).pages
+-- the pages of a text of whole lines, numbered from this number on
+unfoldable pub bytes_in : List ℕ → ℕ → List ℕ → List ℕ
+bytes_in start n text = pages_bytes start (frame_of (parts_in text) (left_open text)) n (parts_in text).pages
+
+-- the pages of a document
+abbrev pub document_bytes : List ℕ → ℕ → List ℕ → List ℕ
+document_bytes start n text = bytes_in start n (ended text)
 
 -- the pages of documents
 abbrev pub documents_bytes : List ℕ → ℕ → List (List ℕ) → List ℕ
@@ -140,9 +159,13 @@ header n = codes "%!PS-Adobe-3.0\n%%Pages: " ++ decimal n ++ codes "\n%%EndComme
 unfoldable pub prolog : List ℕ → List ℕ
 prolog start = codes "%%BeginProlog\n" ++ procedure_begin start ++ procedure_end start ++ codes "%%EndProlog\n"
 
--- a text whose structure is that of no document
-unfoldable pub quieted : List ℕ → List ℕ
-quieted text = quiet (lines_in text) ++ closing (left_open text)
+-- a text of whole lines, of which none is structure, and which leaves nothing open
+unfoldable pub quiet_in : List ℕ → List ℕ
+quiet_in text = quiet (lines_in text) ++ closing (left_open text)
+
+-- a text that is made such
+abbrev pub quieted : List ℕ → List ℕ
+quieted text = quiet_in (ended text)
 
 -- the setup, with the fonts
 unfoldable pub setup : List ℕ → List ℕ

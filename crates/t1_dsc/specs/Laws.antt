@@ -4,7 +4,7 @@ use Rattle.t1_grammar.specs.{Grammar.{fixed}, Places.{occurs}}
 use Rattle.t1_document.specs.{declared.marks.Open.{Open}}
 use Rattle.t1_dsc.specs.{declared.lines.Role.TheVariants.{Text}, Structure.{Line, is_clear, role_in, same_role, lines_in}}
 use Rattle.t1_dsc.specs.Parts.{PageLines, Parts, is_header, header_len, comments_len, setup_len}
-use Rattle.t1_dsc.specs.Joining.{Frame, has_end, quiet, quiet_line, name_of, names_start, behind_comments, document_parts, page_line, page_bytes}
+use Rattle.t1_dsc.specs.Joining.{ended, quiet_line, names_start, document_parts}
 
 -- the bytes of lines
 abbrev pub texts : List Line → List ℕ
@@ -20,22 +20,14 @@ part_lines parts = parts.head ++ (page_lines parts.pages ++ parts.trailer)
 
 -- The header of a document has comments alone, and it, the head, the pages and the trailer are the whole document, byte for byte.
 pub record PartsAreWhole : Type 0 where
-  pub comments : (text : List ℕ) → list_all (λ l. is_header l.text) (take (header_len (lines_in text)) (lines_in text)) ≡ true
-  pub whole : (text : List ℕ) → texts (take (header_len (lines_in text)) (lines_in text)) ++ texts (part_lines (document_parts text)) ≡ text
+  pub comments : (text : List ℕ) → list_all (λ l. is_header l.text) (take (header_len (lines_in (ended text))) (lines_in (ended text))) ≡ true
+  pub whole : (text : List ℕ) →
+      texts (take (header_len (lines_in (ended text))) (lines_in (ended text))) ++ texts (part_lines (document_parts text)) ≡ ended text
 
--- the bytes of a page stand around its document's head, its own lines and its document's trailer
-abbrev pub PageHolds : List ℕ → Frame → ℕ → PageLines → Type 0
-PageHolds start frame n p =
-    page_bytes start frame n p
-    ≡ page_line n ++ (quiet (take (comments_len p.body) p.body) ++ (codes "%%BeginPageSetup\n" ++ (name_of start (codes "begin\n") ++ (frame.head ++ (quiet p.own
-    ++ (quiet (take (setup_len (behind_comments p.body)) (behind_comments p.body)) ++ (codes "%%EndPageSetup\n"
-    ++ (quiet (drop (setup_len (behind_comments p.body)) (behind_comments p.body)) ++ (frame.tail ++ name_of start (codes "end\n"))))))))))
-
--- A line with an end stays as it is, but for `% ` before a line of structure; so each line inside an embedded document and inside data stays.
+-- A line stays as it is, but for `% ` before a line of structure; so each line inside an embedded document and inside data stays.
 pub record LinesStay : Type 0 where
-  pub text : (l : Line) → has_end l.text ≡ true → same_role Text l.role ≡ true → quiet_line l ≡ l.text
-  pub structure : (l : Line) → has_end l.text ≡ true → same_role Text l.role ≡ false → quiet_line l ≡ codes "% " ++ l.text
-  pub unended : (l : Line) → has_end l.text ≡ false → same_role Text l.role ≡ true → quiet_line l ≡ l.text ++ 10 ∷ []
+  pub text : (l : Line) → same_role Text l.role ≡ true → quiet_line l ≡ l.text
+  pub structure : (l : Line) → same_role Text l.role ≡ false → quiet_line l ≡ codes "% " ++ l.text
   pub inside : (o : Open) (line : List ℕ) → is_clear o ≡ false → role_in o line ≡ Text
 
 -- a start of names stands neither in the fonts nor in any of the documents

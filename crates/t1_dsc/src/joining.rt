@@ -1,13 +1,14 @@
 //! Documents as one.
 
 ghost use Rattle.std.specs.Prelude.{◌≡◌, ◌++◌, ◌+◌, map, IfOk, OnOk};
-ghost use Rattle.t1_dsc.specs.Joining.{page_count, pages_told, document_bytes, documents_bytes, total, header, prolog, quieted, setup, joined_pages};
+ghost use Rattle.t1_dsc.specs.Joining.{count_in, page_count, told_in, pages_told, bytes_in, document_bytes, documents_bytes, total, header, prolog, quiet_in, quieted, setup, joined_pages};
 
 use crate::lines::read_lines;
 use crate::names::{names_start, push_procedures};
 use crate::pages::{Frame, push_number, push_pages, sum};
 use crate::parts::{behind_header, has_pages, parts_of};
 use crate::quiet::{push_closing, push_quiet};
+use crate::whole::{is_ended, with_end};
 use std::alloc::{AllocError, Global};
 
 /// Documents as one.
@@ -33,17 +34,29 @@ struct PageCounts {
     told: Vec<usize>,
 }
 
-/// Counts the pages of a document.
-fn count_pages(alloc: Global, document: &[u8]) -> Result<PageCount, AllocError>
-    ensures becomes { IfOk result (λ c. c.becomes ≡ page_count document.now) }
-    ensures told { IfOk result (λ c. c.told ≡ pages_told document.now) }
+/// Counts the pages of a text of whole lines.
+fn count_in(alloc: Global, text: &[u8]) -> Result<PageCount, AllocError>
+    ensures becomes { IfOk result (λ c. c.becomes ≡ count_in text.now) }
+    ensures told { IfOk result (λ c. c.told ≡ told_in text.now) }
 {
-    let read = read_lines(alloc, document)?;
+    let read = read_lines(alloc, text)?;
     let lines = behind_header(read.lines.as_slice());
     let parts = parts_of(alloc, lines)?;
     let becomes = parts.pages.len();
     let told = if has_pages(lines) { becomes } else { 0 };
     Ok(PageCount { becomes, told })
+}
+
+/// Counts the pages of a document.
+fn count_pages(alloc: Global, document: &[u8]) -> Result<PageCount, AllocError>
+    ensures becomes { IfOk result (λ c. c.becomes ≡ page_count document.now) }
+    ensures told { IfOk result (λ c. c.told ≡ pages_told document.now) }
+{
+    if is_ended(document) {
+        return count_in(alloc, document);
+    }
+    let whole = with_end(alloc, document)?;
+    count_in(alloc, whole.as_slice())
 }
 
 /// Counts the pages of documents.
@@ -61,19 +74,19 @@ fn count_all(alloc: Global, documents: &[&[u8]]) -> Result<PageCounts, AllocErro
     Ok(PageCounts { total, told })
 }
 
-/// Adds the pages of a document, numbered from this number on, and tells the number behind theirs.
-#[tactic(auto, unfolding(crate::specs::Joining::document_bytes))]
-fn push_document(
+/// Adds the pages of a text of whole lines, numbered from this number on, and tells the number behind theirs.
+#[tactic(auto, unfolding(crate::specs::Joining::bytes_in))]
+fn push_in(
     alloc: Global,
     out: &mut Vec<u8>,
     start: &[u8],
     first: usize,
-    document: &[u8],
+    text: &[u8],
 ) -> Result<usize, AllocError>
-    ensures next { IfOk result (λ n. n ≡ first + page_count document.now) }
-    ensures bytes { OnOk result (out.new.items ≡ out.old.items ++ document_bytes start.now first document.now) }
+    ensures next { IfOk result (λ n. n ≡ first + count_in text.now) }
+    ensures bytes { OnOk result (out.new.items ≡ out.old.items ++ bytes_in start.now first text.now) }
 {
-    let read = read_lines(alloc, document)?;
+    let read = read_lines(alloc, text)?;
     let parts = parts_of(alloc, behind_header(read.lines.as_slice()))?;
     let mut head = Vec::new(alloc);
     push_quiet(&mut head, parts.head)?;
@@ -85,6 +98,24 @@ fn push_document(
         tail: tail.as_slice(),
     };
     push_pages(out, start, frame, first, parts.pages.as_slice())
+}
+
+/// Adds the pages of a document, numbered from this number on, and tells the number behind theirs.
+fn push_document(
+    alloc: Global,
+    out: &mut Vec<u8>,
+    start: &[u8],
+    first: usize,
+    document: &[u8],
+) -> Result<usize, AllocError>
+    ensures next { IfOk result (λ n. n ≡ first + page_count document.now) }
+    ensures bytes { OnOk result (out.new.items ≡ out.old.items ++ document_bytes start.now first document.now) }
+{
+    if is_ended(document) {
+        return push_in(alloc, out, start, first, document);
+    }
+    let whole = with_end(alloc, document)?;
+    push_in(alloc, out, start, first, whole.as_slice())
 }
 
 /// Adds the pages of documents.
@@ -116,14 +147,25 @@ fn push_header(out: &mut Vec<u8>, start: &[u8], pages: usize) -> Result<(), Allo
     out.extend_from_slice(b"%%EndProlog\n")
 }
 
-/// Adds a text of which no line begins or ends a part of a document, and that leaves nothing open.
-#[tactic(auto, unfolding(crate::specs::Joining::quieted))]
-fn push_quieted(alloc: Global, out: &mut Vec<u8>, text: &[u8]) -> Result<(), AllocError>
-    ensures { OnOk result (out.new.items ≡ out.old.items ++ quieted text.now) }
+/// Adds a text of whole lines, of which none is structure, and what ends what it leaves open.
+#[tactic(auto, unfolding(crate::specs::Joining::quiet_in))]
+fn push_quiet_in(alloc: Global, out: &mut Vec<u8>, text: &[u8]) -> Result<(), AllocError>
+    ensures { OnOk result (out.new.items ≡ out.old.items ++ quiet_in text.now) }
 {
     let read = read_lines(alloc, text)?;
     push_quiet(out, read.lines.as_slice())?;
     push_closing(out, read.state)
+}
+
+/// Adds a text that is made such.
+fn push_quieted(alloc: Global, out: &mut Vec<u8>, text: &[u8]) -> Result<(), AllocError>
+    ensures { OnOk result (out.new.items ≡ out.old.items ++ quieted text.now) }
+{
+    if is_ended(text) {
+        return push_quiet_in(alloc, out, text);
+    }
+    let whole = with_end(alloc, text)?;
+    push_quiet_in(alloc, out, whole.as_slice())
 }
 
 /// Adds the setup, with the fonts.

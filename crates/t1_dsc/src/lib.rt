@@ -8,5 +8,6 @@ mod names;
 mod pages;
 mod parts;
 mod quiet;
+mod whole;
 
 pub use joining::{JoinedPages, join_pages};

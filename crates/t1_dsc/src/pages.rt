@@ -73,7 +73,7 @@ fn push_with_setup(out: &mut Vec<u8>, lines: &[Line<'_>]) -> Result<(), AllocErr
     push_quiet(out, text)
 }
 
-/// Adds what stands between the procedures: the head of the document, and the page's own lines.
+/// Adds what stands between the procedures: the head of the document, and the page's own lines behind a line of ours.
 #[tactic(auto, unfolding(crate::specs::Joining::page_inner))]
 fn push_inner(out: &mut Vec<u8>, head: &[u8], page: &PageLines<'_, '_>) -> Result<(), AllocError>
     ensures { OnOk result (out.new.items ≡ out.old.items ++ page_inner head.now (page_view page.now)) }
@@ -81,6 +81,7 @@ fn push_inner(out: &mut Vec<u8>, head: &[u8], page: &PageLines<'_, '_>) -> Resul
     let (_, lines) = page.body.split_at(comments_len(page.body));
     out.extend_from_slice(head)?;
     push_quiet(out, page.own)?;
+    out.extend_from_slice(b"%\n")?;
     push_with_setup(out, lines)
 }
 

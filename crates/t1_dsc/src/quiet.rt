@@ -1,42 +1,20 @@
 //! Lines of other documents, of which none begins or ends a part of the joined one.
 
 ghost use Rattle.std.specs.Prelude.{◌≡◌, ◌++◌, map, OnOk};
-ghost use Rattle.t1_document.specs.Lines.{is_line_end};
-ghost use Rattle.t1_dsc.specs.{Joining.{has_end, quiet_line, quiet, times, closing}, Views.{line_view}};
+ghost use Rattle.t1_dsc.specs.{Joining.{quiet_line, quiet, times, closing}, Views.{line_view}};
 
 use crate::lines::{Line, Role};
 use std::alloc::AllocError;
 use t1_document::Open;
 
-/// Whether a byte is LF or CR.
-fn is_line_end(byte: u8) -> bool
-    ensures { result ≡ is_line_end byte }
-{
-    byte == b'\n' || byte == b'\r'
-}
-
-/// Whether a text ends with LF or CR.
-fn has_end(text: &[u8]) -> bool
-    ensures { result ≡ has_end text.now }
-{
-    match text.split_last() {
-        Some((byte, _)) => is_line_end(*byte),
-        None => false,
-    }
-}
-
-/// Adds a line: what was structure becomes a comment, and an LF stands behind a line that has no end.
+/// Adds a line: what was structure becomes a comment.
 fn push_line(out: &mut Vec<u8>, line: &Line<'_>) -> Result<(), AllocError>
     ensures { OnOk result (out.new.items ≡ out.old.items ++ quiet_line (line_view line.now)) }
 {
     if !Role::Text.is(line.role) {
         out.extend_from_slice(b"% ")?;
     }
-    out.extend_from_slice(line.text)?;
-    if !has_end(line.text) {
-        out.extend_from_slice(b"\n")?;
-    }
-    Ok(())
+    out.extend_from_slice(line.text)
 }
 
 /// Adds lines.

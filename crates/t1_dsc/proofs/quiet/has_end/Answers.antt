@@ -1,7 +1,0 @@
-use Rattle.std.proofs.Common.{sym, ap, ◌∙◌}
-use Rattle.t1_dsc.{specs.Joining.{has_end}, proofs.Ends.{end_behind}}
-use Rattle.t1_dsc.proofs.quiet.has_end.Goals as goal
-
-pub returns-in-Some : goal.returns-in-Some
-returns-in-Some c =
-    c.is_line_end.ensures ∙ sym (ap has_end c.in-Some.ensures.cases.0 ∙ end_behind c.in-Some.field-0-1.now c.in-Some.byte.now)
