@@ -38,6 +38,5 @@ pub use joins::{Joins, Kept, Outcome, join_fonts};
 pub use lines::{line_of, push_document};
 pub use marks::{Kind, Mark, Open, Side, mark_of};
 pub use names::names_of;
-pub use own_names::free_start;
 pub use pooling::{Key, PooledText, pool_document};
 pub use texts::Texts;

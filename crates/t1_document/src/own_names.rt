@@ -17,7 +17,7 @@ pub(crate) fn stands_in(word: &[u8], text: &[u8]) -> bool
 }
 
 /// What the names of the pool begin with: it stands nowhere in this text.
-pub fn free_start(alloc: Global, text: &[u8]) -> Result<Vec<u8>, AllocError>
+pub(crate) fn free_start(alloc: Global, text: &[u8]) -> Result<Vec<u8>, AllocError>
     ensures { IfOk result (λ v. v.items ≡ free_start text.now) }
 {
     let mut start = Vec::from_slice(alloc, b"/pool:")?;

@@ -1,10 +1,30 @@
 //! Names of the joined document's own, and the procedures that have them.
 
 ghost use Rattle.std.specs.Prelude.{◌≡◌, ◌++◌, map, IfOk, OnOk};
+ghost use Rattle.t1_grammar.specs.{Grammar.{fixed}, Places.{occurs}};
+ghost use Rattle.t1_document.specs.Pooling.{free_start};
 ghost use Rattle.t1_dsc.specs.Joining.{longer, names_start, name_of, procedure_begin, procedure_end};
 
 use std::alloc::{AllocError, Global};
-use t1_document::free_start;
+use t1_bytes::texts::find_from;
+
+/// Whether a word stands somewhere in a text.
+fn stands_in(word: &[u8], text: &[u8]) -> bool
+    ensures { result ≡ occurs (fixed word.now) text.now }
+{
+    find_from(text, word, 0).is_some()
+}
+
+/// A start of names that stands nowhere in this text.
+fn free_start(alloc: Global, text: &[u8]) -> Result<Vec<u8>, AllocError>
+    ensures { IfOk result (λ v. v.items ≡ free_start text.now) }
+{
+    let mut start = Vec::from_slice(alloc, b"/pool:")?;
+    'colons: while stands_in(start.as_slice(), text) {
+        start.push(b':')?;
+    }
+    Ok(start)
+}
 
 /// The longer of two starts of names.
 fn longer(a: Vec<u8>, b: Vec<u8>) -> Vec<u8>
