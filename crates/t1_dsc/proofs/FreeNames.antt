@@ -25,7 +25,7 @@ longer_absent w more text e = elim (cases_Bool (occurs (fixed (w ++ more)) text)
 -- ---- starts
 
 -- a start of names
-abbrev IsStart : List ℕ → Type 0
+abbrev pub IsStart : List ℕ → Type 0
 IsStart s = (n : ℕ) × (s ≡ own_start n)
 
 -- the longer of two begins with the other
@@ -89,6 +89,10 @@ all_free start (d ∷ ds) is =
       start_absent (free_start d) (longest (longer start (free_start d)) ds) d (free_is d) last.is (omega (arith, next.second, last.first)) (start_is_free d),
       all_free (longer start (free_start d)) ds next.is,
     )
+
+-- what the names begin with is a start
+pub names_start_is : (fonts : List ℕ) (documents : List (List ℕ)) → IsStart (names_start fonts documents)
+names_start_is fonts documents = (the_longest (free_start fonts) documents (free_is fonts)).is
 
 pub names_are_free : NamesAreFree
 names_are_free = record {

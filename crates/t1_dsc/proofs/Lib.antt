@@ -8,3 +8,11 @@ pub mod Ends
 pub mod Wholes
 pub mod LinesStay
 pub mod FreeNames
+pub mod Pieces
+pub mod Words
+pub mod QuietLines
+pub mod Chains
+pub mod OwnLines
+pub mod OwnPieces
+pub mod PagePieces
+pub mod JoinedRead

@@ -8,7 +8,7 @@ use Rattle.t1_dsc.specs.Parts.{before, from, is_header, header_len, pages_in, ha
 use Rattle.t1_dsc.specs.{Joining.{ended}, Laws.{texts, page_lines, part_lines, PartsAreWhole}}
 
 -- what comes first and passes a test passes it
-all_first : {X : Type 0} (p : X → Bool) (xs : List X) → list_all p (take (prefix_len p xs) xs) ≡ true
+pub all_first : {X : Type 0} (p : X → Bool) (xs : List X) → list_all p (take (prefix_len p xs) xs) ≡ true
 all_first p [] = refl
 all_first p (x ∷ xs) = elim (cases_Bool (p x)) [
   | inl e ↦ rw (e, one-add) (rw e (all_first p xs))
@@ -16,11 +16,11 @@ all_first p (x ∷ xs) = elim (cases_Bool (p x)) [
 ]
 
 -- the texts of lines on both sides
-texts-append : (xs ys : List Line) → texts (xs ++ ys) ≡ texts xs ++ texts ys
+pub texts-append : (xs ys : List Line) → texts (xs ++ ys) ≡ texts xs ++ texts ys
 texts-append [] ys = refl
 texts-append (x ∷ xs) ys = ap (λ (t : List ℕ). x.text ++ t) (texts-append xs ys) ∙ sym (append_assoc x.text (texts xs) (texts ys))
 
-texts_are : (o : Open) (ls : List (List ℕ)) → texts (lines_from o ls) ≡ concat ls
+pub texts_are : (o : Open) (ls : List (List ℕ)) → texts (lines_from o ls) ≡ concat ls
 unfolding lines_from
 texts_are o [] = refl
 texts_are o (l ∷ ls) = ap (λ (t : List ℕ). l ++ t) (texts_are (open_past o l) ls)

@@ -1,5 +1,5 @@
 -- Documents as one: each page with all that it stands on, one behind the other under new numbers.
-use Rattle.std.specs.{Prelude.{ℕ, ◌+◌, Bool, true, false, List, [], ◌∷◌, ◌++◌, take, drop, length, replicate, codes, decimal, if◌then◌else◌, nat_lt}}
+use Rattle.std.specs.{Prelude.{ℕ, ◌+◌, Bool, true, List, [], ◌∷◌, ◌++◌, take, drop, length, replicate, codes, decimal, if◌then◌else◌, nat_lt}}
 use Rattle.std.specs.List.{flat_map, concat}
 use Rattle.t1_document.specs.{declared.marks.Open.{Open}, Lines.{is_line_end}, Pooling.{free_start}}
 use Rattle.t1_dsc.specs.{declared.lines.Role.{Role}, declared.lines.Role.TheVariants.{Text}, Structure.{Line, same_role, lines_in, left_open}}

@@ -15,7 +15,9 @@ const PROLOG: &[u8] = b"%%EndComments
 %%BeginProlog
 /pool:kept 3 dict def
 /pool:begin{pool:kept begin/saved save def/operands count 1 sub def/dicts countdictstack 1 sub def end}bind def
-/pool:end{count pool:kept/operands get sub dup 0 gt{{pop}repeat}{pop}ifelse countdictstack pool:kept/dicts get sub dup 0 gt{{end}repeat}{pop}ifelse pool:kept/saved get restore}bind def
+/pool:end{count pool:kept/operands get sub dup 0 gt{{pop}repeat}{pop}ifelse \
+    countdictstack pool:kept/dicts get sub dup 0 gt{{end}repeat}{pop}ifelse \
+    pool:kept/saved get restore}bind def
 %%EndProlog
 %%BeginSetup
 ";
@@ -24,7 +26,9 @@ const OTHER_PROLOG: &[u8] = b"%%EndComments
 %%BeginProlog
 /pool::kept 3 dict def
 /pool::begin{pool::kept begin/saved save def/operands count 1 sub def/dicts countdictstack 1 sub def end}bind def
-/pool::end{count pool::kept/operands get sub dup 0 gt{{pop}repeat}{pop}ifelse countdictstack pool::kept/dicts get sub dup 0 gt{{end}repeat}{pop}ifelse pool::kept/saved get restore}bind def
+/pool::end{count pool::kept/operands get sub dup 0 gt{{pop}repeat}{pop}ifelse \
+    countdictstack pool::kept/dicts get sub dup 0 gt{{end}repeat}{pop}ifelse \
+    pool::kept/saved get restore}bind def
 %%EndProlog
 %%BeginSetup
 ";
@@ -44,7 +48,8 @@ const ROWS: &[Row] = &[
     (
         b"/f 1 def",
         &[
-            b"%!PS-Adobe-3.0\n%%Pages: (atend)\n%%EndComments\n%%BeginProlog\np\n%%EndProlog\n%%Page: a 1\n%%PageMedia: A4\n%%+ 2\n%%BeginPageSetup\ns\n%%EndPageSetup\n1\n%%Page: b 2\n2\n%%Trailer\nt\n%%Pages: 2\n%%EOF\n",
+            b"%!PS-Adobe-3.0\n%%Pages: (atend)\n%%EndComments\n%%BeginProlog\np\n%%EndProlog\n%%Page: a 1\n%%PageMedia: A4\n%%+ 2\n\
+              %%BeginPageSetup\ns\n%%EndPageSetup\n1\n%%Page: b 2\n2\n%%Trailer\nt\n%%Pages: 2\n%%EOF\n",
             b"%!\nshowpage",
         ],
         &[2, 0],
@@ -52,8 +57,10 @@ const ROWS: &[Row] = &[
             b"%!PS-Adobe-3.0\n%%Pages: 3\n",
             PROLOG,
             b"/f 1 def\n%%EndSetup\n",
-            b"%%Page: 1 1\n%%PageMedia: A4\n%%+ 2\n%%BeginPageSetup\npool:begin\n% %%BeginProlog\np\n% %%EndProlog\n% %%Page: a 1\n%\n% %%BeginPageSetup\ns\n%%EndPageSetup\n% %%EndPageSetup\n1\n% %%Trailer\nt\n% %%Pages: 2\n% %%EOF\npool:end\n",
-            b"%%Page: 2 2\n%%BeginPageSetup\npool:begin\n% %%BeginProlog\np\n% %%EndProlog\n% %%Page: b 2\n%\n%%EndPageSetup\n2\n% %%Trailer\nt\n% %%Pages: 2\n% %%EOF\npool:end\n",
+            b"%%Page: 1 1\n%%PageMedia: A4\n%%+ 2\n%%BeginPageSetup\npool:begin\n% %%BeginProlog\np\n% %%EndProlog\n% %%Page: a 1\n%\n\
+              % %%BeginPageSetup\ns\n%%EndPageSetup\n% %%EndPageSetup\n1\n% %%Trailer\nt\n% %%Pages: 2\n% %%EOF\npool:end\n",
+            b"%%Page: 2 2\n%%BeginPageSetup\npool:begin\n% %%BeginProlog\np\n% %%EndProlog\n% %%Page: b 2\n%\n%%EndPageSetup\n2\n\
+              % %%Trailer\nt\n% %%Pages: 2\n% %%EOF\npool:end\n",
             b"%%Page: 3 3\n%%BeginPageSetup\npool:begin\n%\n%%EndPageSetup\nshowpage\npool:end\n",
             b"%%Trailer\n%%EOF\n",
         ],
@@ -84,8 +91,10 @@ const ROWS: &[Row] = &[
         &[
             b"%!PS-Adobe-3.0\n%%Pages: 2\n",
             PROLOG,
-            b"%%EndSetup\n%%Page: 1 1\n%%BeginPageSetup\npool:begin\n% %%Page: 1 1\n%\n%%EndPageSetup\n%%BeginDocument: a\n%!PS\n%%Page: 1 1\n%%Trailer\n%%EOF\n%%EndDocument\n%%BeginData: 1\n%%EndProlog\n%%EndData\n% %%EndSetup\npool:end\n",
-            b"%%Page: 2 2\n%%BeginPageSetup\npool:begin\n%\n%%EndPageSetup\n%%BeginDocument: a\n%%BeginDocument: b\n%%BeginBinary: 1\n%%Page: 1 1\n%%EndDocument\n%%EndDocument\n%%EndData\npool:end\n",
+            b"%%EndSetup\n%%Page: 1 1\n%%BeginPageSetup\npool:begin\n% %%Page: 1 1\n%\n%%EndPageSetup\n%%BeginDocument: a\n%!PS\n\
+              %%Page: 1 1\n%%Trailer\n%%EOF\n%%EndDocument\n%%BeginData: 1\n%%EndProlog\n%%EndData\n% %%EndSetup\npool:end\n",
+            b"%%Page: 2 2\n%%BeginPageSetup\npool:begin\n%\n%%EndPageSetup\n%%BeginDocument: a\n%%BeginDocument: b\n%%BeginBinary: 1\n\
+              %%Page: 1 1\n%%EndDocument\n%%EndDocument\n%%EndData\npool:end\n",
             b"%%Trailer\n%%EOF\n",
         ],
     ),
@@ -97,7 +106,8 @@ const ROWS: &[Row] = &[
         &[
             b"%!PS-Adobe-3.0\n%%Pages: 1\n",
             OTHER_PROLOG,
-            b"/pool:CMR10 1 def\n%%EndSetup\n%%Page: 1 1\n%%BeginPageSetup\npool::begin\n%\n%%EndPageSetup\n%%IncludeResource: font A\n% %%Page: 1 1\n% %%EOF\n%!PS\n% %%Page: 1 1\npool::end\n%%Trailer\n%%EOF\n",
+            b"/pool:CMR10 1 def\n%%EndSetup\n%%Page: 1 1\n%%BeginPageSetup\npool::begin\n%\n%%EndPageSetup\n%%IncludeResource: font A\n\
+              % %%Page: 1 1\n% %%EOF\n%!PS\n% %%Page: 1 1\npool::end\n%%Trailer\n%%EOF\n",
         ],
     ),
 ];
