@@ -1,9 +1,10 @@
 -- The places of a document, from stretch to stretch.
-use Rattle.std.proofs.Common.{◌≡◌, ℕ, ◌+◌, ◌-◌, ◌<◌, ◌≤◌, Bool, true, false, cond, List, [], ◌∷◌, ◌++◌, length, take, drop, Option, Some, None, refl, sym, ap, ◌∙◌, arith, append_assoc}
+use Rattle.std.proofs.Common.{◌≡◌, ℕ, ◌+◌, ◌-◌, ◌<◌, ◌≤◌, ◌^◌, Bool, true, false, cond, List, [], ◌∷◌, ◌++◌, length, take, drop, Option, Some, None, refl, sym, ap, ◌∙◌, arith, append_assoc}
 use Rattle.std.proofs.lemmas.List.{append-nil, length-append, length-drop, take-append-drop, take_at}
-use Rattle.t1_document.specs.{declared.marks.Side.{Side}, declared.marks.Side.TheVariants.{Begin, End}, declared.marks.Open.{Open}, Lines.{line_of}}
+use Rattle.t1_document.specs.{declared.marks.Side.{Side}, declared.marks.Side.TheVariants.{Begin, End}, declared.marks.Mark.{Mark}, declared.marks.Open.{Open}, Lines.{line_of}}
 use Rattle.t1_document.specs.{Marks.{mark_of, open_count, holds_data, is_document}, Stretches.{Stretch, Stretches, stretches, stretches_bytes}}
-use Rattle.t1_document.specs.Documents.{Place, Document, none_open, open_behind, next_mark, place_at, prepended, at_stretch, document_from, document_of}
+use Rattle.t1_font.specs.FontModel.{clamp}
+use Rattle.t1_document.specs.Documents.{Place, Document, none_open, open_behind, clamped, next_mark, place_at, prepended, at_stretch, document_from, document_of}
 use Rattle.t1_document.proofs.StretchLemmas.{no_more, no_stretches, front_whole, behind_front}
 
 -- nothing before a document
@@ -152,3 +153,20 @@ walk_ends text here rest o done w none =
 pub walks_same : (text here same_here rest : List ℕ) (o same_o : Open) (done same_done : List Place) →
     same_here ≡ here → same_o ≡ o → same_done ≡ done → Walks text here rest o done → Walks text same_here rest same_o same_done
 walks_same text here same_here rest o same_o done same_done e h k w = rw (e, h, k) w
+
+-- what 64 bits count is so
+few : (n : ℕ) → n < 2 ^ 64 → clamp n ≡ n
+few n h = omega (arith, h)
+
+both_few : (o : Open) → o.documents < 2 ^ 64 → o.raw < 2 ^ 64 → clamped o ≡ o
+both_few o d r = λ i. record { documents = few o.documents d i; raw = few o.raw r i }
+
+-- in a text whose length 64 bits count they count what is open
+pub clamped_is : (o : Open) (text behind : List ℕ) → o.documents + length behind ≤ length text → o.raw + length behind ≤ length text →
+    length text < 2 ^ 64 → clamped o ≡ o
+clamped_is o text behind d r h = both_few o (omega (arith, d, h)) (omega (arith, r, h))
+
+-- where they count one more of each, they count what is open behind a mark
+pub clamped_behind : (o : Open) (m : Mark) → o.documents + 1 < 2 ^ 64 → o.raw + 1 < 2 ^ 64 → clamped (open_behind o m) ≡ open_behind o m
+clamped_behind o m d r =
+    both_few (open_behind o m) (omega (arith, if_le (is_document m.kind) m.side o.documents, d)) (omega (arith, if_le (holds_data m.kind) m.side o.raw, r))

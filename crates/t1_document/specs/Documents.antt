@@ -1,5 +1,6 @@
 -- A document as its places, which hold fonts, and the bytes before, between and behind them.
 use Rattle.std.specs.{Prelude.{◌≡◌, ℕ, ◌==◌, ◌&&◌, Bool, true, false, List, [], ◌∷◌, ◌++◌, Option, Some, None, if◌then◌else◌}, List.{flat_map}, Option.{option_map}}
+use Rattle.t1_font.specs.FontModel.{clamp}
 use Rattle.t1_document.specs.{declared.marks.Side.{Side}, declared.marks.Side.TheVariants.{Begin, End}, declared.marks.Kind.{Kind}, declared.marks.Mark.{Mark}, declared.marks.Open.{Open}}
 use Rattle.t1_document.specs.{Marks.{holds_fonts, holds_data, is_document, same_kind, open_count}, Stretches.{Stretch, Stretches, stretches}, Fonts.{FontText, font_in}}
 
@@ -38,6 +39,10 @@ open_behind o m = record {
   documents = if is_document m.kind then open_count m.side o.documents else o.documents;
   raw = if holds_data m.kind then open_count m.side o.raw else o.raw;
 }
+
+-- the same, as far as 64 bits count it
+abbrev pub clamped : Open → Open
+clamped o = record { documents = clamp o.documents; raw = clamp o.raw }
 
 -- ---- places
 

@@ -3,7 +3,7 @@
 ghost use Rattle.std.specs.{Prelude.{◌≡◌, ◌+◌, ◌<◌, ◌^◌, [], length, IfOk}, List.{AllByRecursion}, Option.{option_map}};
 ghost use Rattle.t1_font.specs.{Answers.{Answers}, FontModel.{clamp}, ReadFont.{read_font_widely}};
 ghost use Rattle.t1_document.specs.{Marks.{open_count}, Stretches.{stretches}};
-ghost use Rattle.t1_document.specs.Documents.{open_behind, begins_part, ends_part, encloses, next_mark, place_with, place_at, place_bytes, document_bytes};
+ghost use Rattle.t1_document.specs.Documents.{open_behind, clamped, begins_part, ends_part, encloses, next_mark, place_with, place_at, place_bytes, document_bytes};
 ghost use Rattle.t1_document.specs.{Documents.{document_of}, Laws.{SpellsPlace}, Views.{stretch_view, font_view, place_view, document_view}};
 
 use crate::fonts::{FontText, font_in};
@@ -83,23 +83,20 @@ impl Side {
     }
 }
 
-/// One more behind a mark that begins a part, one fewer behind one that ends it, but never fewer than none.
+/// One more behind a mark that begins a part, one fewer behind one that ends it, but never fewer than none; as far as 64 bits count.
 fn counted(side: Side, n: usize) -> usize
-    requires { n + 1 < 2 ^ 64 }
-    ensures { result ≡ open_count side n }
+    ensures { result ≡ clamp (open_count side n) }
 {
     match side {
-        Side::Begin => n + 1,
+        Side::Begin => n.saturating_add(1),
         Side::End => n.saturating_sub(1),
     }
 }
 
 impl Open {
-    /// What is open behind a mark.
-    fn behind(self, mark: Mark) -> Open
-        requires documents { self.documents + 1 < 2 ^ 64 }
-        requires raw { self.raw + 1 < 2 ^ 64 }
-        ensures { result ≡ open_behind self mark }
+    /// What is open behind a mark, as far as 64 bits count it: no text in memory has more marks.
+    pub fn behind(self, mark: Mark) -> Open
+        ensures { result ≡ clamped (open_behind self mark) }
     {
         let mut open = self;
         if mark.kind.is_document() {

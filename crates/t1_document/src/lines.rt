@@ -31,7 +31,7 @@ fn body_len(bytes: &[u8]) -> usize
 }
 
 /// The first line with its end, and the text behind it.
-pub(crate) fn line_of(bytes: &[u8]) -> (&[u8], &[u8])
+pub fn line_of(bytes: &[u8]) -> (&[u8], &[u8])
     ensures { (result.0.now, result.1.now) ≡ line_of bytes.now }
 {
     let body = body_len(bytes);

@@ -71,7 +71,7 @@ fn mark_behind(line: &[u8], word: &[u8], side: Side) -> Option<Mark>
 
 /// The mark that a line is.
 #[tactic(auto, unfolding(crate::specs::Marks::mark_of))]
-pub(crate) fn mark_of(line: &[u8]) -> Option<Mark>
+pub fn mark_of(line: &[u8]) -> Option<Mark>
     ensures { result ≡ mark_of line.now }
 {
     match mark_behind(line, b"%%Begin", Side::Begin) {
@@ -119,7 +119,7 @@ impl Kind {
 
 /// What is open: how many documents inside the whole one, and how many parts of raw data.
 #[derive(Clone, Copy)]
-pub(crate) struct Open {
-    pub(crate) documents: usize,
-    pub(crate) raw: usize,
+pub struct Open {
+    pub documents: usize,
+    pub raw: usize,
 }

@@ -1,8 +1,9 @@
-use Rattle.std.{proofs.{Common.{◌≡◌, ◌++◌, ◌∷◌, [], ℕ, List, Some, None, drop, map, refl, sym, ap, subst, ◌∙◌}, lemmas.List.{map-append}}, specs.{List.{AllByRecursion}, Option.{option_map}}}
+use Rattle.std.{proofs.{Common.{◌≡◌, ◌++◌, ◌∷◌, arith, [], ℕ, List, Some, None, drop, map, refl, sym, ap, subst, ◌∙◌}, lemmas.List.{map-append}}, specs.{List.{AllByRecursion}, Option.{option_map}}}
 use Rattle.t1_document.specs.{declared.documents.Place.{Place as CodePlace}, Stretches.{stretches}}
 use Rattle.t1_document.specs.{Documents.{none_open, open_behind, next_mark, place_with, place_at, Document, document_bytes, document_of}, Views.{font_view, place_view, stretch_view}}
 use Rattle.t1_document.specs.Laws.{SpellsPlace}
-use Rattle.t1_document.proofs.{PlaceLemmas.{document_text}, Spelled.{places_spell}, StretchLemmas.{front_len}, DocumentSteps.{Walks, Comes, walk_starts, walk_past, walk_place, walk_ends, walks_same}}
+use Rattle.t1_document.proofs.{PlaceLemmas.{document_text}, Spelled.{places_spell}, StretchLemmas.{front_len}}
+use Rattle.t1_document.proofs.DocumentSteps.{Walks, Comes, walk_starts, walk_past, walk_place, walk_ends, walks_same, clamped_is}
 use Rattle.t1_document.proofs.documents.read_document.Goals.{In_default, in-Some-2+in_ok-push, in_default-2}
 use Rattle.t1_document.proofs.documents.read_document.Goals as goal
 
@@ -42,16 +43,18 @@ stretches-preserved c =
           sym found ∙ ap (option_map (λ f. place_with o s (font_view f))) w.in-Some-2.is in
           let pushed : map place_view c.match-branch-2.places.items ≡ done ++ record p { before = before } ∷ [] =
           ap (λ v. map place_view v.items) w.places-is ∙ (ap (map place_view) w.in_ok-push.ensures.items ∙ map-append place_view items (_ ∷ [])) in
+          let next = walk_place text here rest behind o done s p before c.stretches.invariant comes is refl w.split_at-in-Some-2.ensures.front in
           walks_same text behind c.match-branch-2.here.now behind (open_behind o s.mark) c.behind-around.result
           (done ++ record p { before = before } ∷ []) (map place_view c.match-branch-2.places.items)
-          (ap (λ h. h.now) w.here-is) c.behind-around.ensures pushed
-          (walk_place text here rest behind o done s p before c.stretches.invariant comes is refl w.split_at-in-Some-2.ensures.front)
+          (ap (λ h. h.now) w.here-is) (c.behind-around.ensures ∙ clamped_is (open_behind o s.mark) text behind next.documents next.raw (omega arith)) pushed
+          next
       | in_default-2 w ↦
           let none : place_at o s (next_mark (stretches behind).1) ≡ None = sym found ∙ ap (option_map (λ f. place_with o s (font_view f))) w.in_default-2.is in
+          let next = walk_past text here rest behind o done s c.stretches.invariant comes none in
           walks_same text here c.match-branch-2.here.now behind (open_behind o s.mark) c.behind-around.result done
           (map place_view c.match-branch-2.places.items)
-          (ap (λ h. h.now) w.here-is) c.behind-around.ensures (ap (λ v. map place_view v.items) w.places-is)
-          (walk_past text here rest behind o done s c.stretches.invariant comes none)
+          (ap (λ h. h.now) w.here-is) (c.behind-around.ensures ∙ clamped_is (open_behind o s.mark) text behind next.documents next.raw (omega arith))
+          (ap (λ v. map place_view v.items) w.places-is) next
     ]
 
 known : (c : In_default) → document_of c.args.text.now ≡ record { places = map place_view c.stretches.places.items; last = c.stretches.here.now }
