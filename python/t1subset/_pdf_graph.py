@@ -1,0 +1,226 @@
+"""The objects of a PDF that can be reached, as plain values.
+
+pikepdf answers no key that isn't UTF-8, and takes microseconds for each value; so an object is read from the text that it
+writes for it, and pikepdf is asked for what has to be changed."""
+
+from __future__ import annotations
+
+import re
+from typing import Any, Dict, Iterator, List, Match, NamedTuple, Optional, Tuple
+
+import pikepdf
+
+from ._pdf_filters import LONGEST, Undecodable, decoded
+
+
+class Name(str):
+    """A name, without its slash; a byte of it that is no UTF-8 stands as a lone surrogate."""
+
+
+class Text(bytes):
+    """A string, as pikepdf spells it."""
+
+
+class Ref(NamedTuple):
+    """A reference: the object's number and generation."""
+
+    number: int
+    generation: int
+
+
+class Place(NamedTuple):
+    """Where a dictionary stands: in an object (None: in the trailer), behind these keys and indices."""
+
+    ref: Optional[Ref]
+    path: Tuple[Any, ...]
+
+
+class Dictionary(Dict[str, Any]):
+    """A dictionary, or that of a stream, with its place."""
+
+    def __init__(self, at: Place) -> None:
+        super().__init__()
+        self.at = at
+        self.is_stream = False
+
+
+_REGULAR = rb"[^\0\t\n\f\r ()<>\[\]{}/%]"
+_STRING = rb"\([^()\\]*(?:\\.[^()\\]*)*\)|(?<!<)<[0-9a-fA-F]*>"
+_TOKEN = re.compile(
+    rb"(?P<open><<|\[)|(?P<close>>>|\])|/(?P<name>" + _REGULAR + rb"*)|(?P<ref>\d+ \d+ R)(?!" + _REGULAR + rb")|"
+    rb"(?P<text>" + _STRING + rb")|(?P<word>" + _REGULAR + rb"+)",
+    re.S,
+)
+_STRINGS, _REFS = re.compile(_STRING, re.S), re.compile(rb"(?<!" + _REGULAR + rb")(\d+) (\d+) R(?!" + _REGULAR + rb")")
+_ESCAPE = re.compile(rb"#([0-9a-fA-F]{2})")
+# What makes an object worth reading, wherever it stands. A resource may have any name, so none is skipped for its key.
+_TELLING = re.compile(
+    rb"/(?:FontFile3?|FontDescriptor|Contents|Annots|AP|DR|ByteRange|CharProcs|PatternType|SMask|Form)(?!" + _REGULAR + rb")"
+)
+_WORDS = {b"true": True, b"false": False, b"null": None}
+
+
+def name_of(spelled: bytes) -> Name:
+    """The name that is spelled so, without its slash."""
+    if b"#" in spelled:
+        spelled = _ESCAPE.sub(lambda found: bytes([int(found[1], 16)]), spelled)
+    return Name(spelled.decode("utf-8", "surrogateescape"))
+
+
+def _word(word: bytes) -> Any:
+    if word in _WORDS:
+        return _WORDS[word]
+    try:
+        return int(word)
+    except ValueError:
+        try:
+            return float(word)
+        except ValueError:
+            return Text(word)
+
+
+def _value(found: Match[bytes], tokens: Iterator[Match[bytes]], at: Place) -> Any:
+    kind, token = found.lastgroup, found[0]
+    if kind == "open":
+        return _dictionary(tokens, at) if token == b"<<" else _array(tokens, at)
+    if kind == "name":
+        return name_of(token[1:])
+    if kind == "ref":
+        return Ref(*map(int, token.split()[:2]))
+    return Text(token) if kind == "text" else _word(token)
+
+
+def _dictionary(tokens: Iterator[Match[bytes]], at: Place) -> Dictionary:
+    made = Dictionary(at)
+    for found in tokens:
+        if found.lastgroup != "name":
+            break
+        key = name_of(found["name"])
+        value = _value(next(tokens), tokens, Place(at.ref, at.path + ("/" + key,)))
+        if value is not None:
+            made[key] = value
+    return made
+
+
+def _array(tokens: Iterator[Match[bytes]], at: Place) -> List[Any]:
+    made: List[Any] = []
+    for found in tokens:
+        if found.lastgroup == "close":
+            break
+        made.append(_value(found, tokens, Place(at.ref, at.path + (len(made),))))
+    return made
+
+
+def parsed(text: bytes, ref: Optional[Ref]) -> Any:
+    """The value that a text of pikepdf's spells."""
+    tokens = _TOKEN.finditer(text)
+    found = next(tokens, None)
+    return None if found is None else _value(found, tokens, Place(ref, ()))
+
+
+def refs_in(text: bytes) -> List[Ref]:
+    """The references in a text of pikepdf's."""
+    return [Ref(int(number), int(generation)) for number, generation in _REFS.findall(_STRINGS.sub(b"", text))]
+
+
+class Graph:
+    """The objects that can be reached from the trailer. `telling` has the dictionaries among them that say something of fonts,
+    content or signatures, in the order of their numbers."""
+
+    def __init__(self, pdf: pikepdf.Pdf, longest: int = LONGEST) -> None:
+        self.pdf, self.longest = pdf, longest
+        self._values: Dict[Ref, Any] = {}
+        self.trailer = parsed(pdf.trailer.unparse(), None)
+        self.telling = list(self._dictionaries(self._reach()))
+
+    def _reach(self) -> List[Ref]:
+        """The telling objects."""
+        seen = set(refs_in(self.pdf.trailer.unparse()))
+        todo, telling = list(seen), []
+        while todo:
+            ref = todo.pop()
+            text = self._text(ref)[0]
+            if _TELLING.search(text):
+                telling.append(ref)
+            for other in refs_in(text):
+                if other not in seen:
+                    seen.add(other)
+                    todo.append(other)
+        return sorted(telling)
+
+    def _dictionaries(self, refs: List[Ref]) -> Iterator[Dictionary]:
+        """The dictionaries of these objects, also those that stand within others."""
+        todo: List[Any] = [self.trailer, *map(self.get, reversed(refs))]
+        while todo:
+            value = todo.pop()
+            if isinstance(value, Dictionary):
+                yield value
+                todo += reversed(list(value.values()))
+            elif isinstance(value, list):
+                todo += reversed(value)
+
+    def _text(self, ref: Ref) -> Tuple[bytes, bool]:
+        """An object's text, for a stream that of its dictionary, and whether it is a stream."""
+        made = self.pdf.get_object(ref)
+        if isinstance(made, pikepdf.Stream):
+            return made.stream_dict.unparse(), True
+        return made.unparse(resolved=True), False
+
+    def get(self, ref: Ref) -> Any:
+        """The object of a reference."""
+        if ref not in self._values:
+            text, is_stream = self._text(ref)
+            value = self._values[ref] = parsed(text, ref)
+            if isinstance(value, Dictionary):
+                value.is_stream = is_stream
+        return self._values[ref]
+
+    def resolved(self, value: Any) -> Any:
+        """What a reference stands for; any other value stands for itself."""
+        for _ in range(100):
+            if not isinstance(value, Ref):
+                return value
+            value = self.get(value)
+        return None
+
+    def value(self, holder: Dictionary, key: str) -> Any:
+        """What stands behind a key; None if there is none."""
+        return self.resolved(holder.get(key))
+
+    def dictionary(self, holder: Dictionary, key: str) -> Optional[Dictionary]:
+        """The dictionary behind a key, if there is one."""
+        value = self.value(holder, key)
+        return value if isinstance(value, Dictionary) else None
+
+    def handle(self, at: Place) -> Any:
+        """pikepdf's object of a place."""
+        made: Any = self.pdf.trailer if at.ref is None else self.pdf.get_object(at.ref)
+        for key in at.path:
+            made = made[key]
+        return made
+
+    def raw_length(self, stream: Dictionary) -> int:
+        return len(self.handle(stream.at).read_raw_bytes())
+
+    def _filters(self, stream: Dictionary) -> List[str]:
+        """The filters of a stream; one with parameters that count goes by another name, which no decoder here has."""
+        told, given = self.value(stream, "Filter"), self.value(stream, "DecodeParms")
+        filters = [self.resolved(it) for it in told] if isinstance(told, list) else [told] if told is not None else []
+        parms = [self.resolved(it) for it in given] if isinstance(given, list) else [given] * len(filters)
+        names = []
+        for at, name in enumerate(filters):
+            if not isinstance(name, Name):
+                raise Undecodable("can't be decoded")
+            parm = parms[at] if at < len(parms) else None
+            predicts = isinstance(parm, Dictionary) and self.value(parm, "Predictor") not in (None, 1)
+            names.append(name + "+" if predicts else str(name))
+        return names
+
+    def content(self, stream: Dictionary) -> bytes:
+        """The decoded bytes of a stream, or Undecodable."""
+        made = self.handle(stream.at)
+        try:
+            plain = decoded(made.read_raw_bytes(), self._filters(stream), self.longest)
+            return bytes(made.read_bytes()) if plain is None else plain
+        except (pikepdf.PdfError, RuntimeError) as fault:
+            raise Undecodable("can't be decoded") from fault
