@@ -9,11 +9,11 @@ from dataclasses import dataclass, field
 from typing import Any, Dict, FrozenSet, Iterable, List, Mapping, Optional, Sequence, Set, Tuple, Union
 
 from . import _calls
-from ._pdf_encodings import Unknown, built_in, readings
+from ._pdf_encodings import Names, Reading, Unknown, built_in, readings
 from ._pdf_filters import Undecodable
 from ._pdf_graph import Dictionary, Graph, Place
 from ._pdf_shown import Shown
-from ._refusals import Refused
+from ._refusals import Number, Part, Refused
 
 _TAG = re.compile(r"(?:[A-Z]{6}\+)+(?=.)")
 # Names that are spelled in a PDF as they are.
@@ -44,7 +44,9 @@ class Program:
     lacks: Dict[str, int] = field(default_factory=dict)
     """Glyphs that it may not get, with a code that would show each: a page shows the code, and draws nothing so far."""
     unnamed: Set[int] = field(default_factory=set)
-    """Codes that are shown, and whose Encoding may name no glyph, since a page draws nothing so far."""
+    """Codes that are shown, and that the program's own Encoding may name for no glyph, since a page draws nothing so far."""
+    spelled: Dict[Place, Names] = field(default_factory=dict)
+    """The names that the codes of fonts get in their dictionaries."""
 
     @property
     def parts(self) -> Tuple["Program", ...]:
@@ -69,7 +71,13 @@ class Joined:
 
 
 class Apart(ValueError):
-    """Programs that can't be one; `str` says why."""
+    """Programs that can't be one; `str` says why, and `is_of_encodings` whether it is for what they name codes."""
+
+    def __init__(self, why: Union[str, Refused]) -> None:
+        super().__init__(str(why))
+        self.is_of_encodings = isinstance(why, Refused) and (
+            why.number == Number.CODE_DIFFERS or why.number == Number.SHELLS_DIFFER and why.detail == Part.ENCODING
+        )
 
 
 def programs(graph: Graph) -> Tuple[List[Program], List[Tuple[str, str]]]:
@@ -164,7 +172,7 @@ def look_into(program: Program, found: Union[Listed, Refused], graph: Graph, sho
     try:
         own = built_in(program.encoding)
         for font in program.fonts:
-            _note_lacks(program, font, own, shown.codes.get(font.at, set()), graph)
+            note_lacks(program, font, own, shown.codes.get(font.at, set()), graph)
     except Unknown as why:
         program.reason = str(why)
 
@@ -178,9 +186,11 @@ def _listed(data: bytes) -> Listed:
     return frozenset(found.glyphs), found.encoding
 
 
-def _note_lacks(program: Program, font: Dictionary, own: Mapping[int, str], codes: Set[int], graph: Graph) -> None:
-    for reading in readings(font, graph):
-        names = reading.names(dict(own))
+def note_lacks(program: Program, font: Dictionary, own: Names, codes: Set[int], graph: Graph) -> None:
+    """Notes which glyphs a program with this Encoding of its own may not get, for a font that shows these codes."""
+    told = program.spelled.get(font.at)
+    for reading in readings(font, graph) if told is None else [Reading(told, True)]:
+        names = reading.names(own)
         for code in sorted(codes):
             name = names.get(code)
             if name is None:
@@ -207,53 +217,62 @@ def joined(items: Sequence[Union[Program, Joined]], tokens: Optional[int]) -> Jo
         data = _calls.rejoin([it.data for it in items], "pfb", tokens=tokens)
         glyphs, encoding = _listed(data)
     except Refused as why:
-        raise Apart(str(why)) from why
+        raise Apart(why) from why
     made = Joined(tuple(part for it in items for part in it.parts), data, glyphs, encoding)
     _check_shown(made)
     return made
 
 
-def classes(family: Sequence[Program], tokens: Optional[int]) -> Tuple[List[List[Program]], Dict[int, str]]:
-    """The programs of a family in classes that can be one, no two of which can; and for programs that are alone why, by their place.
+def classes(family: Sequence[Program], tokens: Optional[int]) -> Tuple[List[List[Program]], Dict[int, Apart]]:
+    """The programs of a family in classes that can be one, no two of which can; and for programs that are alone why, by their `id`.
 
     Each goes into the first class that it joins, in the order of their bytes: so it doesn't matter in which order a volume has
     them. What can't be one can't be one with more, so a class that a program didn't join when it was smaller doesn't take it
     later."""
     found: List[Union[Program, Joined]] = []
-    reasons: Dict[int, str] = {}
+    reasons: Dict[int, Apart] = {}
     for program in family:
         for at, other in enumerate(found):
             try:
                 found[at] = joined([other, program], tokens)
                 break
             except Apart as why:
-                reasons.setdefault(id(program), str(why))
-                reasons.setdefault(id(other), str(why))
+                reasons.setdefault(id(program), why)
+                reasons.setdefault(id(other), why)
         else:
             found.append(program)
     return [list(it.parts) for it in found], reasons
 
 
-def joins(family: Sequence[Program], tokens: Optional[int]) -> Tuple[List[Joined], List[Tuple[Program, str]]]:
-    """What the programs of a family become, which stand in the order of their bytes; and those that stay, with the reason."""
+@dataclass
+class Outcome:
+    """What the programs of a family become, those that stay with the reason, and whether some stay for what they name codes."""
+
+    made: List[Joined] = field(default_factory=list)
+    kept: List[Tuple[Program, str]] = field(default_factory=list)
+    is_of_encodings: bool = False
+
+
+def joins(family: Sequence[Program], tokens: Optional[int]) -> Outcome:
+    """What becomes of the programs of a family, which stand in the order of their bytes."""
     if sum(len(it.streams) for it in family) < 2:
-        return [], []
+        return Outcome()
     try:
-        return [joined(family, tokens)], []
+        return Outcome([joined(family, tokens)])
     except Apart as why:
         if len(family) == 1:
-            return [], [(family[0], str(why))]
-    made, kept = [], []
+            return Outcome([], [(family[0], str(why))])
     groups, reasons = classes(family, tokens)
+    outcome = Outcome(is_of_encodings=any(it.is_of_encodings for it in reasons.values()))
     for group in groups:
         if sum(len(it.streams) for it in group) < 2:
-            kept.append((group[0], reasons[id(group[0])]))
+            outcome.kept.append((group[0], str(reasons[id(group[0])])))
             continue
         try:
-            made.append(joined(group, tokens))
+            outcome.made.append(joined(group, tokens))
         except Apart as why:
-            kept += [(it, str(why)) for it in group]
-    return made, kept
+            outcome.kept += [(it, str(why)) for it in group]
+    return outcome
 
 
 def tagged(name: str, glyphs: Iterable[str], taken: Set[str]) -> str:

@@ -6,7 +6,7 @@ writes for it, and pikepdf is asked for what has to be changed."""
 from __future__ import annotations
 
 import re
-from typing import Any, Dict, Iterator, List, Match, NamedTuple, Optional, Tuple
+from typing import Any, Container, Dict, Iterator, List, Match, NamedTuple, Optional, Tuple
 
 import pikepdf
 
@@ -135,18 +135,25 @@ class Graph:
 
     def _reach(self) -> List[Ref]:
         """The telling objects."""
+        telling = [ref for ref, text in self._texts() if _TELLING.search(text)]
+        return sorted(telling)
+
+    def _texts(self) -> Iterator[Tuple[Ref, bytes]]:
+        """Each object that can be reached, once, and its text."""
         seen = set(refs_in(self.pdf.trailer.unparse()))
-        todo, telling = list(seen), []
+        todo = list(seen)
         while todo:
             ref = todo.pop()
-            text = self._text(ref)[0]
-            if _TELLING.search(text):
-                telling.append(ref)
+            text = self.text(ref)[0]
+            yield ref, text
             for other in refs_in(text):
                 if other not in seen:
                     seen.add(other)
                     todo.append(other)
-        return sorted(telling)
+
+    def holders(self, refs: Container[Ref]) -> List[Ref]:
+        """The objects that can be reached and have one of these references."""
+        return [ref for ref, text in self._texts() if any(it in refs for it in refs_in(text))]
 
     def _dictionaries(self, refs: List[Ref]) -> Iterator[Dictionary]:
         """The dictionaries of these objects, also those that stand within others."""
@@ -159,7 +166,7 @@ class Graph:
             elif isinstance(value, list):
                 todo += reversed(value)
 
-    def _text(self, ref: Ref) -> Tuple[bytes, bool]:
+    def text(self, ref: Ref) -> Tuple[bytes, bool]:
         """An object's text, for a stream that of its dictionary, and whether it is a stream."""
         made = self.pdf.get_object(ref)
         if isinstance(made, pikepdf.Stream):
@@ -169,7 +176,7 @@ class Graph:
     def get(self, ref: Ref) -> Any:
         """The object of a reference."""
         if ref not in self._values:
-            text, is_stream = self._text(ref)
+            text, is_stream = self.text(ref)
             value = self._values[ref] = parsed(text, ref)
             if isinstance(value, Dictionary):
                 value.is_stream = is_stream

@@ -22,9 +22,11 @@ from typing import Any, Callable, Dict, List, Optional, Sequence, Set, Tuple, Un
 import pikepdf
 
 from . import _pdf_fonts as fonts
-from ._pdf_fonts import Joined, Program
+from ._pdf_dictionaries import make_one
+from ._pdf_fonts import Joined, Outcome, Program
 from ._pdf_graph import Dictionary, Graph, Text
 from ._pdf_shown import Shown
+from ._pdf_spell import encoding_of, spelled
 
 Told = Callable[[str, int, int], None]
 """Is told what is done, how far, and of how many."""
@@ -90,6 +92,8 @@ def pool(
     pdf: pikepdf.Pdf,
     *,
     write: bool = True,
+    spell: bool = False,
+    dictionaries: bool = False,
     tokens: Optional[int] = None,
     told: Told = _quiet,
 ) -> Report:
@@ -97,6 +101,9 @@ def pool(
 
     Of what can be reached only these keys change: FontFile, FontName and CharSet of descriptors whose program is joined, and
     BaseFont of their fonts. Without `write` nothing changes. `tokens` is as for `rejoin`, for each family.
+
+    With `spell` fonts of a name that don't join since their programs name codes otherwise get an Encoding that names them. With
+    `dictionaries` equal dictionaries of Type 1 fonts, and what stands in them, become one.
 
     Raises PdfRefused for a PDF that is signed, and for one with content that can't be read; the PDF is then as it was."""
     graph = Graph(pdf)
@@ -107,16 +114,23 @@ def pool(
     if shown.unread:
         raise PdfRefused(_unread(len(shown.unread)))
     families = _families(programs, graph, shown, told)
+    outcomes = _outcomes(families, tokens, told)
+    if spell:
+        outcomes.update(_spelled(families, outcomes, graph, shown, tokens, told))
     report: List[Union[Join, Keep]] = [Keep(fonts.untagged(name), 1, 1, reason) for name, reason in others]
-    taken = {str(it["FontName"]) for it in graph.telling if "FontName" in it}
-    for name, made, kept in _joined(families, tokens, told):
-        family = families[name]
-        for join in made:
-            taken -= {str(each.get("FontName")) for part in join.parts for each in part.descriptors}
-        for join in made:
-            report.append(_give(pdf, graph, name, join, taken, write))
-        report += _keeps(name, family, kept)
+    taken = _names_taken(graph, outcomes)
+    for name, outcome in sorted(outcomes.items()):
+        report += [_give(pdf, graph, name, join, taken, write) for join in outcome.made]
+        report += _keeps(name, families[name], outcome.kept)
+    if dictionaries and write:
+        make_one(pdf, graph, [font for program in programs for font in program.fonts])
     return Report(tuple(sorted(report, key=lambda it: it.name)))
+
+
+def _names_taken(graph: Graph, outcomes: Dict[str, Outcome]) -> Set[str]:
+    """The names of the fonts that stay as they are."""
+    changed = {each.at for it in outcomes.values() for join in it.made for part in join.parts for each in part.descriptors}
+    return {str(it["FontName"]) for it in graph.telling if "FontName" in it and it.at not in changed}
 
 
 def _unread(count: int) -> str:
@@ -151,18 +165,33 @@ def _threads() -> int:
     return min(8, os.cpu_count() or 1)
 
 
-def _joined(
-    families: Dict[str, List[Program]], tokens: Optional[int], told: Told
-) -> List[Tuple[str, List[Joined], List[Tuple[Program, str]]]]:
-    """What the programs of each family become."""
+def _outcomes(families: Dict[str, List[Program]], tokens: Optional[int], told: Told) -> Dict[str, Outcome]:
+    """What becomes of the programs of each family."""
     names = sorted(families)
     ready = [[it for it in families[name] if it.reason is None] for name in names]
-    found = []
+    found = {}
     with ThreadPoolExecutor(_threads()) as pool:
-        for number, (made, kept) in enumerate(pool.map(lambda family: fonts.joins(family, tokens), ready)):
-            told("joining fonts", number, len(names))
-            found.append((names[number], made, kept))
+        for name, outcome in zip(names, pool.map(lambda family: fonts.joins(family, tokens), ready)):
+            told("joining fonts", len(found), len(names))
+            found[name] = outcome
     return found
+
+
+def _spelled(
+    families: Dict[str, List[Program]],
+    outcomes: Dict[str, Outcome],
+    graph: Graph,
+    shown: Shown,
+    tokens: Optional[int],
+    told: Told,
+) -> Dict[str, Outcome]:
+    """What becomes of the families that don't join for what their programs name codes, with dictionaries that name them."""
+    found: Dict[str, List[Program]] = {}
+    for name in [name for name, outcome in outcomes.items() if outcome.is_of_encodings]:
+        them = spelled([it for it in families[name] if it.reason is None], graph, shown)
+        if them is not None:
+            found[name] = them
+    return _outcomes(found, tokens, told)
 
 
 def _give(pdf: pikepdf.Pdf, graph: Graph, name: str, join: Joined, taken: Set[str], write: bool) -> Join:
@@ -179,7 +208,10 @@ def _give(pdf: pikepdf.Pdf, graph: Graph, name: str, join: Joined, taken: Set[st
             for descriptor in part.descriptors:
                 _rewrite(graph, descriptor, stream, font_name, join)
             for font in part.fonts:
-                graph.handle(font.at)["/BaseFont"] = pikepdf.Name("/" + font_name)
+                handle = graph.handle(font.at)
+                handle["/BaseFont"] = pikepdf.Name("/" + font_name)
+                if font.at in part.spelled:
+                    handle["/Encoding"] = pdf.make_indirect(encoding_of(part.spelled[font.at]))
     return Join(name, font_name, len(streams), len(join.glyphs), before, len(data))
 
 
@@ -263,10 +295,12 @@ def _arguments(words: Optional[Sequence[str]]) -> argparse.Namespace:
     parser = argparse.ArgumentParser(
         prog="t1subset-pdf",
         description="Makes each Type 1 font stand once in a PDF, and prints a line for each family.",
-        usage="%(prog)s [--list] [--object-streams] [--password FILE] [--tokens N] OUT.pdf IN.pdf",
+        usage="%(prog)s [--list] [--spell] [--dictionaries] [--object-streams] [--password FILE] [--tokens N] OUT.pdf IN.pdf",
         epilog="The exit status is 0, 1 for `refused: TEXT`, 2 for a wrong command line, 3 for a file that can't be read or written.",
     )
     parser.add_argument("--list", action="store_true", help="only print what would become of the fonts; OUT may be left out")
+    parser.add_argument("--spell", action="store_true", help="let font dictionaries name codes, where programs differ in them")
+    parser.add_argument("--dictionaries", action="store_true", help="make one of equal dictionaries of fonts")
     parser.add_argument("--object-streams", action="store_true", help="write object streams: fewer bytes, and PDF 1.5")
     parser.add_argument("--password", metavar="FILE", help="the first line of FILE is a password that opens IN")
     parser.add_argument("--tokens", metavar="N", type=_count, help="for each family execute at most N tokens of charstrings")
@@ -316,7 +350,8 @@ def _run(given: argparse.Namespace) -> None:
     out, progress = given.files[0], _Progress()
     with _opened(given.files[-1], _password(given.password)) as pdf:
         try:
-            report = pool(pdf, write=not given.list, tokens=given.tokens, told=progress)
+            how = {"spell": given.spell, "dictionaries": given.dictionaries, "tokens": given.tokens}
+            report = pool(pdf, write=not given.list, told=progress, **how)
         except PdfRefused as why:
             raise _Failed(f"refused: {why}", 1) from why
         finally:
