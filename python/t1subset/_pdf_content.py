@@ -43,13 +43,16 @@ _OPERATOR = re.compile(
     rb"(?<![^\0\t\n\f\r ()<>\[\]{}%0-9.])(?P<word>Tf|gs|Do|q|Q)(?!" + _REGULAR + rb")"
 )
 _IMAGE = re.compile(rb"(?<!" + _REGULAR + rb")(?<!/)BI(?!" + _REGULAR + rb")")
-_ESCAPE = re.compile(rb"\\(?:([0-7]{1,3})|(\r\n|.))", re.S)
+_ESCAPE = re.compile(rb"\\(?:([0-7]{1,3})|(\r\n|.))|\r\n?", re.S)
 _ESCAPED = {b"n": b"\n", b"r": b"\r", b"t": b"\t", b"b": b"\b", b"f": b"\f", b"\n": b"", b"\r": b"", b"\r\n": b""}
 
 
 def _unescaped(text: bytes) -> bytes:
     def plain(found: "re.Match[bytes]") -> bytes:
-        return bytes([int(found[1], 8) & 255]) if found[1] else _ESCAPED.get(found[2], found[2])
+        if found[1]:
+            return bytes([int(found[1], 8) & 255])
+        # The end of a line is one byte in a string, whatever it is in the file; both are taken as shown.
+        return _ESCAPED.get(found[2], found[2]) if found[2] else b"\r\n"
 
     return _ESCAPE.sub(plain, text)
 
@@ -57,11 +60,8 @@ def _unescaped(text: bytes) -> bytes:
 def _codes(pieces: List[bytes]) -> bytes:
     """The codes of strings, each once; comments have none."""
     text = b"".join([piece[1:-1] for piece in pieces if piece[0] == 40])
-    if b"\\" in text:
+    if b"\\" in text or b"\r" in text:
         text = _unescaped(text)
-    if b"\r" in text:
-        # The end of a line is one byte in a string, whichever it is; both are taken as shown.
-        text += b"\n"
     for piece in pieces:
         if piece[0] == 60:
             digits = piece[1:-1].translate(None, b"\0\t\n\f\r ")

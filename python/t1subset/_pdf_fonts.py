@@ -101,6 +101,7 @@ def programs(graph: Graph) -> Tuple[List[Program], List[Tuple[str, str]]]:
             continue
         _add(found, graph, stream, descriptor, users.get(descriptor.at, []))
     for program in found.values():
+        program.name = min(untagged(_font_name(it)) for it in program.descriptors)
         program.reason = program.reason or _unfit(program, graph)
     return sorted(found.values(), key=lambda it: (it.data, it.digest)), others
 
@@ -130,9 +131,8 @@ def _add(
 
 
 def _unfit(program: Program, graph: Graph) -> Optional[str]:
-    """Why a program stays as it is, for what uses it; its name is noted."""
+    """Why a program stays as it is, for what uses it."""
     names = {untagged(_font_name(it)) for it in program.descriptors}
-    program.name = min(names)
     if len(names) > 1:
         return f"it has the names {' and '.join(sorted(names))}"
     if not _PLAIN.fullmatch(program.name) or _ODD.search(program.name):

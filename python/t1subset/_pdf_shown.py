@@ -54,6 +54,8 @@ class Shown:
         # Runs that are done: those that do the same anywhere by stream and own resources, the others by all that they depend on.
         self._anywhere: Set[Any] = set()
         self._done: Set[Any] = set()
+        # A form that is drawn within itself isn't drawn there.
+        self._active: Set[Place] = set()
         pages = [it for it in graph.telling if _is_page(it, graph)]
         for number, page in enumerate(pages):
             told(number, len(pages))
@@ -132,8 +134,13 @@ class Shown:
         self, stream: Dictionary, outer: Tuple[Dictionary, ...], entry: Fonts, depth: int, own: Tuple[Dictionary, ...] = ()
     ) -> bool:
         """A form; whether it would do the same anywhere."""
+        if stream.at in self._active:
+            return False
+        self._active.add(stream.at)
         resources = self.graph.dictionary(stream, "Resources")
-        return self._run([stream], own if resources is None else (resources, *own), outer, entry, depth)
+        same = self._run([stream], own if resources is None else (resources, *own), outer, entry, depth)
+        self._active.discard(stream.at)
+        return same
 
     def _run(
         self, streams: List[Dictionary], own: Tuple[Dictionary, ...], outer: Tuple[Dictionary, ...], entry: Fonts, depth: int
