@@ -80,6 +80,11 @@ class Report:
 
     families: Tuple[Union[Join, Keep], ...]
 
+    @property
+    def joins(self) -> Tuple[Join, ...]:
+        """Those that are one."""
+        return tuple(it for it in self.families if isinstance(it, Join))
+
     def __str__(self) -> str:
         return "".join(f"{it}\n" for it in self.families)
 
@@ -169,7 +174,7 @@ def _outcomes(families: Dict[str, List[Program]], tokens: Optional[int], told: T
     """What becomes of the programs of each family."""
     names = sorted(families)
     ready = [[it for it in families[name] if it.reason is None] for name in names]
-    found = {}
+    found: Dict[str, Outcome] = {}
     with ThreadPoolExecutor(_threads()) as pool:
         for name, outcome in zip(names, pool.map(lambda family: fonts.joins(family, tokens), ready)):
             told("joining fonts", len(found), len(names))

@@ -18,7 +18,7 @@ except ImportError:
     raise unittest.SkipTest("pikepdf isn't installed")
 
 import t1subset
-from t1subset import _pdf_content, _pdf_filters, _pdf_fonts, _pdf_graph, _pdf_shown, pdf
+from t1subset import _pdf_filters, _pdf_fonts, _pdf_shown, pdf
 
 from .fonts import PFB, changed, with_charstrings
 from .pdfs import PFA, Volume, cut, descriptors, dictionary, differences, files, name, raw, resources
@@ -66,7 +66,7 @@ class Joined(unittest.TestCase):
             self.assertEqual(t1subset.convert(it.FontFile.read_bytes()), whole)
             self.assertEqual(it.FontFile.read_bytes(), raw(whole))
             self.assertEqual(str(it.CharSet), "/X/Y")
-            self.assertEqual(str(it.FontName), "/" + report.families[0].font_name)
+            self.assertEqual(str(it.FontName), "/" + report.joins[0].font_name)
             clear, cipher, rest = (int(it.FontFile[f"/Length{at}"]) for at in (1, 2, 3))
             self.assertEqual((clear, cipher, rest), (raw(whole).index(b"eexec\n") + 6, len(raw(whole)) - clear, 0))
         for page in found.pages:
@@ -388,7 +388,9 @@ class Drawing(unittest.TestCase):
         self.assertRegex(lines(made)[0], "^Tiny: 3 fonts joined")
 
     def test_codes_of_the_dictionary(self) -> None:
-        differ = lambda glyph: dictionary({"Differences": pikepdf.Array([65, name("X"), 100, name(glyph)])})
+        def differ(glyph: str) -> Any:
+            return dictionary({"Differences": pikepdf.Array([65, name("X"), 100, name(glyph)])})
+
         self.assertEqual(lines(two(b"Ad", Encoding=differ("Y"))), ["Tiny: 2 of 2 kept: code 100 is shown, and would draw Y"])
         self.assertRegex(lines(two(b"Ad", Encoding=differ("Z")))[0], "^Tiny: 2 fonts joined")
         self.assertRegex(lines(two(b"Ad", Encoding=differ(".notdef")))[0], "^Tiny: 2 fonts joined")
@@ -444,12 +446,13 @@ class Laws(unittest.TestCase):
 
     def test_twice_is_once(self) -> None:
         for parts in (MIXED, [(cut("X"), b"AB"), *MIXED[1:3]], MIXED[:2] * 2, [*MIXED[:2], MIXED[3]]):
-            for how in ({}, {"spell": True}, {"dictionaries": True}):
+            ways: List[Dict[str, Any]] = [{}, {"spell": True}, {"dictionaries": True}]
+            for how in ways:
                 opened = papers(list(parts)).opened()
                 pdf.pool(opened, **how)
                 one, other = again(opened), again(opened)
                 report = pdf.pool(other, **how)
-                self.assertFalse([it for it in report.families if isinstance(it, pdf.Join)])
+                self.assertEqual(report.joins, ())
                 self.assertEqual(differences(one, again(other)), set())
 
     def test_classes(self) -> None:
@@ -478,8 +481,11 @@ def programs(opened: Any) -> List[bytes]:
     return sorted({it.FontFile.read_bytes() for it in descriptors(opened)})
 
 
+Change = Callable[[Volume, Any, Any], Any]
+
+
 class Kept(unittest.TestCase):
-    def kept(self, change: Callable[[Volume, Any, Any], None], reason: str, count: str = "one of 3") -> None:
+    def kept(self, change: Change, reason: str, count: str = "one of 3") -> None:
         """Two fonts join beside one that is changed and stays."""
         made = two()
         font = made.font(cut("H"))
@@ -494,14 +500,14 @@ class Kept(unittest.TestCase):
             descriptor.FontFile3 = made.stream(b"", Subtype=name("Type1C"))
             del descriptor["/FontFile"]
 
-        def shown_as(kind: str) -> Callable[[Volume, Any, Any], None]:
+        def shown_as(kind: str) -> Change:
             return lambda made, font, descriptor: font.__setitem__("/Subtype", name(kind))
 
         self.kept_beside(compact, "Tiny: kept: its program is no FontFile")
         self.kept(shown_as("MMType1"), "it is a font of Subtype MMType1")
         self.kept(shown_as("CIDFontType0"), "it is a font of Subtype CIDFontType0")
 
-    def kept_beside(self, change: Callable[[Volume, Any, Any], None], line: str) -> None:
+    def kept_beside(self, change: Change, line: str) -> None:
         made = two()
         font = made.font(cut("H"))
         made.showing(font)
@@ -509,7 +515,7 @@ class Kept(unittest.TestCase):
         self.assertIn(line, lines(made))
 
     def test_streams(self) -> None:
-        def holding(data: bytes, **keys: Any) -> Callable[[Volume, Any, Any], None]:
+        def holding(data: bytes, **keys: Any) -> Change:
             return lambda made, font, descriptor: descriptor.__setitem__("/FontFile", made.stream(data, **keys))
 
         self.kept(holding(raw(cut("H")), Metadata=1), "its stream has Metadata")

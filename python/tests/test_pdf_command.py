@@ -11,7 +11,7 @@ import sys
 import tempfile
 import unittest
 import unittest.mock
-from typing import Any, List, Tuple
+from typing import Any, Dict, List, Tuple
 
 from . import left_out
 
@@ -110,7 +110,8 @@ class Command(unittest.TestCase):
         self.changed(open_to_all, self.pooled(open_to_all))
 
     def test_linearized_and_object_streams(self) -> None:
-        for how in ({"linearize": True}, {"object_stream_mode": pikepdf.ObjectStreamMode.generate}, {}):
+        ways: List[Dict[str, Any]] = [{"linearize": True}, {"object_stream_mode": pikepdf.ObjectStreamMode.generate}, {}]
+        for how in ways:
             data = volume().bytes(**how)
             found = self.pooled(data)
             self.changed(data, found)
