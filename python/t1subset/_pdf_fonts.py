@@ -81,8 +81,8 @@ class Apart(ValueError):
 
 
 def programs(graph: Graph) -> Tuple[List[Program], List[Tuple[str, str]]]:
-    """The programs of the descriptors that can be reached, in the order of their bytes; and names of fonts that aren't programs
-    of Type 1, with what they are."""
+    """The programs of the descriptors that can be reached, in the order of their bytes; and the families of fonts that
+    have no program of Type 1, with the reason."""
     users: Dict[Place, List[Dictionary]] = {}
     for font in graph.telling:
         descriptor = graph.dictionary(font, "FontDescriptor")
@@ -92,12 +92,14 @@ def programs(graph: Graph) -> Tuple[List[Program], List[Tuple[str, str]]]:
     others = []
     for descriptor in graph.telling:
         if "FontFile3" in descriptor:
-            others.append((_font_name(descriptor), "its program is no FontFile"))
+            program_3 = graph.dictionary(descriptor, "FontFile3")
+            kind = graph.value(program_3, "Subtype") if program_3 is not None else None
+            others.append((untagged(_font_name(descriptor)), f"its program is {kind}"))
         if "FontFile" not in descriptor:
             continue
         stream = graph.dictionary(descriptor, "FontFile")
         if stream is None or not stream.is_stream:
-            others.append((_font_name(descriptor), "its FontFile is no stream"))
+            others.append((untagged(_font_name(descriptor)), "its FontFile is no stream"))
             continue
         _add(found, graph, stream, descriptor, users.get(descriptor.at, []))
     for program in found.values():

@@ -122,14 +122,15 @@ def pool(
     outcomes = _outcomes(families, tokens, told)
     if spell:
         outcomes.update(_spelled(families, outcomes, graph, shown, tokens, told))
-    report: List[Union[Join, Keep]] = [Keep(fonts.untagged(name), 1, 1, reason) for name, reason in others]
+    report: List[Union[Join, Keep]] = []
     taken = _names_taken(graph, outcomes)
-    for name, outcome in sorted(outcomes.items()):
+    for name in sorted({*outcomes, *(name for name, _ in others)}):
+        outcome = outcomes.get(name, Outcome())
         report += [_give(pdf, graph, name, join, taken, write) for join in outcome.made]
-        report += _keeps(name, families[name], outcome.kept)
+        report += _keeps(name, families.get(name, []), outcome, [reason for other, reason in others if other == name])
     if dictionaries and write:
         make_one(pdf, graph, [font for program in programs for font in program.fonts])
-    return Report(tuple(sorted(report, key=lambda it: it.name)))
+    return Report(tuple(report))
 
 
 def _names_taken(graph: Graph, outcomes: Dict[str, Outcome]) -> Set[str]:
@@ -228,12 +229,13 @@ def _rewrite(graph: Graph, descriptor: Dictionary, stream: Any, font_name: str, 
         handle["/CharSet"] = pikepdf.String(fonts.char_set(join.glyphs))
 
 
-def _keeps(name: str, family: Sequence[Program], kept: Sequence[Tuple[Program, str]]) -> List[Keep]:
+def _keeps(name: str, family: Sequence[Program], outcome: Outcome, others: Sequence[str]) -> List[Keep]:
     """The fonts of a family that stay, by their reasons."""
     counts: Dict[str, int] = {}
-    for program, reason in [*((it, it.reason) for it in family if it.reason is not None), *kept]:
-        counts[reason] = counts.get(reason, 0) + len(program.streams)
-    of = sum(len(it.streams) for it in family)
+    kept = [(reason, 1) for reason in others] + [(reason, len(it.streams)) for it, reason in outcome.kept]
+    for reason, count in [*kept, *((it.reason, len(it.streams)) for it in family if it.reason is not None)]:
+        counts[reason] = counts.get(reason, 0) + count
+    of = sum(len(it.streams) for it in family) + len(others)
     return [Keep(name, count, of, reason) for reason, count in sorted(counts.items())]
 
 
@@ -332,7 +334,8 @@ class _Failed(Exception):
 
 def _opened(path: str, password: str) -> pikepdf.Pdf:
     try:
-        return pikepdf.open(path, password=password)
+        # pikepdf would move what pages inherit into them.
+        return pikepdf.open(path, password=password, inherit_page_attributes=False)
     except pikepdf.PasswordError as fault:
         raise _Failed("refused: it is encrypted", 1) from fault
     except pikepdf.PdfError as fault:

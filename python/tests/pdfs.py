@@ -80,8 +80,13 @@ class Volume:
         self.pdf.save(out, **{"compress_streams": False, "fix_metadata_version": False, **how})
         return out.getvalue()
 
-    def opened(self, **how: Any) -> Any:
-        return pikepdf.open(io.BytesIO(self.bytes(**how)))
+    def opened(self) -> Any:
+        return opened(self.bytes())
+
+
+def opened(data: bytes, password: str = "") -> Any:
+    """A PDF as it stands in its file."""
+    return pikepdf.open(io.BytesIO(data), password=password, inherit_page_attributes=False)
 
 
 def resources(**kinds: Dict[str, Any]) -> Any:
@@ -153,4 +158,4 @@ def _differ(one: Any, other: Any, path: str, free: Set[str], pairs: Dict[Tuple[i
         todo += [(old[key], new[key], path + key, set()) for key in sorted((set(old) & set(new)) - free)]
 
 
-__all__ = ["PFA", "PFB", "Volume", "cut", "descriptors", "dictionary", "differences", "files", "name", "raw", "resources"]
+__all__ = ["PFA", "PFB", "Volume", "cut", "descriptors", "dictionary", "differences", "files", "name", "opened", "raw", "resources"]

@@ -21,7 +21,7 @@ import t1subset
 from t1subset import _pdf_filters, _pdf_fonts, _pdf_shown, pdf
 
 from .fonts import PFB, changed, with_charstrings
-from .pdfs import PFA, Volume, cut, descriptors, dictionary, differences, files, name, raw, resources
+from .pdfs import PFA, Volume, cut, descriptors, dictionary, differences, files, name, opened, raw, resources
 
 # Tiny with another X and another Y.
 OTHER = t1subset.convert(with_charstrings({b"/X": b"\x8b\xf7\x8e\x0d\x0e", b"/Y": b"\x8b\xf7\x8e\x0d\x0e"}))
@@ -35,15 +35,15 @@ def lines(made: Volume, **how: Any) -> List[str]:
 
 def pooled(made: Volume, **how: Any) -> Any:
     """A volume, pooled, written and read again."""
-    opened = made.opened()
-    pdf.pool(opened, **how)
-    return again(opened)
+    given = made.opened()
+    pdf.pool(given, **how)
+    return again(given)
 
 
-def again(opened: Any) -> Any:
+def again(pdf: Any) -> Any:
     out = io.BytesIO()
-    opened.save(out, compress_streams=False, stream_decode_level=pikepdf.StreamDecodeLevel.none)
-    return pikepdf.open(out)
+    pdf.save(out, compress_streams=False, stream_decode_level=pikepdf.StreamDecodeLevel.none)
+    return opened(out.getvalue())
 
 
 def two(text: bytes = b"A", **keys: Any) -> Volume:
@@ -57,9 +57,9 @@ def two(text: bytes = b"A", **keys: Any) -> Volume:
 class Joined(unittest.TestCase):
     def test_two_cuts_are_one(self) -> None:
         made = two()
-        opened = made.opened()
-        report = pdf.pool(opened)
-        found = again(opened)
+        given = made.opened()
+        report = pdf.pool(given)
+        found = again(given)
         whole = t1subset.rejoin([cut("X"), cut("Y")])
         self.assertEqual(len({it.FontFile.objgen for it in descriptors(found)}), 1)
         for it in descriptors(found):
@@ -154,8 +154,7 @@ class Joined(unittest.TestCase):
         kept = [made.pdf.Root.Pages.Kids[1], made.font(cut("H")), made.font(cut("L"))]
         del made.pdf.Root.Pages.Kids[1]
         made.pdf.Root.Pages.Count = 1
-        opened = made.pdf
-        self.assertEqual(str(pdf.pool(opened)), "")
+        self.assertEqual(str(pdf.pool(made.pdf)), "")
         self.assertEqual(len(kept), 3)
 
     def test_names_that_are_no_utf_8(self) -> None:
@@ -163,9 +162,9 @@ class Joined(unittest.TestCase):
             made = Volume()
             made.showing(made.font(cut("X")), text, key="FFF")
             made.showing(made.font(cut("Y")), b"B")
-            opened = pikepdf.open(io.BytesIO(made.bytes().replace(b"/FFF", b"/#e9")))
-            self.assertRegex(str(pdf.pool(opened)), wanted)
-            self.assertIn(b"/#e9", b"".join(it.unparse(resolved=True) for it in opened.objects))
+            given = opened(made.bytes().replace(b"/FFF", b"/#e9"))
+            self.assertRegex(str(pdf.pool(given)), wanted)
+            self.assertIn(b"/#e9", b"".join(it.unparse(resolved=True) for it in given.objects))
 
 
 class Names(unittest.TestCase):
@@ -230,10 +229,31 @@ def in_form(made: Volume, font: Any, text: bytes) -> None:
 
 
 def in_form_by_odd_names(made: Volume, font: Any, text: bytes) -> None:
-    inner = form(made, selecting(text), Resources=resources(Font={"F": font}))
-    kinds = {key: inner for key in ("P", "C", "D", "Parent", "Kids", "Type")}
-    for key in kinds:
+    for key in ("P", "C", "D", "Parent", "Kids", "Type", "Contents", "Length"):
+        inner = form(made, selecting(text), Resources=resources(Font={"F": font}))
         made.page(b"/%s Do" % key.encode(), Resources=resources(XObject={key: inner}))
+
+
+def in_form_by_an_odd_name(made: Volume, font: Any, text: bytes) -> None:
+    made.page(b"/F 9 Tf /P Do", Resources=resources(XObject={"P": form(made, showing(text))}, Font={"F": font}))
+
+
+def in_form_that_lacked_its_font(made: Volume, font: Any, text: bytes) -> None:
+    inner = form(made, selecting(text))
+    made.page(b"/X Do", Resources=resources(XObject={"X": inner}))
+    made.page(b"/X Do", Resources=resources(XObject={"X": inner}, Font={"F": font}))
+
+
+def in_form_that_had_another_font(made: Volume, font: Any, text: bytes) -> None:
+    inner, other = form(made, selecting(text)), made.add(dictionary({"Subtype": name("Type1"), "BaseFont": name("Times-Roman")}))
+    for each in (other, font):
+        made.page(b"/X Do", Resources=resources(XObject={"X": inner}, Font={"F": each}))
+
+
+def in_form_that_may_keep_its_font(made: Volume, font: Any, text: bytes) -> None:
+    other = made.add(dictionary({"Subtype": name("Type1"), "BaseFont": name("Times-Roman")}))
+    inner = form(made, b"/G 9 Tf " + selecting(text), Resources=resources(Font={"G": font}))
+    made.page(b"/X Do", Resources=resources(XObject={"X": inner}, Font={"F": other}))
 
 
 def in_form_without_resources(made: Volume, font: Any, text: bytes) -> None:
@@ -341,7 +361,8 @@ def by_quote(made: Volume, font: Any, text: bytes) -> None:
 
 
 PLACES: List[Place] = [
-    on_page, in_form, in_form_by_odd_names, in_form_without_resources, in_form_with_other_resources, in_form_with_the_font_of_the_page,
+    on_page, in_form, in_form_by_odd_names, in_form_by_an_odd_name, in_form_that_lacked_its_font, in_form_that_had_another_font,
+    in_form_that_may_keep_its_font, in_form_without_resources, in_form_with_other_resources, in_form_with_the_font_of_the_page,
     in_orphaned_form, in_pattern, in_pattern_without_resources, in_type_3, in_type_3_without_resources, in_annotation,
     in_state_of_annotation, by_state, in_soft_mask, in_soft_mask_with_the_font_of_the_page, by_inherited_resources,
     on_page_without_type, over_several_streams, behind_a_font_that_is_missing, behind_an_image, in_octal, by_quote,
@@ -441,16 +462,16 @@ class Laws(unittest.TestCase):
         for parts in (MIXED, [(cut("X"), b"AB"), *MIXED[1:3]], [*MIXED[:2], (cut("X", of=OTHER), b""), MIXED[3]]):
             orders = list(itertools.permutations(parts))[::7]
             # Papers have other tags in other orders; those of fonts that stay are theirs.
-            found = [{(str(it), each) for it in [pdf.pool(opened)] for each in programs(opened)} for opened in map(opened_of, orders)]
+            found = [told_and_programs(papers(list(order)).opened()) for order in orders]
             self.assertEqual(found, found[:1] * len(orders))
 
     def test_twice_is_once(self) -> None:
         for parts in (MIXED, [(cut("X"), b"AB"), *MIXED[1:3]], MIXED[:2] * 2, [*MIXED[:2], MIXED[3]]):
             ways: List[Dict[str, Any]] = [{}, {"spell": True}, {"dictionaries": True}]
             for how in ways:
-                opened = papers(list(parts)).opened()
-                pdf.pool(opened, **how)
-                one, other = again(opened), again(opened)
+                given = papers(list(parts)).opened()
+                pdf.pool(given, **how)
+                one, other = again(given), again(given)
                 report = pdf.pool(other, **how)
                 self.assertEqual(report.joins, ())
                 self.assertEqual(differences(one, again(other)), set())
@@ -473,12 +494,9 @@ class Laws(unittest.TestCase):
         self.assertGreater(len(them), len(groups))
 
 
-def opened_of(parts: Tuple[Tuple[bytes, bytes], ...]) -> Any:
-    return papers(list(parts)).opened()
-
-
-def programs(opened: Any) -> List[bytes]:
-    return sorted({it.FontFile.read_bytes() for it in descriptors(opened)})
+def told_and_programs(given: Any) -> Tuple[pdf.Report, List[bytes]]:
+    report = pdf.pool(given)
+    return report, sorted({it.FontFile.read_bytes() for it in descriptors(given)})
 
 
 Change = Callable[[Volume, Any, Any], Any]
@@ -503,7 +521,7 @@ class Kept(unittest.TestCase):
         def shown_as(kind: str) -> Change:
             return lambda made, font, descriptor: font.__setitem__("/Subtype", name(kind))
 
-        self.kept_beside(compact, "Tiny: kept: its program is no FontFile")
+        self.kept(compact, "its program is Type1C")
         self.kept(shown_as("MMType1"), "it is a font of Subtype MMType1")
         self.kept(shown_as("CIDFontType0"), "it is a font of Subtype CIDFontType0")
 
@@ -527,7 +545,7 @@ class Kept(unittest.TestCase):
         twice = pikepdf.Array([name("FlateDecode")] * 2)
         self.kept(holding(bomb, Filter=twice), "its stream is longer than 134,217,728 bytes")
         self.kept_beside(
-            lambda made, font, descriptor: descriptor.__setitem__("/FontFile", 1), "Tiny: kept: its FontFile is no stream"
+            lambda made, font, descriptor: descriptor.__setitem__("/FontFile", 1), "Tiny: one of 3 kept: its FontFile is no stream"
         )
 
     def test_names_and_users(self) -> None:
@@ -556,11 +574,11 @@ class Kept(unittest.TestCase):
 
 class Refused(unittest.TestCase):
     def refused(self, made: Volume, reason: str) -> None:
-        opened = made.opened()
+        given = made.opened()
         with self.assertRaises(pdf.PdfRefused) as why:
-            pdf.pool(opened)
+            pdf.pool(given)
         self.assertEqual(str(why.exception), reason)
-        self.assertEqual(differences(made.opened(), again(opened)), set())
+        self.assertEqual(differences(made.opened(), again(given)), set())
 
     def test_signed(self) -> None:
         value = dictionary({"ByteRange": pikepdf.Array([0, 1, 2, 3]), "Contents": pikepdf.String("\x01")})
@@ -669,5 +687,5 @@ class Options(unittest.TestCase):
         self.assertEqual(differences(plain, one), {"two objects are one"})
 
 
-def fonts_of(opened: Any) -> List[Any]:
-    return [font for page in opened.pages for font in page.Resources.Font.as_dict().values()]
+def fonts_of(given: Any) -> List[Any]:
+    return [font for page in given.pages for font in page.Resources.Font.as_dict().values()]

@@ -23,7 +23,7 @@ except ImportError:
 
 from t1subset import pdf
 
-from .pdfs import Volume, cut, descriptors, dictionary, differences, name
+from .pdfs import Volume, cut, descriptors, dictionary, differences, name, opened
 
 CHANGED = {"BaseFont", "FontDescriptor/CharSet", "FontDescriptor/FontFile", "FontDescriptor/FontName"}
 
@@ -34,6 +34,7 @@ def volume() -> Volume:
         made.showing(made.font(cut(glyph)), text)
     made.page(made.stream(b"q  Q\n" * 50))
     made.page(made.stream(b"71 20 51>", Filter=name("ASCIIHexDecode")))
+    made.pdf.Root.Pages.Resources = dictionary({"ProcSet": pikepdf.Array([name("PDF")])})
     made.pdf.Root.Metadata = made.stream(b"<x:xmpmeta pdf:PDFVersion='1.1'/>", Type=name("Metadata"), Subtype=name("XML"))
     return made
 
@@ -64,11 +65,12 @@ class Command(unittest.TestCase):
         status, told, err = self.run_in(*options, out, given)
         self.assertEqual((status, err), (0, ""))
         self.assertRegex(told, r"^Tiny: 2 fonts joined, 3 glyphs, [\d,]+ to [\d,]+ bytes\n$")
-        return pikepdf.open(out, password=password)
+        with open(out, "rb") as file:
+            return opened(file.read(), password)
 
     def changed(self, data: bytes, found: Any, password: str = "") -> None:
         """Only fonts differ."""
-        differ = differences(pikepdf.open(io.BytesIO(data), password=password), found)
+        differ = differences(opened(data, password), found)
         fonts = [f"/Root/Pages/Kids/{at}/Resources/Font/F/" for at in range(2)]
         self.assertEqual(differ, {font + key for font in fonts for key in CHANGED})
 
