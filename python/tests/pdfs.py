@@ -8,10 +8,12 @@ from typing import Any, Dict, Iterator, List, Optional, Set, Tuple
 import pikepdf
 
 import t1subset
+from t1subset import pdf as pdfs
 
-from .fonts import PFA, PFB
+from .fonts import PFA
 
-Pairs = Tuple[Any, ...]
+# Why a font that has X alone, and shows code 66, stays where another has Y for that code.
+STAYS = "code 66 is shown, and would draw Y"
 
 
 def name(text: str) -> Any:
@@ -158,4 +160,32 @@ def _differ(one: Any, other: Any, path: str, free: Set[str], pairs: Dict[Tuple[i
         todo += [(old[key], new[key], path + key, set()) for key in sorted((set(old) & set(new)) - free)]
 
 
-__all__ = ["PFA", "PFB", "Volume", "cut", "descriptors", "dictionary", "differences", "files", "name", "opened", "raw", "resources"]
+def form(made: Volume, content: bytes, **keys: Any) -> Any:
+    told = {"Type": name("XObject"), "Subtype": name("Form"), "BBox": pikepdf.Array([0, 0, 9, 9]), **keys}
+    return made.stream(content, **told)
+
+
+def lines(made: Volume, **how: Any) -> List[str]:
+    """What is told of a volume."""
+    return str(pdfs.pool(made.opened(), **how)).splitlines()
+
+
+def pooled(made: Volume, **how: Any) -> Any:
+    """A volume, pooled, written and read again."""
+    given = made.opened()
+    pdfs.pool(given, **how)
+    return again(given)
+
+
+def again(given: Any) -> Any:
+    out = io.BytesIO()
+    given.save(out, compress_streams=False, stream_decode_level=pikepdf.StreamDecodeLevel.none)
+    return opened(out.getvalue())
+
+
+def two(text: bytes = b"A", **keys: Any) -> Volume:
+    """Two papers; the first shows a text in a font that has X alone, for code 65."""
+    made = Volume()
+    made.showing(made.font(cut("X"), **keys), text)
+    made.showing(made.font(cut("Y")), b"B")
+    return made

@@ -2,7 +2,6 @@
 
 from __future__ import annotations
 
-import io
 import itertools
 import unittest
 import unittest.mock
@@ -20,38 +19,12 @@ except ImportError:
 import t1subset
 from t1subset import _pdf_filters, _pdf_fonts, _pdf_shown, pdf
 
-from .fonts import PFB, changed, with_charstrings
-from .pdfs import PFA, Volume, cut, descriptors, dictionary, differences, files, name, opened, raw, resources
+from .fonts import PFA, PFB, changed, with_charstrings
+from .pdfs import STAYS, Volume, again, cut, descriptors, dictionary, differences, files, form, lines, name, opened, pooled, raw
+from .pdfs import resources, two
 
 # Tiny with another X and another Y.
 OTHER = t1subset.convert(with_charstrings({b"/X": b"\x8b\xf7\x8e\x0d\x0e", b"/Y": b"\x8b\xf7\x8e\x0d\x0e"}))
-STAYS = "code 66 is shown, and would draw Y"
-
-
-def lines(made: Volume, **how: Any) -> List[str]:
-    """What is told of a volume."""
-    return str(pdf.pool(made.opened(), **how)).splitlines()
-
-
-def pooled(made: Volume, **how: Any) -> Any:
-    """A volume, pooled, written and read again."""
-    given = made.opened()
-    pdf.pool(given, **how)
-    return again(given)
-
-
-def again(pdf: Any) -> Any:
-    out = io.BytesIO()
-    pdf.save(out, compress_streams=False, stream_decode_level=pikepdf.StreamDecodeLevel.none)
-    return opened(out.getvalue())
-
-
-def two(text: bytes = b"A", **keys: Any) -> Volume:
-    """Two papers; the first shows a text in a font that has X alone, for code 65."""
-    made = Volume()
-    made.showing(made.font(cut("X"), **keys), text)
-    made.showing(made.font(cut("Y")), b"B")
-    return made
 
 
 class Joined(unittest.TestCase):
@@ -74,6 +47,12 @@ class Joined(unittest.TestCase):
         before = sum(len(raw(it)) for it in (cut("X"), cut("Y")))
         after = len(zlib.compress(raw(whole), 9))
         self.assertEqual(str(report), f"Tiny: 2 fonts joined, 3 glyphs, {before:,} to {after:,} bytes\n")
+
+    def test_nothing_is_written_where_that_is_asked(self) -> None:
+        made = two()
+        given = made.opened()
+        self.assertEqual(str(pdf.pool(given, write=False, dictionaries=True)).splitlines(), lines(made))
+        self.assertEqual(differences(made.opened(), again(given)), set())
 
     def test_the_graph_stays(self) -> None:
         made = two()
@@ -201,247 +180,6 @@ class Names(unittest.TestCase):
         made.showing(made.font(cut("X")))
         made.showing(made.font(made.descriptor(cut("Y"), family="Tine")))
         self.assertEqual(lines(made), [])
-
-
-Place = Callable[[Volume, Any, bytes], Any]
-
-
-def selecting(text: bytes) -> bytes:
-    return b"BT /F 9 Tf (" + text + b") Tj ET"
-
-
-def showing(text: bytes) -> bytes:
-    return b"(" + text + b") Tj"
-
-
-def form(made: Volume, content: bytes, **keys: Any) -> Any:
-    told = {"Type": name("XObject"), "Subtype": name("Form"), "BBox": pikepdf.Array([0, 0, 9, 9]), **keys}
-    return made.stream(content, **told)
-
-
-def on_page(made: Volume, font: Any, text: bytes) -> None:
-    made.showing(font, text)
-
-
-def in_form(made: Volume, font: Any, text: bytes) -> None:
-    inner = form(made, selecting(text), Resources=resources(Font={"F": font}))
-    made.page(b"/X Do", Resources=resources(XObject={"X": inner}))
-
-
-def in_form_by_odd_names(made: Volume, font: Any, text: bytes) -> None:
-    for key in ("P", "C", "D", "Parent", "Kids", "Type", "Contents", "Length"):
-        inner = form(made, selecting(text), Resources=resources(Font={"F": font}))
-        made.page(b"/%s Do" % key.encode(), Resources=resources(XObject={key: inner}))
-
-
-def in_form_by_an_odd_name(made: Volume, font: Any, text: bytes) -> None:
-    made.page(b"/F 9 Tf /P Do", Resources=resources(XObject={"P": form(made, showing(text))}, Font={"F": font}))
-
-
-def in_form_that_lacked_its_font(made: Volume, font: Any, text: bytes) -> None:
-    inner = form(made, selecting(text))
-    made.page(b"/X Do", Resources=resources(XObject={"X": inner}))
-    made.page(b"/X Do", Resources=resources(XObject={"X": inner}, Font={"F": font}))
-
-
-def in_form_that_had_another_font(made: Volume, font: Any, text: bytes) -> None:
-    inner, other = form(made, selecting(text)), made.add(dictionary({"Subtype": name("Type1"), "BaseFont": name("Times-Roman")}))
-    for each in (other, font):
-        made.page(b"/X Do", Resources=resources(XObject={"X": inner}, Font={"F": each}))
-
-
-def in_form_that_may_keep_its_font(made: Volume, font: Any, text: bytes) -> None:
-    other = made.add(dictionary({"Subtype": name("Type1"), "BaseFont": name("Times-Roman")}))
-    inner = form(made, b"/G 9 Tf " + selecting(text), Resources=resources(Font={"G": font}))
-    made.page(b"/X Do", Resources=resources(XObject={"X": inner}, Font={"F": other}))
-
-
-def in_form_without_resources(made: Volume, font: Any, text: bytes) -> None:
-    made.page(b"/X Do", Resources=resources(XObject={"X": form(made, selecting(text))}, Font={"F": font}))
-
-
-def in_form_with_other_resources(made: Volume, font: Any, text: bytes) -> None:
-    inner = form(made, selecting(text), Resources=resources(Font={"G": font}))
-    made.page(b"/X Do", Resources=resources(XObject={"X": inner}, Font={"F": font}))
-
-
-def in_form_with_the_font_of_the_page(made: Volume, font: Any, text: bytes) -> None:
-    inner = form(made, showing(text), Resources=dictionary({}))
-    outer = form(made, b"q /F 1 Tf Q /X Do", Resources=resources(XObject={"X": inner}))
-    made.page(b"/X Do", Resources=resources(XObject={"X": outer}))
-    made.page(b"/F 9 Tf /X Do", Resources=resources(XObject={"X": outer}, Font={"F": font}))
-
-
-def in_orphaned_form(made: Volume, font: Any, text: bytes) -> None:
-    made.pdf.Root.Kept = form(made, selecting(text), Resources=resources(Font={"F": font}))
-
-
-def in_pattern(made: Volume, font: Any, text: bytes) -> None:
-    pattern = made.stream(selecting(text), PatternType=1, Resources=resources(Font={"F": font}))
-    made.page(b"/Pattern cs /P scn", Resources=resources(Pattern={"P": pattern}))
-
-
-def in_pattern_without_resources(made: Volume, font: Any, text: bytes) -> None:
-    made.page(b"/Pattern cs /P scn", Resources=resources(Pattern={"P": made.stream(selecting(text), PatternType=1)}, Font={"F": font}))
-
-
-def in_type_3(made: Volume, font: Any, text: bytes) -> None:
-    glyphs = dictionary({"a": made.stream(b"9 0 d0 " + selecting(text))})
-    outer = dictionary({"Type": name("Font"), "Subtype": name("Type3"), "CharProcs": glyphs, "Resources": resources(Font={"F": font})})
-    made.page(b"/T 1 Tf (a) Tj", Resources=resources(Font={"T": outer}))
-
-
-def in_type_3_without_resources(made: Volume, font: Any, text: bytes) -> None:
-    glyphs = dictionary({"a": made.stream(b"9 0 d0 " + selecting(text))})
-    outer = dictionary({"Type": name("Font"), "Subtype": name("Type3"), "CharProcs": glyphs})
-    made.page(b"/T 1 Tf (a) Tj", Resources=resources(Font={"T": outer, "F": font}))
-
-
-def in_annotation(made: Volume, font: Any, text: bytes) -> None:
-    look = form(made, selecting(text), Resources=resources(Font={"F": font}))
-    made.page(Annots=pikepdf.Array([dictionary({"Contents": pikepdf.String("said"), "AP": dictionary({"N": look})})]))
-
-
-def in_state_of_annotation(made: Volume, font: Any, text: bytes) -> None:
-    look = form(made, selecting(text))
-    states = dictionary({"N": dictionary({"On": look})})
-    made.page(Annots=made.add(pikepdf.Array([made.add(dictionary({"AP": states}))])), Resources=resources(Font={"F": font}))
-
-
-def by_state(made: Volume, font: Any, text: bytes) -> None:
-    state = dictionary({"Font": pikepdf.Array([font, 9])})
-    made.page(b"/G gs " + showing(text), Resources=resources(ExtGState={"G": state}))
-
-
-def in_soft_mask(made: Volume, font: Any, text: bytes) -> None:
-    mask = dictionary({"S": name("Alpha"), "G": form(made, selecting(text), Resources=resources(Font={"F": font}))})
-    made.page(b"/G gs", Resources=resources(ExtGState={"G": dictionary({"SMask": mask})}))
-
-
-def in_soft_mask_with_the_font_of_the_page(made: Volume, font: Any, text: bytes) -> None:
-    mask = dictionary({"S": name("Alpha"), "G": form(made, showing(text))})
-    made.page(b"/F 9 Tf /G gs", Resources=resources(ExtGState={"G": dictionary({"SMask": mask})}, Font={"F": font}))
-
-
-def by_inherited_resources(made: Volume, font: Any, text: bytes) -> None:
-    node = made.add(dictionary({"Type": name("Pages"), "Resources": resources(Font={"F": font}), "Kids": pikepdf.Array([]), "Count": 1}))
-    node.Kids.append(made.add(dictionary({"Parent": node, "Type": name("Page"), "Contents": made.stream(selecting(text))})))
-    made.pdf.Root.Pages.Kids.append(node)
-    made.pdf.Root.Pages.Count = len(made.pdf.Root.Pages.Kids)
-
-
-def on_page_without_type(made: Volume, font: Any, text: bytes) -> None:
-    made.page(selecting(text), Resources=resources(Font={"F": font}), Type=None)
-
-
-def over_several_streams(made: Volume, font: Any, text: bytes) -> None:
-    parts = [b"q /F", b"9 Tf [", showing(text)[:-2], b"] TJ Q"]
-    made.page(pikepdf.Array([made.stream(it) for it in parts]), Resources=resources(Font={"F": font}))
-
-
-def behind_a_font_that_is_missing(made: Volume, font: Any, text: bytes) -> None:
-    made.page(b"/F 9 Tf /Lost 9 Tf " + showing(text), Resources=resources(Font={"F": font}))
-
-
-def behind_an_image(made: Volume, font: Any, text: bytes) -> None:
-    image = b"BI /W 8 /H 4 /BPC 8 /CS /G ID " + b" Q q (EI /G 1 Tf EI q (Q %]"[:27].ljust(32, b"(") + b"\nEI "
-    made.page(b"/F 9 Tf " + image + showing(text), Resources=resources(Font={"F": font}))
-
-
-def in_hexadecimal(made: Volume, font: Any, text: bytes) -> None:
-    made.page(b"/F 9 Tf <" + text.hex().encode() + b"4> Tj <4 1 > Tj", Resources=resources(Font={"F": font}))
-
-
-def in_octal(made: Volume, font: Any, text: bytes) -> None:
-    made.page(b"/F 9 Tf (\\" + oct(text[0])[2:].encode() + b") Tj", Resources=resources(Font={"F": font}))
-
-
-def by_quote(made: Volume, font: Any, text: bytes) -> None:
-    made.page(b'/F 9 Tf (A)\' 1 2 (' + text + b')"', Resources=resources(Font={"F": font}))
-
-
-PLACES: List[Place] = [
-    on_page, in_form, in_form_by_odd_names, in_form_by_an_odd_name, in_form_that_lacked_its_font, in_form_that_had_another_font,
-    in_form_that_may_keep_its_font, in_form_without_resources, in_form_with_other_resources, in_form_with_the_font_of_the_page,
-    in_orphaned_form, in_pattern, in_pattern_without_resources, in_type_3, in_type_3_without_resources, in_annotation,
-    in_state_of_annotation, by_state, in_soft_mask, in_soft_mask_with_the_font_of_the_page, by_inherited_resources,
-    on_page_without_type, over_several_streams, behind_a_font_that_is_missing, behind_an_image, in_octal, by_quote,
-]
-
-
-class Drawing(unittest.TestCase):
-    def test_a_code_that_draws_nothing_is_met_wherever_it_stands(self) -> None:
-        for place in PLACES:
-            for text, joined in ((b"A", True), (b"B", False)):
-                with self.subTest(place=place.__name__, joined=joined):
-                    made = Volume()
-                    made.showing(made.font(cut("Y")), b"B")
-                    place(made, made.font(cut("X")), text)
-                    found = lines(made)
-                    self.assertEqual(len(found), 1)
-                    if joined:
-                        self.assertRegex(found[0], "^Tiny: 2 fonts joined")
-                    else:
-                        self.assertEqual(found[0], f"Tiny: 2 of 2 kept: {STAYS}")
-                        self.assertEqual(differences(made.opened(), pooled(made)), set())
-
-    def test_hexadecimal(self) -> None:
-        made = Volume()
-        made.showing(made.font(cut("Y")), b"B")
-        in_hexadecimal(made, made.font(cut("X")), b"B")
-        self.assertEqual(lines(made), [f"Tiny: 2 of 2 kept: {STAYS}"])
-        made = Volume()
-        made.showing(made.font(cut("Y")), b"B")
-        made.page(b"/F 9 Tf <41> Tj <4> Tj % <42>\n", Resources=resources(Font={"F": made.font(cut("X"))}))
-        self.assertRegex(lines(made)[0], "^Tiny: 2 fonts joined")
-
-    def test_any_code_may_be_filled_in(self) -> None:
-        made = two()
-        font = made.pdf.Root.Pages.Kids[0].Resources.Font.F
-        made.pdf.Root.AcroForm = dictionary({"Fields": pikepdf.Array([]), "DR": resources(Font={"F": font})})
-        self.assertEqual(lines(made), [f"Tiny: 2 of 2 kept: {STAYS}"])
-
-    def test_what_is_no_text(self) -> None:
-        made = Volume()
-        made.showing(made.font(cut("Y")), b"B")
-        content = b"/F 9 Tf /Span <</ActualText(B)/Deep<</A<42>>>>>BDC (A) Tj EMC % (B)\n /G 9 Tf (B) Tj q /F 1 Tf Q (B) Tj"
-        made.page(content, Resources=resources(Font={"F": made.font(cut("X")), "G": made.font(cut("Y"))}))
-        self.assertRegex(lines(made)[0], "^Tiny: 3 fonts joined")
-
-    def test_codes_of_the_dictionary(self) -> None:
-        def differ(glyph: str) -> Any:
-            return dictionary({"Differences": pikepdf.Array([65, name("X"), 100, name(glyph)])})
-
-        self.assertEqual(lines(two(b"Ad", Encoding=differ("Y"))), ["Tiny: 2 of 2 kept: code 100 is shown, and would draw Y"])
-        self.assertRegex(lines(two(b"Ad", Encoding=differ("Z")))[0], "^Tiny: 2 fonts joined")
-        self.assertRegex(lines(two(b"Ad", Encoding=differ(".notdef")))[0], "^Tiny: 2 fonts joined")
-        # Code 66 has a name of its own, whatever the program's Encoding says.
-        named = dictionary({"Differences": pikepdf.Array([65, name("X"), name("Z")])})
-        self.assertRegex(lines(two(b"AB", Encoding=named))[0], "^Tiny: 2 fonts joined")
-
-    def test_codes_of_the_program_where_others_are_named(self) -> None:
-        win = name("WinAnsiEncoding")
-        for encoding in (win, dictionary({"BaseEncoding": win})):
-            self.assertEqual(lines(two(b"B", flags=4, Encoding=encoding)), [f"Tiny: 2 of 2 kept: {STAYS}"])
-            self.assertRegex(lines(two(b"B", flags=32, Encoding=encoding))[0], "^Tiny: 2 fonts joined")
-        # Code 1 has no name there, and some programs look into the font's own Encoding.
-        own = changed(b"dup 66 /Y put", b"dup 1 /Y put")
-        made = Volume()
-        made.showing(made.font(cut("X"), flags=32, Encoding=win), b"\\001")
-        made.showing(made.font(cut("Y", of=own)), b"\\001")
-        self.assertEqual(lines(made), ["Tiny: 2 of 2 kept: code 1 is shown, and would draw Y"])
-
-    def test_standard_encoding_where_none_is_named(self) -> None:
-        self.assertRegex(lines(two(b"Y", flags=4))[0], "^Tiny: 2 fonts joined")
-        self.assertEqual(lines(two(b"Y", flags=32)), ["Tiny: 2 of 2 kept: code 89 is shown, and would draw Y"])
-
-    def test_encodings_that_are_not_known(self) -> None:
-        for encoding, reason in (
-            (name("MacExpertEncoding"), "its Encoding is MacExpertEncoding"),
-            (pikepdf.String("odd"), "its Encoding can't be read"),
-            (dictionary({"Differences": pikepdf.Array([pikepdf.String("odd")])}), "its Differences can't be read"),
-        ):
-            self.assertEqual(lines(two(Encoding=encoding)), [f"Tiny: one of 2 kept: {reason}"])
 
 
 def papers(parts: List[Tuple[bytes, bytes]]) -> Volume:
