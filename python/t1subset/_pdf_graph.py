@@ -171,7 +171,11 @@ class Graph:
         made = self.pdf.get_object(ref)
         if isinstance(made, pikepdf.Stream):
             return made.stream_dict.unparse(), True
-        return made.unparse(resolved=True), False
+        if isinstance(made, pikepdf.Object):
+            return made.unparse(resolved=True), False
+        # pikepdf answers Python's own values for what is none of its objects.
+        words = {True: b"true", False: b"false", None: b"null"}
+        return (words[made] if made is None or isinstance(made, bool) else str(made).encode("ascii")), False
 
     def get(self, ref: Ref) -> Any:
         """The object of a reference."""

@@ -58,6 +58,8 @@ class Joined(unittest.TestCase):
         made = two()
         made.pdf.Root.Outlines = made.add(dictionary({"P": made.pdf.Root.Pages, "C": pikepdf.Array([1, 2.5, True])}))
         made.stream(b"not reached")
+        made.pdf.Root.Values = pikepdf.Array([made.add(it) for it in (7, True, False, None, pikepdf.Object.parse(b"-2.50"))])
+        made.pdf.Root.Values.append(made.add(pikepdf.String("(")))
         made.pdf.Root.Further = made.stream(b"plain, and not to be compressed " * 9)
         found = differences(made.opened(), pooled(made))
         wanted = {"BaseFont", "FontDescriptor/CharSet", "FontDescriptor/FontFile", "FontDescriptor/FontName"}
