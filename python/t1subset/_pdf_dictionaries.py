@@ -39,19 +39,22 @@ def make_one(pdf: pikepdf.Pdf, graph: Graph, fonts: Iterable[Dictionary]) -> Non
     instead = {ref: other for ref, other in instead.items() if other != ref}
     for holder in graph.holders(instead):
         for place, key, ref in list(_references(parsed(graph.text(holder)[0], holder), Place(holder, ()))):
-            if ref in instead:
+            if ref in instead and graph.can_be_changed(Place(holder, place.path + (key,))):
                 graph.handle(place)[key] = pdf.get_object(instead[ref])
 
 
 def _references(value: Any, at: Place) -> Iterator[Tuple[Place, Any, Ref]]:
     """The references within a value: the place of the dictionary or array, the key or index, and the reference."""
-    items: List[Tuple[Any, Any]] = []
-    if isinstance(value, dict):
-        items = [("/" + key, it) for key, it in value.items()]
-    elif isinstance(value, list):
-        items = list(enumerate(value))
-    for key, it in items:
-        if isinstance(it, Ref):
-            yield at, key, it
-        else:
-            yield from _references(it, Place(at.ref, at.path + (key,)))
+    todo: List[Tuple[Any, Place]] = [(value, at)]
+    while todo:
+        value, at = todo.pop()
+        items: List[Tuple[Any, Any]] = []
+        if isinstance(value, dict):
+            items = [("/" + key, it) for key, it in value.items()]
+        elif isinstance(value, list):
+            items = list(enumerate(value))
+        for key, it in items:
+            if isinstance(it, Ref):
+                yield at, key, it
+            else:
+                todo.append((it, Place(at.ref, at.path + (key,))))

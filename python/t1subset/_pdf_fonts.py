@@ -146,6 +146,8 @@ def _unfit(program: Program, graph: Graph) -> Optional[str]:
             return "what has it is no FontDescriptor"
         if not any(graph.dictionary(font, "FontDescriptor") is descriptor for font in program.fonts):
             return "no font uses one of its descriptors"
+    if not all(graph.can_be_changed(it.at) for it in program.descriptors + program.fonts):
+        return "it stands behind a name that is no UTF-8"
     for font in program.fonts:
         subtype = graph.value(font, "Subtype")
         if subtype != "Type1" or font.is_stream:

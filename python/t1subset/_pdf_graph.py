@@ -79,10 +79,9 @@ def _word(word: bytes) -> Any:
             return Text(word)
 
 
-def _value(found: Match[bytes], tokens: Iterator[Match[bytes]], at: Place) -> Any:
+def _plain(found: Match[bytes]) -> Any:
+    """The value of a token that opens and closes nothing."""
     kind, token = found.lastgroup, found[0]
-    if kind == "open":
-        return _dictionary(tokens, at) if token == b"<<" else _array(tokens, at)
     if kind == "name":
         return name_of(token[1:])
     if kind == "ref":
@@ -90,32 +89,46 @@ def _value(found: Match[bytes], tokens: Iterator[Match[bytes]], at: Place) -> An
     return Text(token) if kind == "text" else _word(token)
 
 
-def _dictionary(tokens: Iterator[Match[bytes]], at: Place) -> Dictionary:
-    made = Dictionary(at)
-    for found in tokens:
-        if found.lastgroup != "name":
-            break
-        key = name_of(found["name"])
-        value = _value(next(tokens), tokens, Place(at.ref, at.path + ("/" + key,)))
-        if value is not None:
-            made[key] = value
-    return made
+class _Open:
+    """A dictionary or an array that is being read, its path, and the key of the value that comes."""
 
+    def __init__(self, made: Any, path: Tuple[Any, ...]) -> None:
+        self.made, self.path = made, path
+        self.key: Any = None
 
-def _array(tokens: Iterator[Match[bytes]], at: Place) -> List[Any]:
-    made: List[Any] = []
-    for found in tokens:
-        if found.lastgroup == "close":
-            break
-        made.append(_value(found, tokens, Place(at.ref, at.path + (len(made),))))
-    return made
+    def awaits_key(self) -> bool:
+        return isinstance(self.made, Dictionary) and self.key is None
+
+    def path_of_next(self) -> Tuple[Any, ...]:
+        return self.path + (len(self.made) if isinstance(self.made, list) else "/" + self.key,)
+
+    def put(self, value: Any) -> None:
+        if isinstance(self.made, list):
+            self.made.append(value)
+        else:
+            # A key that has null is none.
+            if value is not None:
+                self.made[self.key] = value
+            self.key = None
 
 
 def parsed(text: bytes, ref: Optional[Ref]) -> Any:
     """The value that a text of pikepdf's spells."""
-    tokens = _TOKEN.finditer(text)
-    found = next(tokens, None)
-    return None if found is None else _value(found, tokens, Place(ref, ()))
+    stack = [_Open([], ())]
+    for found in _TOKEN.finditer(text):
+        top = stack[-1]
+        if found.lastgroup == "close":
+            stack.pop()
+        elif top.awaits_key():
+            top.key = name_of(found[0][1:])
+        elif found.lastgroup == "open":
+            path = top.path_of_next() if len(stack) > 1 else ()
+            made: Any = Dictionary(Place(ref, path)) if found[0] == b"<<" else []
+            top.put(made)
+            stack.append(_Open(made, path))
+        else:
+            top.put(_plain(found))
+    return next(iter(stack[0].made), None)
 
 
 def refs_in(text: bytes) -> List[Ref]:
@@ -135,17 +148,21 @@ class Graph:
 
     def _reach(self) -> List[Ref]:
         """The telling objects."""
-        telling = [ref for ref, text in self._texts() if _TELLING.search(text)]
+        telling = []
+        for ref, text, is_stream in self._texts():
+            if _TELLING.search(text):
+                telling.append(ref)
+                self._read(ref, text, is_stream)
         return sorted(telling)
 
-    def _texts(self) -> Iterator[Tuple[Ref, bytes]]:
-        """Each object that can be reached, once, and its text."""
+    def _texts(self) -> Iterator[Tuple[Ref, bytes, bool]]:
+        """Each object that can be reached, once, its text, and whether it is a stream."""
         seen = set(refs_in(self.pdf.trailer.unparse()))
         todo = list(seen)
         while todo:
             ref = todo.pop()
-            text = self.text(ref)[0]
-            yield ref, text
+            text, is_stream = self.text(ref)
+            yield ref, text, is_stream
             for other in refs_in(text):
                 if other not in seen:
                     seen.add(other)
@@ -153,7 +170,7 @@ class Graph:
 
     def holders(self, refs: Container[Ref]) -> List[Ref]:
         """The objects that can be reached and have one of these references."""
-        return [ref for ref, text in self._texts() if any(it in refs for it in refs_in(text))]
+        return [ref for ref, text, _ in self._texts() if any(it in refs for it in refs_in(text))]
 
     def _dictionaries(self, refs: List[Ref]) -> Iterator[Dictionary]:
         """The dictionaries of these objects, also those that stand within others."""
@@ -180,11 +197,13 @@ class Graph:
     def get(self, ref: Ref) -> Any:
         """The object of a reference."""
         if ref not in self._values:
-            text, is_stream = self.text(ref)
-            value = self._values[ref] = parsed(text, ref)
-            if isinstance(value, Dictionary):
-                value.is_stream = is_stream
+            self._read(ref, *self.text(ref))
         return self._values[ref]
+
+    def _read(self, ref: Ref, text: bytes, is_stream: bool) -> None:
+        value = self._values[ref] = parsed(text, ref)
+        if isinstance(value, Dictionary):
+            value.is_stream = is_stream
 
     def resolved(self, value: Any) -> Any:
         """What a reference stands for; any other value stands for itself."""
@@ -209,6 +228,14 @@ class Graph:
         for key in at.path:
             made = made[key]
         return made
+
+    def can_be_changed(self, at: Place) -> bool:
+        """Whether pikepdf can find a place: it takes no key that isn't UTF-8."""
+        try:
+            "".join(map(str, at.path)).encode("utf-8")
+        except UnicodeEncodeError:
+            return False
+        return True
 
     def raw_length(self, stream: Dictionary) -> int:
         return len(self.handle(stream.at).read_raw_bytes())

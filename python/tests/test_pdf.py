@@ -130,6 +130,20 @@ class Joined(unittest.TestCase):
         for page in found.pages:
             self.assertEqual(page.Resources.Font.F.BaseFont, page.Resources.Font.F.FontDescriptor.FontName)
 
+    def test_direct_fonts_behind_names_that_are_no_utf_8(self) -> None:
+        made = Volume()
+        for glyph in "XY":
+            made.showing(pikepdf.Dictionary(dict(made.font(cut(glyph)).items())), key="FFF")
+        made.showing(made.font(cut("H")))
+        given = opened(made.bytes().replace(b"/FFF", b"/#e9"))
+        self.assertEqual(str(pdf.pool(given)), "Tiny: 2 of 3 kept: it stands behind a name that is no UTF-8\n")
+
+    def test_deep_values(self) -> None:
+        made = two()
+        made.pdf.Root.Deep = pikepdf.Object.parse(b"[" * 400 + b"<</FontFile 1>>" + b"]" * 400)
+        self.assertRegex(lines(made)[-1], "^Tiny: 2 fonts joined")
+        self.assertRegex(lines(made, dictionaries=True)[-1], "^Tiny: 2 fonts joined")
+
     def test_what_is_not_reached_is_not_joined(self) -> None:
         made = two()
         kept = [made.pdf.Root.Pages.Kids[1], made.font(cut("H")), made.font(cut("L"))]
