@@ -19,7 +19,10 @@ from concurrent.futures import ThreadPoolExecutor
 from dataclasses import dataclass
 from typing import Any, Callable, Dict, List, Optional, Sequence, Set, Tuple, Union
 
-import pikepdf
+try:
+    import pikepdf
+except ImportError as fault:
+    raise ImportError("t1subset.pdf needs pikepdf: install t1subset[pdf], or Debian's python3-pikepdf") from fault
 
 from . import _pdf_fonts as fonts
 from ._pdf_dictionaries import make_one
@@ -105,7 +108,7 @@ def pool(
     """Makes one font of the Type 1 fonts of a name, and says what became of each name.
 
     Of what can be reached only these keys change: FontFile, FontName and CharSet of descriptors whose program is joined, and
-    BaseFont of their fonts. Without `write` nothing changes. `tokens` is as for `rejoin`, for each family.
+    BaseFont of their fonts. Without `write` nothing changes. `tokens` is as for `rejoin`, each time that fonts are rejoined.
 
     With `spell` fonts of a name that don't join since their programs name codes otherwise get an Encoding that names them. With
     `dictionaries` equal dictionaries of Type 1 fonts, and what stands in them, become one.
@@ -310,7 +313,7 @@ def _arguments(words: Optional[Sequence[str]]) -> argparse.Namespace:
     parser.add_argument("--dictionaries", action="store_true", help="make one of equal dictionaries of fonts")
     parser.add_argument("--object-streams", action="store_true", help="write object streams: fewer bytes, and PDF 1.5")
     parser.add_argument("--password", metavar="FILE", help="the first line of FILE is a password that opens IN")
-    parser.add_argument("--tokens", metavar="N", type=_count, help="for each family execute at most N tokens of charstrings")
+    parser.add_argument("--tokens", metavar="N", type=_count, help="let no call of the library execute more than N tokens of charstrings")
     parser.add_argument("files", nargs="+", metavar="OUT.pdf IN.pdf", help="the PDF to write, and the PDF to read")
     given = parser.parse_args(words)
     if len(given.files) > 2 or len(given.files) < 2 and not given.list:

@@ -199,3 +199,18 @@ class Command(unittest.TestCase):
         done = subprocess.run(words, cwd=os.path.dirname(os.path.dirname(__file__)), capture_output=True, timeout=60)
         self.assertEqual((done.returncode, done.stderr), (0, b""))
         self.assertTrue(done.stdout.startswith(b"Tiny: 2 fonts joined"))
+
+    def test_the_rest_of_the_package_needs_no_pikepdf(self) -> None:
+        program = """
+import sys
+sys.modules["pikepdf"] = None
+import t1subset
+try:
+    import t1subset.pdf
+except ImportError as fault:
+    print(fault)
+"""
+        words: List[str] = [sys.executable, "-c", program]
+        done = subprocess.run(words, cwd=os.path.dirname(os.path.dirname(__file__)), capture_output=True, timeout=60)
+        self.assertEqual((done.returncode, done.stderr), (0, b""))
+        self.assertTrue(done.stdout.startswith(b"t1subset.pdf needs pikepdf"))
