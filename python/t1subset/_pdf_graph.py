@@ -241,7 +241,7 @@ class Graph:
         return len(self.handle(stream.at).read_raw_bytes())
 
     def _filters(self, stream: Dictionary) -> List[str]:
-        """The filters of a stream; one with parameters that count goes by another name, which no decoder here has."""
+        """The filters of a stream, by the names that `decoded` takes; `+` stands behind one with a predictor."""
         told, given = self.value(stream, "Filter"), self.value(stream, "DecodeParms")
         filters = [self.resolved(it) for it in told] if isinstance(told, list) else [told] if told is not None else []
         parms = [self.resolved(it) for it in given] if isinstance(given, list) else [given] * len(filters)
@@ -250,8 +250,9 @@ class Graph:
             if not isinstance(name, Name):
                 raise Undecodable("can't be decoded")
             parm = parms[at] if at < len(parms) else None
-            predicts = isinstance(parm, Dictionary) and self.value(parm, "Predictor") not in (None, 1)
-            names.append(name + "+" if predicts else str(name))
+            told = parm if isinstance(parm, Dictionary) else Dictionary(stream.at)
+            late = "0" if self.value(told, "EarlyChange") == 0 and name.startswith("LZW") else ""
+            names.append(name + late + ("" if self.value(told, "Predictor") in (None, 1) else "+"))
         return names
 
     def content(self, stream: Dictionary) -> bytes:

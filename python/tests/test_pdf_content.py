@@ -111,22 +111,59 @@ class Texts(unittest.TestCase):
         self.assertEqual(refs_in(text), [])
 
 
+def lzw(text: bytes, early: int = 1) -> bytes:
+    """What LZWDecode makes this of."""
+    bits, table, width, prefix = f"{256:09b}", {bytes([it]): it for it in range(256)}, 9, b""
+    for at in range(len(text)):
+        byte = text[at:at + 1]
+        if prefix + byte in table:
+            prefix += byte
+            continue
+        bits += f"{table[prefix]:0{width}b}"
+        table[prefix + byte] = len(table) + 2
+        width = max(width, (len(table) + 1 + early).bit_length())
+        prefix = byte
+        if len(table) > 4000:
+            bits += f"{table[prefix]:0{width}b}{256:0{max(width, (len(table) + 2 + early).bit_length())}b}"
+            table, width, prefix = {bytes([it]): it for it in range(256)}, 9, b""
+    bits += f"{table[prefix]:0{width}b}" if prefix else ""
+    width = max(width, (len(table) + 2 + early).bit_length()) if prefix and len(table) > 256 else width
+    bits += f"{257:0{width}b}"
+    bits += "0" * (-len(bits) % 8)
+    return int(bits, 2).to_bytes(len(bits) // 8, "big")
+
+
 class Filters(unittest.TestCase):
     def test_limits(self) -> None:
         packed = zlib.compress(bytes(1000))
         self.assertEqual(filters.decoded(packed, ["FlateDecode"], 1000), bytes(1000))
         rows: List[Tuple[bytes, List[str]]] = [(packed, ["FlateDecode"]), (bytes(1000), [])]
-        rows += [(bytes(300), ["LZWDecode"]), (packed, ["FlateDecode+"])]
+        rows += [(lzw(bytes(1000)), ["LZWDecode"]), (packed, ["FlateDecode+"]), (b"\x81a" * 8, ["RunLengthDecode"])]
         for data, names in rows:
             with self.assertRaises(filters.Undecodable):
                 filters.decoded(data, names, 999)
-        self.assertIsNone(filters.decoded(b"123", ["LZWDecode"], 10000))
+        self.assertIsNone(filters.decoded(b"123", ["LZWDecode+"], 10000))
+        self.assertIsNone(filters.decoded(b"123", ["AHx", "Crypt"], 10000))
 
     def test_what_is_cut_short(self) -> None:
         with self.assertRaises(filters.Undecodable):
             filters.decoded(zlib.compress(b"a" * 1000)[:-5], ["FlateDecode"])
         with self.assertRaises(filters.Undecodable):
             filters.decoded(b"4g>", ["ASCIIHexDecode"])
+
+    def test_lzw_and_runs(self) -> None:
+        self.assertEqual(filters.decoded(bytes.fromhex("800b6050220c0c8501"), ["LZWDecode"]), b"-----A---B")
+        self.assertEqual(filters.decoded(b"\x02abc\xffd\x80e", ["RunLengthDecode"]), b"abcdd")
+        chosen, pdf = random.Random(2), pikepdf.new()
+        for text in (b"", b"a" * 9000, bytes(chosen.choice(b"abcd") for _ in range(30_000)), chosen.getrandbits(80_000).to_bytes(10_000, "big")):
+            for early in (1, 0):
+                packed = lzw(text, early)
+                self.assertEqual(filters.decoded(packed, ["LZWDecode" if early else "LZWDecode0"]), text)
+                parms = pikepdf.Dictionary(EarlyChange=early)
+                stream = pikepdf.Stream(pdf, packed, Filter=pikepdf.Name.LZWDecode, DecodeParms=parms)
+                self.assertEqual(stream.read_bytes(), text)
+        with self.assertRaises(filters.Undecodable):
+            filters.decoded(bytes.fromhex("800b7fffff"), ["LZWDecode"])
 
     def test_letters(self) -> None:
         self.assertEqual(filters.decoded(b"4 1\n4>", ["AHx"]), b"A@")
