@@ -6,7 +6,7 @@ usage: tools/pdf_producers.py [PDFS] [--spell] [--keep FOLDER]    PDFS is how ma
 The PDFs of a program have other words in the same fonts. A volume is joined by qpdf, or where that isn't, by pikepdf, and then pooled by
 `t1subset-pdf --dictionaries`. Each page is drawn by those of poppler, MuPDF and Ghostscript that are here, at 72 and at 200 dots an inch; a page
 is right if each image is, byte for byte, that of the volume before. pdftotext has to find the same text, and qpdf no fault. Prints a table: the
-pages, the bytes of the volume and of the pooled one, how many families are joined and how many have fonts that stay, and how many pages
+pages, the bytes of the volume and of the pooled one, how many fonts are made and for how many reasons others stay, and how many pages
 are right; and behind it what is told of those that stay. Ends with status 1 if a page, a text or a file is wrong.
 
 --spell pools by `--spell`, too. --keep leaves the volumes in FOLDER, as PROGRAM.pdf and PROGRAM.pooled.pdf.
@@ -29,6 +29,8 @@ LETTERS = "abcdefghijklmnopqrstuvwxyzABCDEFGHIJKLMNOPQRSTUVWXYZ0123456789"
 FONTS = ["cmr10", "cmbx10", "cmti10", "cmsy10", "cmmi10"]
 SYMBOLS = {"cmsy10", "cmmi10"}
 DOTS = (72, 200)
+# Ghostscript writes CFF, but where a PDF may have none.
+AS_1_1 = "-dCompatibilityLevel=1.1"
 
 
 def words(seed, font):
@@ -62,8 +64,8 @@ def by_dvips(folder, number, *options):
     printed(["ps2pdf", *options, "doc.ps", "doc.pdf"], cwd=folder)
 
 
-def by_dvips_without_cff(folder, number):
-    by_dvips(folder, number, "-dHaveCFF=false")
+def by_dvips_as_1_1(folder, number):
+    by_dvips(folder, number, AS_1_1)
 
 
 def again(folder, number, *command):
@@ -78,7 +80,7 @@ def by_cairo(folder, number):
 
 
 def by_pdfwrite(folder, number):
-    again(folder, number, "gs", "-q", "-dSAFER", "-sDEVICE=pdfwrite", "-dHaveCFF=false", "-o", "doc.pdf", "first.pdf")
+    again(folder, number, "gs", "-q", "-dSAFER", "-sDEVICE=pdfwrite", AS_1_1, "-o", "doc.pdf", "first.pdf")
 
 
 def by_form(folder, number):
@@ -95,9 +97,9 @@ NEEDS = {
     "pdfTeX": (by_pdftex, ["pdftex"]),
     "pdfTeX, figures by pdfTeX": (by_form, ["pdftex"]),
     "dvips, ps2pdf": (by_dvips, ["tex", "dvips", "ps2pdf"]),
-    "dvips, ps2pdf without CFF": (by_dvips_without_cff, ["tex", "dvips", "ps2pdf"]),
+    "dvips, ps2pdf as PDF 1.1": (by_dvips_as_1_1, ["tex", "dvips", "ps2pdf"]),
     "pdfTeX, pdftocairo": (by_cairo, ["pdftex", "pdftocairo"]),
-    "pdfTeX, pdfwrite without CFF": (by_pdfwrite, ["pdftex", "gs"]),
+    "pdfTeX, pdfwrite as PDF 1.1": (by_pdfwrite, ["pdftex", "gs"]),
 }
 
 
@@ -194,7 +196,7 @@ def main():
     parser.add_argument("--keep")
     asked = parser.parse_args()
     told, wrong = [], []
-    print("| PDFs by | Pages | Joined, bytes | Pooled, bytes | Lines of joined fonts | of fonts that stay | Pages that are right |")
+    print("| PDFs by | Pages | Joined, bytes | Pooled, bytes | Fonts made | Reasons to stay | Pages that are right |")
     print("|---|---|---|---|---|---|---|")
     for name, (make, needs) in NEEDS.items():
         if not all(map(shutil.which, needs)):

@@ -24,6 +24,8 @@ class Unreadable(ValueError):
     """A content stream of which it isn't known what it shows."""
 
 
+MOST = 2_000_000
+"""How many strings and how many events a content stream may have."""
 _REGULAR = rb"[^\0\t\n\f\r ()<>\[\]{}/%]"
 _SPACE = rb"[\0\t\n\f\r ]"
 
@@ -71,6 +73,8 @@ def _codes(pieces: List[bytes]) -> bytes:
 
 def events(data: bytes) -> List[Event]:
     """What a content stream does."""
+    if sum(map(data.count, (b"(", b"<", b"%"))) > MOST:
+        raise Unreadable("more strings than are kept")
     pieces = _slowly_apart(data) if _IMAGE.search(data) else _APART.split(data)
     texts = pieces[::2]
     code = b"()".join(texts)
@@ -108,6 +112,8 @@ def _events(code: bytes, strings: List[bytes]) -> List[Event]:
         else:
             word = token[0].decode("ascii")
             found.append(Event(word, None if word in (SAVE, RESTORE) else name_of(name)))
+            if len(found) > MOST:
+                raise Unreadable("more than is kept")
     show(len(code))
     return found
 

@@ -91,7 +91,7 @@ def programs(graph: Graph) -> Tuple[List[Program], List[Tuple[str, str]]]:
     found: Dict[bytes, Program] = {}
     others = []
     for descriptor in graph.telling:
-        if "FontFile3" in descriptor:
+        if "FontFile3" in descriptor and "FontFile" not in descriptor:
             program_3 = graph.dictionary(descriptor, "FontFile3")
             kind = graph.value(program_3, "Subtype") if program_3 is not None else None
             others.append((untagged(_font_name(descriptor)), f"its program is {kind}"))
@@ -144,6 +144,8 @@ def _unfit(program: Program, graph: Graph) -> Optional[str]:
     for descriptor in program.descriptors:
         if graph.value(descriptor, "Type") not in ("FontDescriptor", None):
             return "what has it is no FontDescriptor"
+        if "FontFile2" in descriptor or "FontFile3" in descriptor:
+            return "its descriptor has another program, too"
         if not any(graph.dictionary(font, "FontDescriptor") is descriptor for font in program.fonts):
             return "no font uses one of its descriptors"
     if not all(graph.can_be_changed(it.at) for it in program.descriptors + program.fonts):
@@ -201,7 +203,7 @@ def note_lacks(program: Program, font: Dictionary, own: Names, codes: Set[int], 
                 if reading.falls_through:
                     program.unnamed.add(code)
             elif name not in program.glyphs:
-                program.lacks.setdefault(name, code)
+                program.lacks[name] = min(code, program.lacks.get(name, code))
 
 
 def _check_shown(joined: Joined) -> None:

@@ -17,7 +17,7 @@ except ImportError:
     raise unittest.SkipTest("pikepdf isn't installed")
 
 import t1subset
-from t1subset import _pdf_filters, _pdf_fonts, _pdf_shown, pdf
+from t1subset import _pdf_content, _pdf_filters, _pdf_fonts, _pdf_shown, pdf
 
 from .fonts import PFA, PFB, changed, with_charstrings
 from .pdfs import STAYS, Volume, again, cut, descriptors, dictionary, differences, files, form, lines, name, opened, pooled, raw
@@ -313,6 +313,10 @@ class Kept(unittest.TestCase):
         def odd(made: Volume, font: Any, descriptor: Any) -> None:
             descriptor.Type = name("Odd")
 
+        def with_two(made: Volume, font: Any, descriptor: Any) -> None:
+            descriptor.FontFile3 = made.stream(b"", Subtype=name("Type1C"))
+
+        self.kept(with_two, "its descriptor has another program, too")
         self.kept_beside(named_twice, "Tine: kept: it has the names Tine and Tiny")
         self.kept(unused, "no font uses it")
         self.kept(odd, "what has it is no FontDescriptor")
@@ -356,6 +360,17 @@ class Refused(unittest.TestCase):
         made.page(made.stream(b"no flate", Filter=name("FlateDecode")))
         made.page(b"(no end")
         self.refused(made, "3 content streams can't be read")
+
+    def test_more_than_is_kept(self) -> None:
+        made = two()
+        made.page(b"(a) Tj q Q " * 50)
+        with unittest.mock.patch.object(_pdf_content, "MOST", 149):
+            self.refused(made, "1 content stream can't be read")
+        with unittest.mock.patch.object(_pdf_content, "MOST", 150):
+            self.assertRegex(lines(made)[0], "^Tiny: 2 fonts joined")
+        made.page(b"% <41> (b)\n" * 50)
+        with unittest.mock.patch.object(_pdf_content, "MOST", 149):
+            self.refused(made, "2 content streams can't be read")
 
     def test_forms_that_stand_deep(self) -> None:
         for depth, is_read in ((40, True), (60, False)):
