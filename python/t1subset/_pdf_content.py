@@ -136,27 +136,28 @@ def _slowly_apart(data: bytes) -> List[bytes]:
     """What `_APART` splits, also where parentheses stand deeper, or alone, and where there are images: texts in even places, strings
     and comments in odd ones. Images are left out."""
     pieces: List[bytes] = []
-    text, at = b"", 0
-    for _ in range(len(data) + 1):
+    text: List[bytes] = []
+    at = 0
+    while True:
         found = _SPECIAL.search(data, at)
+        text.append(data[at:found.start() if found else len(data)].replace(b")", b" "))
         if not found:
-            break
-        text, sign = text + data[at:found.start()].replace(b")", b" "), found[0]
+            return [*pieces, b"".join(text)]
+        sign, begins = found[0], found.start()
         if sign == b"<<":
-            text, at = text + sign, found.end()
+            text.append(sign)
+            at = found.end()
             continue
         if sign == b"BI":
-            text, at = text + b" ", image_end(data, found.end())
+            text.append(b" ")
+            at = image_end(data, found.end())
             continue
         if sign == b"(":
-            at = _string_end(data, found.start())
-        elif sign == b"%":
-            at = _end_of(_LINE_END, data, found.end())
+            at = _string_end(data, begins)
         else:
-            at = _end_of(_HEX_END, data, found.end())
-        pieces += [text, data[found.start():at]]
-        text = b""
-    return [*pieces, text + data[at:].replace(b")", b" ")]
+            at = _end_of(_LINE_END if sign == b"%" else _HEX_END, data, found.end())
+        pieces += [b"".join(text), data[begins:at]]
+        text.clear()
 
 
 def _end_of(what: "re.Pattern[bytes]", data: bytes, at: int) -> int:

@@ -9,6 +9,7 @@ from typing import List, Optional
 LONGEST = 1 << 27
 """The most bytes that a stream may decode to, where nothing else is said."""
 
+_PIECE = 1 << 14
 # How many bytes one byte of these may become, of the filters that aren't decoded here: those with a predictor.
 _GROWTH = {"FlateDecode": 1033, "Fl": 1033, "LZWDecode": 2560, "LZW": 2560}
 
@@ -124,13 +125,18 @@ def _check_growth(data: bytes, filters: List[str], limit: int) -> None:
 
 def inflated_end(data: bytes, at: int, limit: int) -> Optional[int]:
     """Where data that FlateDecode reads ends, if it begins here."""
-    inflater, rest, made = zlib.decompressobj(), data[at:], 0
+    inflater, made = zlib.decompressobj(), 0
     try:
-        while rest and not inflater.eof:
-            made += len(inflater.decompress(rest, 1 << 20))
-            if made > limit:
-                return None
-            rest = inflater.unconsumed_tail
+        # By pieces: what is left over is copied each time.
+        for begins in range(at, len(data), _PIECE):
+            rest = data[begins:begins + _PIECE]
+            while rest and not inflater.eof:
+                made += len(inflater.decompress(rest, 1 << 20))
+                rest = inflater.unconsumed_tail
+                if made > limit:
+                    return None
+            if inflater.eof:
+                return min(begins + _PIECE, len(data)) - len(inflater.unused_data)
     except zlib.error:
-        return None
-    return len(data) - len(inflater.unused_data) if inflater.eof else None
+        pass
+    return None
