@@ -11,7 +11,7 @@ from typing import Any, Dict, FrozenSet, Iterable, List, Mapping, Optional, Sequ
 from . import _calls
 from ._pdf_encodings import Names, Reading, Unknown, built_in, readings
 from ._pdf_filters import Undecodable
-from ._pdf_graph import Dictionary, Graph, Place
+from ._pdf_graph import Dictionary, Graph, Name, Place
 from ._pdf_shown import Shown
 from ._refusals import Number, Part, Refused
 
@@ -37,6 +37,7 @@ class Program:
     descriptors: List[Dictionary] = field(default_factory=list)
     fonts: List[Dictionary] = field(default_factory=list)
     name: str = ""
+    has_no_tag: bool = False
     reason: Optional[str] = None
     """Why it stays as it is, if that is known without a look at others."""
     glyphs: FrozenSet[str] = frozenset()
@@ -65,9 +66,7 @@ class Joined:
     @property
     def is_whole(self) -> bool:
         """Whether one of them has all glyphs and no tag, so that it is no cut."""
-        return any(
-            it.glyphs == self.glyphs and all(str(each.get("FontName")) == it.name for each in it.descriptors) for it in self.parts
-        )
+        return any(it.glyphs == self.glyphs and it.has_no_tag for it in self.parts)
 
 
 class Apart(ValueError):
@@ -94,22 +93,26 @@ def programs(graph: Graph) -> Tuple[List[Program], List[Tuple[str, str]]]:
         if "FontFile3" in descriptor and "FontFile" not in descriptor:
             program_3 = graph.dictionary(descriptor, "FontFile3")
             kind = graph.value(program_3, "Subtype") if program_3 is not None else None
-            others.append((untagged(_font_name(descriptor)), f"its program is {kind}"))
+            others.append((untagged(font_name(descriptor, graph)), f"its program is {kind}"))
         if "FontFile" not in descriptor:
             continue
         stream = graph.dictionary(descriptor, "FontFile")
         if stream is None or not stream.is_stream:
-            others.append((untagged(_font_name(descriptor)), "its FontFile is no stream"))
+            others.append((untagged(font_name(descriptor, graph)), "its FontFile is no stream"))
             continue
         _add(found, graph, stream, descriptor, users.get(descriptor.at, []))
     for program in found.values():
-        program.name = min(untagged(_font_name(it)) for it in program.descriptors)
+        names = {font_name(it, graph) for it in program.descriptors}
+        program.name = min(map(untagged, names))
+        program.has_no_tag = names == {program.name}
         program.reason = program.reason or _unfit(program, graph)
     return sorted(found.values(), key=lambda it: (it.data, it.digest)), others
 
 
-def _font_name(descriptor: Dictionary) -> str:
-    return str(descriptor.get("FontName", ""))
+def font_name(descriptor: Dictionary, graph: Graph) -> str:
+    """The name of a descriptor's font."""
+    name = graph.value(descriptor, "FontName")
+    return str(name) if isinstance(name, Name) else ""
 
 
 def _add(
@@ -134,7 +137,7 @@ def _add(
 
 def _unfit(program: Program, graph: Graph) -> Optional[str]:
     """Why a program stays as it is, for what uses it."""
-    names = {untagged(_font_name(it)) for it in program.descriptors}
+    names = {untagged(font_name(it, graph)) for it in program.descriptors}
     if len(names) > 1:
         return f"it has the names {' and '.join(sorted(names))}"
     if not _PLAIN.fullmatch(program.name) or _ODD.search(program.name):

@@ -31,6 +31,7 @@ def _spelled(program: Program, graph: Graph, shown: Shown) -> Optional[Program]:
     if data is None:
         return None
     made = Program(data, program.digest, program.streams, program.descriptors, program.fonts, program.name)
+    made.has_no_tag = program.has_no_tag
     made.glyphs, made.encoding = program.glyphs, "StandardEncoding"
     try:
         for font in program.fonts:

@@ -139,7 +139,7 @@ def pool(
 def _names_taken(graph: Graph, outcomes: Dict[str, Outcome]) -> Set[str]:
     """The names of the fonts that stay as they are."""
     changed = {each.at for it in outcomes.values() for join in it.made for part in join.parts for each in part.descriptors}
-    return {str(it["FontName"]) for it in graph.telling if "FontName" in it and it.at not in changed}
+    return {fonts.font_name(it, graph) for it in graph.telling if "FontName" in it and it.at not in changed}
 
 
 def _unread(count: int) -> str:

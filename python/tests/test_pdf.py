@@ -191,6 +191,14 @@ class Names(unittest.TestCase):
         made.showing(made.font(cut("Y")))
         self.assertNotEqual({it for it, _ in files(pooled(made))}, {"/Tiny"})
 
+    def test_names_in_objects_of_their_own(self) -> None:
+        made = Volume()
+        for glyph in "XY":
+            descriptor = made.descriptor(cut(glyph))
+            descriptor.FontName = made.add(descriptor.FontName)
+            made.showing(made.font(descriptor))
+        self.assertRegex(lines(made)[0], "^Tiny: 2 fonts joined")
+
     def test_families_stay_apart(self) -> None:
         made = Volume()
         made.showing(made.font(cut("X")))
