@@ -12,7 +12,7 @@ from . import _calls
 from ._pdf_encodings import Names, Reading, Unknown, built_in, readings
 from ._pdf_filters import Undecodable
 from ._pdf_graph import Dictionary, Graph, Name, Place
-from ._pdf_shown import Shown
+from ._pdf_shown import Codes
 from ._refusals import Number, Part, Refused
 
 _TAG = re.compile(r"(?:[A-Z]{6}\+)+(?=.)")
@@ -172,7 +172,7 @@ def listed(program: Program) -> Union[Listed, Refused]:
         return why
 
 
-def look_into(program: Program, found: Union[Listed, Refused], graph: Graph, shown: Shown) -> None:
+def look_into(program: Program, found: Union[Listed, Refused], graph: Graph, shown: Codes) -> None:
     """Notes what a program has, and what it may not get."""
     if isinstance(found, Refused):
         program.reason = str(found)
@@ -181,7 +181,7 @@ def look_into(program: Program, found: Union[Listed, Refused], graph: Graph, sho
     try:
         own = built_in(program.encoding)
         for font in program.fonts:
-            note_lacks(program, font, own, shown.codes.get(font.at, set()), graph)
+            note_lacks(program, font, own, shown.get(font.at, set()), graph)
     except Unknown as why:
         program.reason = str(why)
 

@@ -18,6 +18,8 @@ STEPS = 2_000_000
 """How many events and runs of forms a page may have."""
 KEPT = 200_000
 """How many events of streams are kept for another time, in all."""
+Codes = Dict[Place, Set[int]]
+"""The codes that are shown through each font."""
 NONE: Fonts = frozenset()
 ALL = bytes(range(256))
 
@@ -46,7 +48,7 @@ class Shown:
 
     def __init__(self, graph: Graph, told: Callable[[int, int], None] = lambda done, of: None) -> None:
         self.graph = graph
-        self.codes: Dict[Place, Set[int]] = {}
+        self.codes: Codes = {}
         self.unread: Set[Place] = set()
         self._steps = 0
         self._kept: Dict[Tuple[Place, ...], List[Event]] = {}

@@ -10,11 +10,11 @@ from . import _calls
 from ._pdf_encodings import STANDARD, Names, Unknown, built_in, readings
 from ._pdf_fonts import Program, note_lacks, sections
 from ._pdf_graph import Dictionary, Graph
-from ._pdf_shown import Shown
+from ._pdf_shown import Codes
 from ._refusals import Refused
 
 
-def spelled(family: Sequence[Program], graph: Graph, shown: Shown) -> Optional[List[Program]]:
+def spelled(family: Sequence[Program], graph: Graph, shown: Codes) -> Optional[List[Program]]:
     """The programs of a family with the word StandardEncoding, and what their fonts have to name instead; None if it isn't possible
     for all of them."""
     found = []
@@ -26,7 +26,7 @@ def spelled(family: Sequence[Program], graph: Graph, shown: Shown) -> Optional[L
     return sorted(found, key=lambda it: (it.data, it.digest))
 
 
-def _spelled(program: Program, graph: Graph, shown: Shown) -> Optional[Program]:
+def _spelled(program: Program, graph: Graph, shown: Codes) -> Optional[Program]:
     data = _with_word(program)
     if data is None:
         return None
@@ -35,7 +35,7 @@ def _spelled(program: Program, graph: Graph, shown: Shown) -> Optional[Program]:
     made.glyphs, made.encoding = program.glyphs, "StandardEncoding"
     try:
         for font in program.fonts:
-            codes = shown.codes.get(font.at, set())
+            codes = shown.get(font.at, set())
             names = _names_needed(program, font, codes, graph)
             if names is not None:
                 made.spelled[font.at] = names

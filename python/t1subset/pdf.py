@@ -15,6 +15,7 @@ import shutil
 import stat
 import sys
 import tempfile
+from collections import Counter
 from concurrent.futures import ThreadPoolExecutor
 from dataclasses import dataclass
 from typing import Any, Callable, Dict, List, Optional, Sequence, Set, Tuple, Union
@@ -28,7 +29,7 @@ from . import _pdf_fonts as fonts
 from ._pdf_dictionaries import make_one
 from ._pdf_fonts import Joined, Outcome, Program
 from ._pdf_graph import Dictionary, Graph, Text
-from ._pdf_shown import Shown
+from ._pdf_shown import Codes, Shown
 from ._pdf_spell import encoding_of, spelled
 
 Told = Callable[[str, int, int], None]
@@ -118,9 +119,7 @@ def pool(
     if _is_signed(graph):
         raise PdfRefused("it is signed")
     programs, others = fonts.programs(graph)
-    shown = Shown(graph, lambda done, of: told("reading pages", done, of))
-    if shown.unread:
-        raise PdfRefused(_unread(len(shown.unread)))
+    shown = _shown(programs, graph, told)
     families = _families(programs, graph, shown, told)
     outcomes = _outcomes(families, tokens, told)
     if spell:
@@ -142,8 +141,16 @@ def _names_taken(graph: Graph, outcomes: Dict[str, Outcome]) -> Set[str]:
     return {fonts.font_name(it, graph) for it in graph.telling if "FontName" in it and it.at not in changed}
 
 
-def _unread(count: int) -> str:
-    return f"{count} content stream{'s' if count > 1 else ''} can't be read"
+def _shown(programs: Sequence[Program], graph: Graph, told: Told) -> Codes:
+    """The codes that content shows; where no two fonts have one name, none is read."""
+    counts = Counter(it.name for it in programs if it.reason is None for _ in it.streams)
+    if max(counts.values(), default=0) < 2:
+        return {}
+    shown = Shown(graph, lambda done, of: told("reading pages", done, of))
+    count = len(shown.unread)
+    if count:
+        raise PdfRefused(f"{count} content stream{'s' if count > 1 else ''} can't be read")
+    return shown.codes
 
 
 def _is_signed(graph: Graph) -> bool:
@@ -157,7 +164,7 @@ def _is_signed(graph: Graph) -> bool:
     return any("ByteRange" in it and isinstance(graph.value(it, "Contents"), Text) for it in graph.telling)
 
 
-def _families(programs: Sequence[Program], graph: Graph, shown: Shown, told: Told) -> Dict[str, List[Program]]:
+def _families(programs: Sequence[Program], graph: Graph, shown: Codes, told: Told) -> Dict[str, List[Program]]:
     """The programs by their names, each looked into."""
     ready = [it for it in programs if it.reason is None]
     with ThreadPoolExecutor(_threads()) as pool:
@@ -190,7 +197,7 @@ def _spelled(
     families: Dict[str, List[Program]],
     outcomes: Dict[str, Outcome],
     graph: Graph,
-    shown: Shown,
+    shown: Codes,
     tokens: Optional[int],
     told: Told,
 ) -> Dict[str, Outcome]:
@@ -370,7 +377,7 @@ def _run(given: argparse.Namespace) -> None:
         if not given.list:
             try:
                 save(pdf, out, object_streams=given.object_streams)
-            except OSError as fault:
+            except (OSError, pikepdf.PdfError) as fault:
                 raise _Failed(f"failed: write {out}", 3) from fault
         print(report, end="")
 

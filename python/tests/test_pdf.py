@@ -380,6 +380,13 @@ class Refused(unittest.TestCase):
         with unittest.mock.patch.object(_pdf_content, "MOST", 149):
             self.refused(made, "2 content streams can't be read")
 
+    def test_content_is_not_read_where_nothing_joins(self) -> None:
+        made = Volume()
+        made.showing(made.font(cut("X")), b"A")
+        made.showing(made.font(made.descriptor(cut("Y"), family="Tine")), b"B")
+        made.page(b"(no end")
+        self.assertEqual(lines(made), [])
+
     def test_forms_that_stand_deep(self) -> None:
         for depth, is_read in ((40, True), (60, False)):
             made = two()
