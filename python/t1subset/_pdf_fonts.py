@@ -13,7 +13,7 @@ from ._pdf_encodings import Names, Reading, Unknown, built_in, readings
 from ._pdf_filters import Undecodable
 from ._pdf_graph import Dictionary, Graph, Name, Place
 from ._pdf_shown import Codes
-from ._refusals import Number, Part, Refused
+from ._refusals import Refused
 
 _TAG = re.compile(r"(?:[A-Z]{6}\+)+(?=.)")
 # Names that are spelled in a PDF as they are.
@@ -70,13 +70,7 @@ class Joined:
 
 
 class Apart(ValueError):
-    """Programs that can't be one; `str` says why, and `is_of_encodings` whether it is for what they name codes."""
-
-    def __init__(self, why: Union[str, Refused]) -> None:
-        super().__init__(str(why))
-        self.is_of_encodings = isinstance(why, Refused) and (
-            why.number == Number.CODE_DIFFERS or why.number == Number.SHELLS_DIFFER and why.detail == Part.ENCODING
-        )
+    """Programs that can't be one; `str` says why."""
 
 
 def programs(graph: Graph) -> Tuple[List[Program], List[Tuple[str, str]]]:
@@ -226,28 +220,28 @@ def joined(items: Sequence[Union[Program, Joined]], tokens: Optional[int]) -> Jo
         data = _calls.rejoin([it.data for it in items], "pfb", tokens=tokens)
         glyphs, encoding = _listed(data)
     except Refused as why:
-        raise Apart(why) from why
+        raise Apart(str(why)) from why
     made = Joined(tuple(part for it in items for part in it.parts), data, glyphs, encoding)
     _check_shown(made)
     return made
 
 
-def classes(family: Sequence[Program], tokens: Optional[int]) -> Tuple[List[List[Program]], Dict[int, Apart]]:
+def classes(family: Sequence[Program], tokens: Optional[int]) -> Tuple[List[List[Program]], Dict[int, str]]:
     """The programs of a family in classes that can be one, no two of which can; and for programs that are alone why, by their `id`.
 
     Each goes into the first class that it joins, in the order of their bytes: so it doesn't matter in which order a volume has
     them. What can't be one can't be one with more, so a class that a program didn't join when it was smaller doesn't take it
     later."""
     found: List[Union[Program, Joined]] = []
-    reasons: Dict[int, Apart] = {}
+    reasons: Dict[int, str] = {}
     for program in family:
         for at, other in enumerate(found):
             try:
                 found[at] = joined([other, program], tokens)
                 break
             except Apart as why:
-                reasons.setdefault(id(program), why)
-                reasons.setdefault(id(other), why)
+                reasons.setdefault(id(program), str(why))
+                reasons.setdefault(id(other), str(why))
         else:
             found.append(program)
     return [list(it.parts) for it in found], reasons
@@ -255,11 +249,10 @@ def classes(family: Sequence[Program], tokens: Optional[int]) -> Tuple[List[List
 
 @dataclass
 class Outcome:
-    """What the programs of a family become, those that stay with the reason, and whether some stay for what they name codes."""
+    """What the programs of a family become, and those that stay, with the reason."""
 
     made: List[Joined] = field(default_factory=list)
     kept: List[Tuple[Program, str]] = field(default_factory=list)
-    is_of_encodings: bool = False
 
 
 def joins(family: Sequence[Program], tokens: Optional[int]) -> Outcome:
@@ -272,10 +265,10 @@ def joins(family: Sequence[Program], tokens: Optional[int]) -> Outcome:
         if len(family) == 1:
             return Outcome([], [(family[0], str(why))])
     groups, reasons = classes(family, tokens)
-    outcome = Outcome(is_of_encodings=any(it.is_of_encodings for it in reasons.values()))
+    outcome = Outcome()
     for group in groups:
         if sum(len(it.streams) for it in group) < 2:
-            outcome.kept.append((group[0], str(reasons[id(group[0])])))
+            outcome.kept.append((group[0], reasons[id(group[0])]))
             continue
         try:
             outcome.made.append(joined(group, tokens))

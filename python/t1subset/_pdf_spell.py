@@ -2,7 +2,7 @@
 
 from __future__ import annotations
 
-from typing import Any, List, Mapping, Optional, Sequence, Set
+from typing import Any, List, Mapping, Optional, Sequence, Set, Union
 
 import pikepdf
 
@@ -15,8 +15,12 @@ from ._refusals import Refused
 
 
 def spelled(family: Sequence[Program], graph: Graph, shown: Codes) -> Optional[List[Program]]:
-    """The programs of a family with the word StandardEncoding, and what their fonts have to name instead; None if it isn't possible
-    for all of them."""
+    """The programs of a family with the word StandardEncoding, and what their fonts have to name instead; None if their own Encodings
+    don't conflict, or if it isn't possible for all of them.
+
+    Both hold of what such programs join to exactly if they hold of the programs, so what was spelled isn't spelled otherwise."""
+    if not _conflict([it.encoding for it in family]):
+        return None
     found = []
     for program in family:
         other = _spelled(program, graph, shown)
@@ -24,6 +28,14 @@ def spelled(family: Sequence[Program], graph: Graph, shown: Codes) -> Optional[L
             return None
         found.append(other)
     return sorted(found, key=lambda it: (it.data, it.digest))
+
+
+def _conflict(encodings: Sequence[Union[str, Mapping[int, str]]]) -> bool:
+    """Whether some of these can't be those of one font."""
+    words = {it for it in encodings if isinstance(it, str)}
+    tables = [it for it in encodings if not isinstance(it, str)]
+    names: Names = {}
+    return len(words) + bool(tables) > 1 or any(names.setdefault(code, it[code]) != it[code] for it in tables for code in it)
 
 
 def _spelled(program: Program, graph: Graph, shown: Codes) -> Optional[Program]:
@@ -48,15 +60,17 @@ def _spelled(program: Program, graph: Graph, shown: Codes) -> Optional[Program]:
 def _names_needed(program: Program, font: Dictionary, codes: Set[int], graph: Graph) -> Optional[Names]:
     """The names that a font dictionary has to give; None if each code that is shown keeps its glyph without. It is Unknown if programs
     that draw PDFs don't agree on the names that it has."""
-    own = built_in(program.encoding)
-    before = [_drawn(reading.names(own), codes, program) for reading in readings(font, graph)]
-    if before == [_drawn(reading.names(STANDARD), codes, program) for reading in readings(font, graph)]:
+    own, ways = built_in(program.encoding), readings(font, graph)
+    if all(code in way.told for way in ways for code in codes):
         return None
+    before, after = ([_drawn(way.names(names), codes, program) for way in ways] for names in (own, STANDARD))
     encoding = graph.value(font, "Encoding")
     is_plain = encoding is None or isinstance(encoding, Dictionary) and "BaseEncoding" not in encoding
-    if not is_plain or any(it != before[0] for it in before):
+    if is_plain and all(it == before[0] for it in before):
+        return {**dict.fromkeys(codes, ".notdef"), **ways[0].names(own)}
+    if before != after:
         raise Unknown("its codes have more than one name")
-    return {**dict.fromkeys(codes, ".notdef"), **readings(font, graph)[0].names(own)}
+    return None
 
 
 def _drawn(names: Mapping[int, str], codes: Set[int], program: Program) -> List[str]:

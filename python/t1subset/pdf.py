@@ -203,7 +203,7 @@ def _spelled(
 ) -> Dict[str, Outcome]:
     """What becomes of the families that don't join for what their programs name codes, with dictionaries that name them."""
     found: Dict[str, List[Program]] = {}
-    for name in [name for name, outcome in outcomes.items() if outcome.is_of_encodings]:
+    for name in [name for name, outcome in outcomes.items() if outcome.kept or len(outcome.made) > 1]:
         them = spelled([it for it in families[name] if it.reason is None], graph, shown)
         if them is not None:
             found[name] = them

@@ -2,8 +2,9 @@
 
 from __future__ import annotations
 
+import random
 import unittest
-from typing import Any, Callable, List
+from typing import Any, Callable, Dict, List, Tuple, cast
 
 from . import left_out
 
@@ -13,8 +14,11 @@ except ImportError:
     left_out("pikepdf isn't installed: what PDFs draw")
     raise unittest.SkipTest("pikepdf isn't installed")
 
-from .fonts import changed
-from .pdfs import STAYS, Volume, cut, dictionary, differences, form, lines, name, pooled, resources, two
+import t1subset
+from t1subset import pdf
+
+from .fonts import CLEAR, PFA, changed, with_charstrings
+from .pdfs import STAYS, Volume, again, cut, dictionary, differences, form, lines, name, pooled, raw, resources, two
 
 Place = Callable[[Volume, Any, bytes], Any]
 
@@ -253,3 +257,86 @@ class Drawing(unittest.TestCase):
             (dictionary({"Differences": pikepdf.Array([pikepdf.String("odd")])}), "its Differences can't be read"),
         ):
             self.assertEqual(lines(two(Encoding=encoding)), [f"Tiny: one of 2 kept: {reason}"])
+
+
+# The codes of random texts, and what tables name them; Tiny has no glyph d, and no Acircumflex.
+CODES = b"ABHXYd\xc2"
+LETTERS = {code: chr(code) for code in CODES if code < 128}
+STANDARD, WIN = {**LETTERS, 194: "acute"}, {**LETTERS, 194: "Acircumflex"}
+# Tiny as it is, with another name for code 66, by the word StandardEncoding, and with another glyph Y.
+TABLE = CLEAR[CLEAR.index(b"/Encoding"):CLEAR.index(b"readonly def") + 12]
+VERSIONS = [
+    PFA,
+    t1subset.convert(changed(b"dup 66 /Y put", b"dup 66 /X put")),
+    t1subset.convert(changed(TABLE, b"/Encoding StandardEncoding def")),
+    t1subset.convert(with_charstrings({b"/Y": b"\x8b\xf7\x8e\x0d\x0e"})),
+]
+
+
+def encoding(chosen: random.Random) -> Dict[str, Any]:
+    """The Encoding of a font: none, a name, or some names of codes over a table or none."""
+    kind = chosen.randrange(4)
+    if kind < 2:
+        return {"Encoding": name("WinAnsiEncoding")} if kind else {}
+    them: List[Any] = []
+    for code in chosen.sample(CODES, 3):
+        them += [code, name(chosen.choice(["X", "Y", "H", "A", ".notdef", "lost"]))]
+    base = {"BaseEncoding": name("WinAnsiEncoding")} if kind == 3 else {}
+    return {"Encoding": dictionary({"Differences": pikepdf.Array(them), **base})}
+
+
+def glyphs(font: Any, codes: bytes) -> List[Any]:
+    """What these codes draw: by the Encoding over the program's own, by Differences alone over it, and over StandardEncoding."""
+    program = font.FontDescriptor.FontFile.read_bytes()
+    listed = t1subset.list(program)
+    own = STANDARD if isinstance(listed.encoding, str) else listed.encoding
+    told, names = font.get("/Encoding"), cast(Dict[int, str], {})
+    base = told if isinstance(told, pikepdf.Name) else None
+    if isinstance(told, pikepdf.Dictionary):
+        base, code = told.get("/BaseEncoding"), 0
+        for it in told.Differences:
+            if isinstance(it, pikepdf.Name):
+                names[code] = str(it)[1:]
+            code = code + 1 if isinstance(it, pikepdf.Name) else int(it)
+    ways = [{**own, **(WIN if base is not None else {}), **names}]
+    if int(font.FontDescriptor.Flags) & 4:
+        ways.append({**own, **names})
+    elif base is None:
+        ways.append({**STANDARD, **names})
+    drawn = [way.get(code, ".notdef") for way in ways for code in codes]
+    return [(it, private(program, it)) if it in listed.glyphs and it != ".notdef" else ".notdef" for it in drawn]
+
+
+def private(program: bytes, glyph: str) -> bytes:
+    """The private text of a font of this glyph alone, encrypted: equal where it draws the same."""
+    return raw(t1subset.rejoin([t1subset.subset(program, [glyph])])).partition(b"eexec\n")[2]
+
+
+def random_volume(seed: int) -> Tuple[Volume, Dict[int, bytes]]:
+    """A volume of papers, whose fonts are marked by a number, and the codes that are shown through each."""
+    chosen, made, shown = random.Random(seed), Volume(), {}
+    for number in range(chosen.randrange(2, 6)):
+        program = cut(*chosen.sample(["X", "Y", "H", "A", "acute"], 2), of=chosen.choice(VERSIONS[:chosen.randrange(1, 5)]))
+        font = made.font(program, flags=chosen.choice([4, 32]), Mark=number, **encoding(chosen))
+        shown[number] = bytes(chosen.sample(CODES, chosen.randrange(3)))
+        chosen.choice(PLACES[:-2])(made, font, shown[number])
+    return made, shown
+
+
+class Random(unittest.TestCase):
+    def test_what_is_shown_stays(self) -> None:
+        joined, kept = 0, 0
+        for seed in range(60):
+            made, shown = random_volume(seed)
+            for how in ({}, {"spell": True}):
+                with self.subTest(seed=seed, how=how):
+                    before, after = made.opened(), made.opened()
+                    report = pdf.pool(after, spell=bool(how))
+                    both = [{int(it.Mark): it for it in each.objects if isinstance(it, pikepdf.Dictionary) and "/Mark" in it} for each in (before, after)]
+                    self.assertEqual(both[0].keys(), shown.keys())
+                    for number, codes in shown.items():
+                        self.assertEqual(glyphs(both[0][number], codes), glyphs(both[1][number], codes), number)
+                    self.assertEqual(pdf.pool(again(after), spell=bool(how)).joins, ())
+                    joined, kept = joined + len(report.joins), kept + len(report.families) - len(report.joins)
+        # Both are tried often enough.
+        self.assertGreater(min(joined, kept), 20)
