@@ -24,7 +24,7 @@ class Unreadable(ValueError):
     """A content stream of which it isn't known what it shows."""
 
 
-MOST = 2_000_000
+MOST = 1_000_000
 """How many strings and how many events a content stream may have."""
 _REGULAR = rb"[^\0\t\n\f\r ()<>\[\]{}/%]"
 _SPACE = rb"[\0\t\n\f\r ]"
@@ -37,14 +37,18 @@ def _nested(depth: int) -> bytes:
     return rb"\([^()\\]*(?:(?:" + inner + rb")[^()\\]*)*\)"
 
 
+
+def _word(word: bytes, before: bytes = b"") -> bytes:
+    """An operator, behind white space, a delimiter, or one of these bytes. Each alternative of a pattern begins with a byte of its own, so that
+    a search is fast."""
+    return word + rb"(?<![^\0\t\n\f\r ()<>\[\]{}%" + before + rb"]" + word + rb")(?!" + _REGULAR + rb")"
+
+
 # Strings, and comments, which may hold what would be a string elsewhere.
-_APART = re.compile(rb"(" + _nested(2) + rb"|(?<!<)<(?!<)[0-9a-fA-F\0\t\n\f\r ]*>|%[^\r\n]*)", re.S)
-# Strings are gone where these are sought, and `()` stands for each. Some programs read an operator right behind a number.
-_OPERATOR = re.compile(
-    rb"/(?P<name>" + _REGULAR + rb"*)|(?P<open><<)|(?P<close>>>)|"
-    rb"(?<![^\0\t\n\f\r ()<>\[\]{}%0-9.])(?P<word>Tf|gs|Do|q|Q)(?!" + _REGULAR + rb")"
-)
-_IMAGE = re.compile(rb"(?<!" + _REGULAR + rb")(?<!/)BI(?!" + _REGULAR + rb")")
+_APART = re.compile(rb"(" + _nested(2) + rb"|<(?<!<<)(?!<)[0-9a-fA-F\0\t\n\f\r ]*>|%[^\r\n]*)", re.S)
+# Names, and what counts of operators; strings are gone, and `()` stands for each. Some programs read an operator right behind a number.
+_OPERATOR = re.compile(b"|".join([rb"/" + _REGULAR + rb"*", rb"<<", rb">>", *(_word(it, rb"0-9.") for it in (b"Tf", b"gs", b"Do", b"q", b"Q"))]))
+_IMAGE = re.compile(_word(b"BI"))
 _ESCAPE = re.compile(rb"\\(?:([0-7]{1,3})|(\r\n|.))|\r\n?", re.S)
 _ESCAPED = {b"n": b"\n", b"r": b"\r", b"t": b"\t", b"b": b"\b", b"f": b"\f", b"\n": b"", b"\r": b"", b"\r\n": b""}
 
@@ -100,17 +104,17 @@ def _events(code: bytes, strings: List[bytes]) -> List[Event]:
         used, last = used + count, until
 
     for token in _OPERATOR.finditer(code):
-        kind = token.lastgroup
-        if kind == "name":
-            name = token[0][1:]
+        sign = token[0]
+        if sign[0] == 47:
+            name = sign[1:]
             continue
         show(token.start())
-        if kind == "open":
+        if sign == b"<<":
             depth += 1
-        elif kind == "close":
+        elif sign == b">>":
             depth = max(0, depth - 1)
         else:
-            word = token[0].decode("ascii")
+            word = sign.decode("ascii")
             found.append(Event(word, None if word in (SAVE, RESTORE) else name_of(name)))
             if len(found) > MOST:
                 raise Unreadable("more than is kept")

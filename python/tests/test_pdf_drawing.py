@@ -88,7 +88,7 @@ def in_form_with_the_font_of_the_page(made: Volume, font: Any, text: bytes) -> N
 
 
 def in_orphaned_form(made: Volume, font: Any, text: bytes) -> None:
-    made.pdf.Root.Kept = form(made, selecting(text), Resources=resources(Font={"F": font}))
+    made.pdf.Root[f"/Kept{len(made.pdf.Root.keys())}"] = form(made, selecting(text), Resources=resources(Font={"F": font}))
 
 
 def in_pattern(made: Volume, font: Any, text: bytes) -> None:
