@@ -114,6 +114,8 @@ def pool(
     With `spell` fonts of a name that don't join since their programs name codes otherwise get an Encoding that names them. With
     `dictionaries` equal dictionaries of Type 1 fonts, and what stands in them, become one.
 
+    pikepdf moves what pages inherit into the pages where a PDF is opened, unless with `inherit_page_attributes=False`.
+
     Raises PdfRefused for a PDF that is signed, and for one with content that can't be read; the PDF is then as it was."""
     graph = Graph(pdf)
     if _is_signed(graph):
