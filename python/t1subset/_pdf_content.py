@@ -37,7 +37,6 @@ def _nested(depth: int) -> bytes:
     return rb"\([^()\\]*(?:(?:" + inner + rb")[^()\\]*)*\)"
 
 
-
 def _word(word: bytes, before: bytes = b"") -> bytes:
     """An operator, behind white space, a delimiter, or one of these bytes. Each alternative of a pattern begins with a byte of its own, so that
     a search is fast."""
@@ -86,10 +85,17 @@ def events(data: bytes) -> List[Event]:
     if not len(texts) - 1 == code.count(b"(") == code.count(b")") or code.count(b"<") != 2 * code.count(b"<<"):
         pieces = _slowly_apart(data)
         code = b"()".join(pieces[::2])
-    return _events(code, pieces[1::2])
+    try:
+        return _events(code, pieces[1::2], False)
+    except _Unbalanced:
+        return _events(code, pieces[1::2], True)
 
 
-def _events(code: bytes, strings: List[bytes]) -> List[Event]:
+class _Unbalanced(ValueError):
+    """A dictionary that doesn't end, or not before an operator: it isn't known which strings stand in it."""
+
+
+def _events(code: bytes, strings: List[bytes], is_all_shown: bool) -> List[Event]:
     found: List[Event] = []
     last, used, depth, name = 0, 0, 0, b""
 
@@ -109,16 +115,18 @@ def _events(code: bytes, strings: List[bytes]) -> List[Event]:
             name = sign[1:]
             continue
         show(token.start())
-        if sign == b"<<":
-            depth += 1
-        elif sign == b">>":
-            depth = max(0, depth - 1)
+        if sign in (b"<<", b">>"):
+            depth = 0 if is_all_shown else max(0, depth + (1 if sign == b"<<" else -1))
+        elif depth:
+            raise _Unbalanced
         else:
             word = sign.decode("ascii")
             found.append(Event(word, None if word in (SAVE, RESTORE) else name_of(name)))
             if len(found) > MOST:
                 raise Unreadable("more than is kept")
     show(len(code))
+    if depth:
+        raise _Unbalanced
     return found
 
 

@@ -19,6 +19,8 @@ _TAG = re.compile(r"(?:[A-Z]{6}\+)+(?=.)")
 # Names that are spelled in a PDF as they are.
 _PLAIN = re.compile(r"[!-~]+")
 _ODD = re.compile(r"[()<>\[\]{}/%#]")
+LONGEST, IN_ALL = 1 << 24, 1 << 30
+"""The most bytes that a program may have, and all that are kept."""
 _OF_STREAMS = {"Length", "Length1", "Length2", "Length3", "Filter", "DecodeParms", "DL"}
 
 
@@ -82,7 +84,7 @@ def programs(graph: Graph) -> Tuple[List[Program], List[Tuple[str, str]]]:
         if descriptor is not None:
             users.setdefault(descriptor.at, []).append(font)
     found: Dict[bytes, Program] = {}
-    others = []
+    others, left = [], IN_ALL
     for descriptor in graph.telling:
         if "FontFile3" in descriptor and "FontFile" not in descriptor:
             program_3 = graph.dictionary(descriptor, "FontFile3")
@@ -94,7 +96,7 @@ def programs(graph: Graph) -> Tuple[List[Program], List[Tuple[str, str]]]:
         if stream is None or not stream.is_stream:
             others.append((untagged(font_name(descriptor, graph)), "its FontFile is no stream"))
             continue
-        _add(found, graph, stream, descriptor, users.get(descriptor.at, []))
+        left -= _add(found, graph, descriptor, stream, users.get(descriptor.at, []), left)
     for program in found.values():
         names = {font_name(it, graph) for it in program.descriptors}
         program.name = min(map(untagged, names))
@@ -110,23 +112,26 @@ def font_name(descriptor: Dictionary, graph: Graph) -> str:
 
 
 def _add(
-    found: Dict[bytes, Program], graph: Graph, stream: Dictionary, descriptor: Dictionary, fonts: List[Dictionary]
-) -> None:
+    found: Dict[bytes, Program], graph: Graph, descriptor: Dictionary, stream: Dictionary, fonts: List[Dictionary], limit: int
+) -> int:
+    """Notes a descriptor and its stream, which may have so many bytes; how many are kept of it that weren't before."""
     data, reason = b"", None
     further = sorted(set(stream) - _OF_STREAMS)
     try:
-        data = graph.content(stream)
+        data = graph.content(stream, min(LONGEST, limit))
         if further:
             reason = f"its stream has {', '.join(further)}"
     except Undecodable as fault:
         reason = f"its stream {fault}"
     # A program with a reason of its own is not that of another stream.
     digest = hashlib.sha256(data).digest() if reason is None else repr(stream.at).encode()
+    is_new = digest not in found
     program = found.setdefault(digest, Program(data, digest, reason=reason))
     if all(stream.at != it.at for it in program.streams):
         program.streams.append(stream)
     program.descriptors.append(descriptor)
     program.fonts += fonts
+    return len(data) if is_new else 0
 
 
 def _unfit(program: Program, graph: Graph) -> Optional[str]:

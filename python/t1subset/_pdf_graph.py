@@ -255,11 +255,11 @@ class Graph:
             names.append(name + late + ("" if self.value(told, "Predictor") in (None, 1) else "+"))
         return names
 
-    def content(self, stream: Dictionary) -> bytes:
-        """The decoded bytes of a stream, or Undecodable."""
+    def content(self, stream: Dictionary, limit: int) -> bytes:
+        """The decoded bytes of a stream, or Undecodable, if they are more than so many, too."""
         made = self.handle(stream.at)
         try:
-            plain = decoded(made.read_raw_bytes(), self._filters(stream), self.longest)
+            plain = decoded(made.read_raw_bytes(), self._filters(stream), limit)
             return bytes(made.read_bytes()) if plain is None else plain
         except (pikepdf.PdfError, RuntimeError) as fault:
             raise Undecodable("can't be decoded") from fault

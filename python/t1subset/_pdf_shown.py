@@ -173,13 +173,22 @@ class Shown:
         key = tuple(it.at for it in streams)
         found = self._kept.get(key)
         if found is None:
-            found = content.events(b"\n".join(map(self.graph.content, streams)))
+            found = content.events(self._data(streams))
             self._count += len(found)
             if self._count > KEPT:
                 self._kept.clear()
                 self._count = len(found)
             self._kept[key] = found
         return found
+
+    def _data(self, streams: List[Dictionary]) -> bytes:
+        """The bytes of streams that follow one another, which may be one stream many times."""
+        parts: List[bytes] = []
+        left = self.graph.longest
+        for stream in streams:
+            parts.append(self.graph.content(stream, left))
+            left -= len(parts[-1])
+        return b"\n".join(parts)
 
     def _patterns(self, run: _Run, depth: int) -> bool:
         """The patterns and Type 3 fonts of a run's own resources, which begin with the fonts that it begins with."""

@@ -305,7 +305,10 @@ class Kept(unittest.TestCase):
         self.kept(holding(b"%!\nno font"), "no eexec")
         bomb = zlib.compress(zlib.compress(bytes(_pdf_filters.LONGEST + 1), 1))
         twice = pikepdf.Array([name("FlateDecode")] * 2)
-        self.kept(holding(bomb, Filter=twice), "its stream is longer than 134,217,728 bytes")
+        self.kept(holding(bomb, Filter=twice), "its stream is longer than 16,777,216 bytes")
+        all_others = sum(len(raw(cut(glyph))) for glyph in "XY")
+        with unittest.mock.patch.object(_pdf_fonts, "IN_ALL", all_others + 9):
+            self.kept(holding(zlib.compress(raw(cut("H"))), Filter=name("FlateDecode")), "its stream is longer than 9 bytes")
         self.kept_beside(
             lambda made, font, descriptor: descriptor.__setitem__("/FontFile", 1), "Tiny: one of 3 kept: its FontFile is no stream"
         )
@@ -379,6 +382,14 @@ class Refused(unittest.TestCase):
         made.page(b"% <41> (b)\n" * 50)
         with unittest.mock.patch.object(_pdf_content, "MOST", 149):
             self.refused(made, "2 content streams can't be read")
+
+    def test_a_stream_that_stands_many_times(self) -> None:
+        made = two()
+        part = made.stream(zlib.compress(b" " * 10**7), Filter=name("FlateDecode"))
+        made.page(pikepdf.Array([part] * 13))
+        self.assertRegex(lines(made)[0], "^Tiny: 2 fonts joined")
+        made.page(pikepdf.Array([part] * 14))
+        self.refused(made, "1 content stream can't be read")
 
     def test_content_is_not_read_where_nothing_joins(self) -> None:
         made = Volume()
