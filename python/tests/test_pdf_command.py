@@ -39,6 +39,11 @@ def volume() -> Volume:
     return made
 
 
+class Terminal(io.StringIO):
+    def isatty(self) -> bool:
+        return True
+
+
 class Command(unittest.TestCase):
     def setUp(self) -> None:
         room = tempfile.TemporaryDirectory()
@@ -89,6 +94,13 @@ class Command(unittest.TestCase):
             status, told, _ = self.run_in(*words)
             self.assertEqual((status, os.listdir(self.room)), (0, ["in.pdf"]))
             self.assertRegex(told, "^Tiny: 2 fonts joined")
+
+    def test_progress_is_for_a_terminal(self) -> None:
+        given, out, err = self.path("in.pdf", volume().bytes()), io.StringIO(), Terminal()
+        with contextlib.redirect_stdout(out), contextlib.redirect_stderr(err):
+            self.assertEqual(pdf.main([self.path("out.pdf"), given]), 0)
+        self.assertIn("\r\x1b[Kreading pages: 0 of 4", err.getvalue())
+        self.assertTrue(err.getvalue().endswith("\r\x1b[K"))
 
     def test_two_runs_differ_in_the_id_alone(self) -> None:
         data, found = volume().bytes(), []
