@@ -357,17 +357,31 @@ def found_out(library, words, program, numbers):
             sys.exit("another number of a refusal is not seen")
 
 
+def has_module(interpreter, name):
+    return not subprocess.run([interpreter, "-c", f"import {name}"], capture_output=True).returncode
+
+
+def python_of_tests():
+    """This Python, or that of the system if that one alone has pikepdf, which the tests of PDFs need."""
+    for interpreter in filter(None, [sys.executable, shutil.which("python3", path="/usr/bin")]):
+        if has_module(interpreter, "pikepdf"):
+            return interpreter
+    say("no pikepdf: the tests of PDFs are left out")
+    return sys.executable
+
+
 def other_languages(library, program):
     """The tests of the packages for Python and Rust, over this library."""
     env = {**os.environ, "LIBT1SUBSET": library.folder + "/libt1subset.so.0", "T1SUBSET_LIB_DIR": library.folder}
     env.update(T1SUBSET=program, LD_LIBRARY_PATH=library.folder, CARGO_TARGET_DIR=os.path.join(library.work, "cargo"))
     python, rust = os.path.join(TOP, "python"), os.path.join(TOP, "rust")
     if os.path.isdir(python):
-        has_pytest = not subprocess.run([sys.executable, "-c", "import pytest"], capture_output=True).returncode
+        interpreter = python_of_tests()
+        has_pytest = has_module(interpreter, "pytest")
         if not has_pytest:
             say("no pytest: the Python tests run by unittest")
         words = ["pytest", "-q", "-p", "no:cacheprovider", "tests"] if has_pytest else ["unittest", "discover", "-s", "tests", "-t", "."]
-        ran([sys.executable, "-m", *words], cwd=python, env=env)
+        ran([interpreter, "-m", *words], cwd=python, env=env)
         say(f"python: the tests pass by {words[0]}")
     else:
         say("no folder python: its tests were left out")

@@ -19,6 +19,8 @@ A font of 1 MB can be made so that a call that runs its glyphs takes minutes. su
 which bound what is run without a clock; list_full, pool, level and fonts have no such limit: a service that opens files
 of strangers should limit the time of these from outside, for instance in a process of its own.
 
+t1subset.pdf makes each Type 1 font of a PDF stand there once; it is not imported here, since it needs pikepdf.
+
 The library is that of the environment variable LIBT1SUBSET, a path; else the loader's libt1subset.so.0; else the one
 that the repository built, if this package stands in it.
 """
