@@ -455,6 +455,13 @@ class Options(unittest.TestCase):
         encoding = found.pages[0].Resources.Font.F.Encoding
         self.assertEqual(list(map(str, encoding.Differences)), ["65", "/X", "88", "/.notdef"])
 
+    def test_what_differs_otherwise_is_not_spelled(self) -> None:
+        made = papers([(cut("X"), b"A"), (cut("Y"), b"B"), (cut("Y", of=OTHER), b"B")])
+        found = pooled(made, spell=True)
+        self.assertEqual(len(files(found)), 2)
+        self.assertTrue(all("/Encoding" not in it for it in fonts_of(found)))
+        self.assertEqual(lines(made, spell=True), lines(made))
+
     def test_what_is_named_already_is_not_spelled(self) -> None:
         made = Volume()
         made.showing(made.font(cut("X"), Encoding=name("WinAnsiEncoding"), flags=32), b"X")
