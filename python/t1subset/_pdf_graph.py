@@ -10,7 +10,7 @@ from typing import Any, Container, Dict, Iterator, List, Match, NamedTuple, Opti
 
 import pikepdf
 
-from ._pdf_filters import LONGEST, Undecodable, decoded
+from ._pdf_filters import Undecodable, decoded
 
 
 class Name(str):
@@ -140,8 +140,8 @@ class Graph:
     """The objects that can be reached from the trailer. `telling` has the dictionaries among them that say something of fonts,
     content or signatures, in the order of their numbers."""
 
-    def __init__(self, pdf: pikepdf.Pdf, longest: int = LONGEST) -> None:
-        self.pdf, self.longest = pdf, longest
+    def __init__(self, pdf: pikepdf.Pdf) -> None:
+        self.pdf = pdf
         self._values: Dict[Ref, Any] = {}
         self.trailer = parsed(pdf.trailer.unparse(), None)
         self.telling = list(self._dictionaries(self._reach()))

@@ -6,7 +6,7 @@ from typing import Any, Callable, Dict, FrozenSet, Iterator, List, Optional, Set
 
 from . import _pdf_content as content
 from ._pdf_content import Event, Unreadable
-from ._pdf_filters import Undecodable
+from ._pdf_filters import LONGEST, Undecodable
 from ._pdf_graph import Dictionary, Graph, Place
 
 Fonts = FrozenSet[Place]
@@ -184,7 +184,7 @@ class Shown:
     def _data(self, streams: List[Dictionary]) -> bytes:
         """The bytes of streams that follow one another, which may be one stream many times."""
         parts: List[bytes] = []
-        left = self.graph.longest
+        left = LONGEST
         for stream in streams:
             parts.append(self.graph.content(stream, left))
             left -= len(parts[-1])

@@ -385,11 +385,12 @@ class Refused(unittest.TestCase):
 
     def test_a_stream_that_stands_many_times(self) -> None:
         made = two()
-        part = made.stream(zlib.compress(b" " * 10**7), Filter=name("FlateDecode"))
+        part = made.stream(b" " * 1000)
         made.page(pikepdf.Array([part] * 13))
-        self.assertRegex(lines(made)[0], "^Tiny: 2 fonts joined")
-        made.page(pikepdf.Array([part] * 14))
-        self.refused(made, "1 content stream can't be read")
+        with unittest.mock.patch.object(_pdf_shown, "LONGEST", 13_500):
+            self.assertRegex(lines(made)[0], "^Tiny: 2 fonts joined")
+            made.page(pikepdf.Array([part] * 14))
+            self.refused(made, "1 content stream can't be read")
 
     def test_content_is_not_read_where_nothing_joins(self) -> None:
         made = Volume()
@@ -453,6 +454,13 @@ class Options(unittest.TestCase):
         self.assertEqual(len(files(found)), 1)
         encoding = found.pages[0].Resources.Font.F.Encoding
         self.assertEqual(list(map(str, encoding.Differences)), ["65", "/X", "88", "/.notdef"])
+
+    def test_what_differs_otherwise_is_not_spelled(self) -> None:
+        made = papers([(cut("X"), b"A"), (cut("Y"), b"B"), (cut("Y", of=OTHER), b"B")])
+        found = pooled(made, spell=True)
+        self.assertEqual(len(files(found)), 2)
+        self.assertTrue(all("/Encoding" not in it for it in fonts_of(found)))
+        self.assertEqual(lines(made, spell=True), lines(made))
 
     def test_what_is_named_already_is_not_spelled(self) -> None:
         made = Volume()

@@ -326,7 +326,7 @@ def random_volume(seed: int) -> Tuple[Volume, Dict[int, bytes]]:
 class Random(unittest.TestCase):
     def test_what_is_shown_stays(self) -> None:
         joined, kept = 0, 0
-        for seed in range(60):
+        for seed in range(25):
             made, shown = random_volume(seed)
             for how in ({}, {"spell": True}):
                 with self.subTest(seed=seed, how=how):
@@ -339,4 +339,4 @@ class Random(unittest.TestCase):
                     self.assertEqual(pdf.pool(again(after), spell=bool(how)).joins, ())
                     joined, kept = joined + len(report.joins), kept + len(report.families) - len(report.joins)
         # Both are tried often enough.
-        self.assertGreater(min(joined, kept), 20)
+        self.assertGreater(min(joined, kept), 15)
