@@ -71,6 +71,7 @@ debian_package() {
     gzip -9n < CHANGELOG.md > "$pages/changelog.gz"
     cp LICENSE "$pages/copyright"
     for file in $(sources python/t1subset); do install -D -m 644 "$file" "$tree/usr/lib/python3/dist-packages/${file#python/}"; done
+    install -m 755 packaging/t1subset-pdf "$tree/usr/bin/t1subset-pdf"
     sed -e "s|@VERSION@|$version|" -e "s|@ARCHITECTURE@|$architecture|" -e "s|@SIZE@|$(size_of "$tree/usr")|" \
         -e "s|@LIBC@|$libc|" packaging/debian.in > "$tree/DEBIAN/control"
     echo "libt1subset ${version%%.*} t1subset (>= $version)" > "$tree/DEBIAN/shlibs"

@@ -481,6 +481,24 @@ def pooled_documents(program):
     check(dvips and {dvips[at] for at in (1, 3, 5, 7)} == {"4"} and int(dvips[4]) < int(dvips[2]), out)
 
 
+def pooled_pdfs(library):
+    """tools/pdf_producers.py pools two PDFs by pdfTeX, whose pages stay right."""
+    if lacks("tools/pdf_producers.py", ["pdftex", "pdftoppm"]):
+        return
+    pythons = [python for python in dict.fromkeys([sys.executable, "/usr/bin/python3"]) if os.path.exists(python)]
+    able = [python for python in pythons if not subprocess.run([python, "-c", "import pikepdf"], capture_output=True).returncode]
+    if not able:
+        say("no python3-pikepdf: tools/pdf_producers.py was left out")
+        return
+    env = {**os.environ, "LIBT1SUBSET": os.path.join(library, "libt1subset.so.0")}
+    out = printed([able[0], os.path.join(TOP, "tools/pdf_producers.py"), "2"], env=env)
+    rows = [[cell.strip() for cell in line.split("|")[1:-1]] for line in out.splitlines()]
+    pdftex = next((row for row in rows if row[:1] == ["pdfTeX"]), None)
+    check(pdftex and pdftex[1] == pdftex[6] == "4" and int(pdftex[4]) > 0, out)
+    env["PYTHONPATH"] = os.path.join(TOP, "python")
+    check("OUT.pdf IN.pdf" in printed([able[0], os.path.join(TOP, "packaging/t1subset-pdf"), "--help"], env=env), "t1subset-pdf tells no usage")
+
+
 def library_of(folder):
     """The folder of the library that tools/build_library.sh makes of the archive that the gate leaves, or None."""
     if not (compiler() and os.path.exists(os.path.join(TOP, "crates/t1_c/out/libt1_c.a"))):
@@ -509,6 +527,7 @@ def main():
         hostile(program)
         if library:
             calls(program, library)
+            pooled_pdfs(library)
         producers(program)
         pooled_documents(program)
     say("specimens show what the fonts draw, and the scripts run")
