@@ -481,8 +481,8 @@ def pooled_documents(program):
     check(dvips and {dvips[at] for at in (1, 3, 5, 7)} == {"4"} and int(dvips[4]) < int(dvips[2]), out)
 
 
-def pooled_pdfs(library):
-    """tools/pdf_producers.py pools two PDFs by pdfTeX, whose pages stay right."""
+def pooled_pdfs(library, folder):
+    """tools/pdf_producers.py pools two PDFs by pdfTeX, whose pages stay right; examples/pool-pdf.sh pools three, and t1subset-pdf tells its usage."""
     if lacks("tools/pdf_producers.py", ["pdftex", "pdftoppm"]):
         return
     pythons = [python for python in dict.fromkeys([sys.executable, "/usr/bin/python3"]) if os.path.exists(python)]
@@ -495,6 +495,9 @@ def pooled_pdfs(library):
     rows = [[cell.strip() for cell in line.split("|")[1:-1]] for line in out.splitlines()]
     pdftex = next((row for row in rows if row[:1] == ["pdfTeX"]), None)
     check(pdftex and pdftex[1] == pdftex[6] == "4" and int(pdftex[4]) > 0, out)
+    if not lacks("examples/pool-pdf.sh", ["qpdf"]):
+        out = printed([os.path.join(TOP, "examples/pool-pdf.sh"), folder], env={**env, "PYTHON": able[0]})
+        check("CMR10: 3 fonts joined" in out and "with the same pages" in out, out)
     env["PYTHONPATH"] = os.path.join(TOP, "python")
     check("OUT.pdf IN.pdf" in printed([able[0], os.path.join(TOP, "packaging/t1subset-pdf"), "--help"], env=env), "t1subset-pdf tells no usage")
 
@@ -527,7 +530,7 @@ def main():
         hostile(program)
         if library:
             calls(program, library)
-            pooled_pdfs(library)
+            pooled_pdfs(library, os.path.join(folder, "pdfs"))
         producers(program)
         pooled_documents(program)
     say("specimens show what the fonts draw, and the scripts run")
