@@ -37,9 +37,21 @@ pub fn level_to(alloc: Global, texts: &[&[u8]], want: &[&[u8]]) -> Result<bool, 
     )
 }
 
+/// Whether documents have so many places, and are levelled to these.
+fn are_right(alloc: Global, texts: &[&[u8]], want: &[&[u8]], places: usize) -> bool {
+    place_count(alloc, texts) == Ok(places) && level_to(alloc, texts, want) == Ok(true)
+}
+
 /// A document with this font text.
 fn document(alloc: Global, font: &[u8], end: &[u8]) -> Result<Vec<u8>, AllocError> {
     joined(alloc, &[b"%!\n", BEGIN, font, END, end])
+}
+
+/// So many times a text.
+fn times(alloc: Global, text: &[u8], count: usize) -> Result<Vec<&[u8]>, AllocError> {
+    let mut many = Vec::new(alloc);
+    many.resize(count, text)?;
+    Ok(many)
 }
 
 // meets read_documents Ok at 0, 2, 300 documents
@@ -53,20 +65,16 @@ fn levelled_together(rt: HostRuntime) -> Result<(), Fail> {
     let a = document(alloc, x.as_slice(), b"one\n")?;
     let b = document(alloc, whole.as_slice(), b"two\n")?;
     let new = document(alloc, whole.as_slice(), b"one\n")?;
-    let mut many = Vec::new(alloc);
-    many.resize(300, a.as_slice())?;
-    let rows: &[(&[&[u8]], &[&[u8]], usize)] = &[
-        (&[], &[], 0),
-        (
+    let many = times(alloc, a.as_slice(), 300)?;
+    assert!(rt; are_right(alloc, &[], &[], 0));
+    assert!(rt;
+        are_right(
+            alloc,
             &[a.as_slice(), b.as_slice()],
             &[new.as_slice(), b.as_slice()],
-            2,
-        ),
-        (many.as_slice(), many.as_slice(), 300),
-    ];
-    for &(texts, want, places) in rows {
-        assert!(rt; level_to(alloc, texts, want) == Ok(true), "{places}");
-        assert!(rt; place_count(alloc, texts) == Ok(places), "{places}");
-    }
+            2
+        )
+    );
+    assert!(rt; are_right(alloc, many.as_slice(), many.as_slice(), 300));
     Ok(())
 }
