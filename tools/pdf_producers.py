@@ -7,7 +7,7 @@ The PDFs of a program have other words in the same fonts. A volume is joined by 
 `t1subset-pdf --dictionaries`. Each page is drawn by those of poppler, MuPDF and Ghostscript that are here, at 72 and at 200 dots an inch; a page
 is right if each image is, byte for byte, that of the volume before. pdftotext has to find the same text, and qpdf no fault. Prints a table: the
 pages, the bytes of the volume and of the pooled one, how many fonts are made and for how many reasons others stay, and how many pages
-are right; and behind it what is told of those that stay. Ends with status 1 if a page, a text or a file is wrong.
+are right; and behind it what is told of those that stay. Ends with status 1 if a page, a text or a file is wrong, or a volume can't be pooled.
 
 --spell pools by `--spell`, too. --keep leaves the volumes in FOLDER, as PROGRAM.pdf and PROGRAM.pooled.pdf.
 
@@ -204,9 +204,14 @@ def main():
             continue
         with tempfile.TemporaryDirectory() as folder:
             try:
-                row, stays, faulty = tried(name, list(made(make, asked.count, folder)), asked.keep or folder, ["--spell"] if asked.spell else [])
+                paths = list(made(make, asked.count, folder))
             except (Failed, OSError) as why:
                 told.append(f"{name}: left out, {why}")
+                continue
+            try:
+                row, stays, faulty = tried(name, paths, asked.keep or folder, ["--spell"] if asked.spell else [])
+            except (Failed, OSError) as why:
+                wrong.append(f"{name}: WRONG: {why}")
                 continue
         print(row, flush=True)
         told += [f"{name}: {line}" for line in stays]
