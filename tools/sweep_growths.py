@@ -224,6 +224,8 @@ def built_tests(crate):
         if not tests_of(home):
             continue
         path = os.path.join(TOP, "crates", home, "out", home + "_tests")
+        if not os.path.exists(path):
+            sys.exit(f"{home}: its tests aren't built")
         listed = subprocess.run([path, "--list"], capture_output=True, text=True, check=True).stdout
         for name in re.findall(r"^(.*): test$", listed, re.M):
             word = name.rsplit("::", 1)[-1]
