@@ -1,7 +1,7 @@
 -- Heads without the test whether their font was loaded before, which asks PostScript's FontDirectory for it.
 use Rattle.std.specs.Prelude.{◌≡◌, ℕ, ◌==◌, ◌&&◌, ◌||◌, not, Bool, false, List, [], ◌∷◌, ◌++◌, length, drop, codes, Option, Some, None, is_some, if◌then◌else◌}
 use Rattle.std.{specs.Str.{bytes_eq}, proofs.Common.{refl}}
-use Rattle.t1_grammar.specs.{Grammar.{Grammar, pure, ◌>>=◌, ◌>>◌, that, before, count, fixed, first, Begins}, Places.{occurs}}
+use Rattle.t1_grammar.specs.{Grammar.{Grammar, pure, ◌>>=◌, ◌>>◌, that, before, count, fixed, either, first, Begins}, Places.{occurs}}
 use Rattle.t1_bytes.specs.{White.{white}, FlatText.{starts_segment}, Eexec.{eexec_marker}}
 use Rattle.t1_text.specs.{declared.dialect.Spacing.TheVariants.{White}, Words.{is_regular, regular_comes, keyword, decimal, next_name}, Markers.{encoding_marker}}
 
@@ -42,10 +42,17 @@ literal name = do
 abbrev pub if_known : List (List ℕ)
 if_known = codes "known" ∷ codes "{" ∷ []
 
--- findfont dup /UniqueID known { dup /UniqueID get
+-- known pop false {
+abbrev pub if_false : List (List ℕ)
+if_false = codes "known" ∷ codes "pop" ∷ codes "false" ∷ codes "{" ∷ []
+
+-- findfont dup /UniqueID
+abbrev pub ask_number : List (List ℕ)
+ask_number = codes "findfont" ∷ codes "dup" ∷ codes "/UniqueID" ∷ []
+
+-- dup /UniqueID get
 abbrev pub get_number : List (List ℕ)
-get_number =
-    codes "findfont" ∷ codes "dup" ∷ codes "/UniqueID" ∷ codes "known" ∷ codes "{" ∷ codes "dup" ∷ codes "/UniqueID" ∷ codes "get" ∷ []
+get_number = codes "dup" ∷ codes "/UniqueID" ∷ codes "get" ∷ []
 
 -- eq exch /FontType get 1 eq and } { pop false } ifelse
 abbrev pub is_same : List (List ℕ)
@@ -67,15 +74,21 @@ known_name = do
   test_tokens if_known
   literal name
 
+-- known {, or known pop false {, with which cairo makes the answer false
+unfoldable pub if_numbered : Grammar (Unit {0})
+if_numbered = either (test_tokens if_known) (test_tokens if_false)
+
 -- findfont dup /UniqueID known { dup /UniqueID get NUMBER
 unfoldable pub known_number : Grammar ℕ
 known_number = do
+  test_tokens ask_number
+  if_numbered
   test_tokens get_number
   white
   decimal
 
 -- FontDirectory /NAME known { /NAME findfont dup /UniqueID known { dup /UniqueID get NUMBER eq exch /FontType get 1 eq and }
--- { pop false } ifelse { save true } { false } ifelse } { false } ifelse
+-- { pop false } ifelse { save true } { false } ifelse } { false } ifelse, with known pop false { in place of the second known {, or not
 unfoldable pub font_test : Grammar (Unit {0})
 font_test = do
   known_name

@@ -7,7 +7,7 @@ ghost use Rattle.std.specs.Prelude.{◌≡◌, ℕ, List, ◌++◌, ◌∷◌, �
 ghost use Rattle.std.specs.{Prelude.{if◌then◌else◌}, Option.{option_map}};
 ghost use Rattle.t1_grammar.specs.Grammar.{first};
 ghost use Rattle.t1_bytes.specs.Eexec.{blank_comes};
-ghost use Rattle.t1_text.specs.FontTest.{is_brace, get_number, is_same, then_save, token, test_tokens, literal, known_name, known_number, font_test, precedes_test, found_test, place_and_around};
+ghost use Rattle.t1_text.specs.FontTest.{is_brace, if_false, ask_number, get_number, is_same, then_save, token, test_tokens, literal, known_name, if_numbered, known_number, font_test, precedes_test, found_test, place_and_around};
 ghost use Rattle.t1_text.specs.FontTest.{eexec_there, test_begins, eexec_begins, has_marker, is_untested, untested, taken_test};
 
 use crate::markers::{EncodingMarker, Marker, first};
@@ -18,20 +18,25 @@ use t1_bytes::texts::{fixed_at, gap_at, white_at};
 /// `known {`
 const IF_KNOWN: &[&[u8]] = &[b"known", b"{"];
 
-/// `findfont dup /UniqueID known { dup /UniqueID get`
+/// `known pop false {`
+fn if_false() -> &'static [&'static [u8]]
+    ensures { map (λ w. w.now) result.now ≡ if_false }
+{
+    &[b"known", b"pop", b"false", b"{"]
+}
+
+/// `findfont dup /UniqueID`
+fn ask_number() -> &'static [&'static [u8]]
+    ensures { map (λ w. w.now) result.now ≡ ask_number }
+{
+    &[b"findfont", b"dup", b"/UniqueID"]
+}
+
+/// `dup /UniqueID get`
 fn get_number() -> &'static [&'static [u8]]
     ensures { map (λ w. w.now) result.now ≡ get_number }
 {
-    &[
-        b"findfont",
-        b"dup",
-        b"/UniqueID",
-        b"known",
-        b"{",
-        b"dup",
-        b"/UniqueID",
-        b"get",
-    ]
+    &[b"dup", b"/UniqueID", b"get"]
 }
 
 /// `eq exch /FontType get 1 eq and } { pop false } ifelse`
@@ -122,12 +127,25 @@ fn known_name_at(bytes: &[u8]) -> Option<&[u8]>
     literal_at(rest, name)
 }
 
+/// What stands behind `known {` or `known pop false {`.
+#[tactic(auto, unfolding(crate::specs::FontTest::if_numbered))]
+fn if_numbered_at(bytes: &[u8]) -> Option<&[u8]>
+    ensures { option_map (λ r. r.now) result ≡ option_map (λ x. x.1) (if_numbered.read bytes.now) }
+{
+    match tokens_at(bytes, IF_KNOWN) {
+        Some(rest) => Some(rest),
+        None => tokens_at(bytes, if_false()),
+    }
+}
+
 /// What stands behind the question whether its number is known.
 #[tactic(auto, unfolding(crate::specs::FontTest::known_number))]
 fn known_number_at(bytes: &[u8]) -> Option<&[u8]>
     ensures { option_map (λ r. r.now) result ≡ option_map (λ x. x.1) (known_number.read bytes.now) }
 {
-    let rest = tokens_at(bytes, get_number())?;
+    let rest = tokens_at(bytes, ask_number())?;
+    let rest = if_numbered_at(rest)?;
+    let rest = tokens_at(rest, get_number())?;
     let (_, rest) = white_at(rest);
     let (_, rest) = decimal_at(rest)?;
     Some(rest)
