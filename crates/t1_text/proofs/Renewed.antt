@@ -2,15 +2,15 @@
 use Rattle.std.proofs.Common.{◌≡◌, ℕ, zero, suc, ◌≤◌, ◌<◌, arith, Bool, true, false, cond, List, [], ◌∷◌, ◌++◌, length, Option, Some, None, refl, sym, ap, subst, ◌∙◌}
 use Rattle.std.proofs.{Common.{append_assoc, true≢false}, lemmas.List.{length-append, append-nil}, lemmas.Grind.{flat_map-append}}
 use Rattle.std.proofs.{lemmas.Bool.{eqb-true}, lemmas.Slice.Eq.{bytes_eq-Decides}}
-use Rattle.std.specs.{Prelude.{◌-◌, not, ◌==◌, ◌||◌}, List.{AllByRecursion, list_any, flat_map}}
+use Rattle.std.specs.{Prelude.{◌-◌, not, ◌==◌, ◌||◌, codes}, List.{AllByRecursion, list_any, flat_map}}
 use Rattle.t1_bytes.specs.Eexec.{is_blank}
 use Rattle.t1_grammar.specs.Grammar.{Stops}
 use Rattle.t1_text.specs.{Words.{is_regular}, Rewriting.{Piece, pieces, parted}, Squeezing.{ends_line, one_space, is_solid, squeezed_piece, squeezed}}
-use Rattle.t1_text.specs.Identity.{identity_line, is_in_line, with_end, without_line, unnumbered_piece, unnumbered}
+use Rattle.t1_text.specs.Identity.{identity_line, identity_comment, is_in_line, with_end, without_line, without_comment, unnumbered_piece, unnumbered}
 use Rattle.t1_text.specs.Tags.{renamed, untagged_piece, text_untagged}
-use Rattle.t1_text.specs.Renewing.{some_word, words_behind, words, untagged_words, Renews, none, stays, goes, SqueezedWords}
+use Rattle.t1_text.specs.Renewing.{some_word, words_behind, words, untagged_words, Renews, none, stays, goes, empties, SqueezedWords}
 use Rattle.t1_text.proofs.Untested.{not_true}
-use Rattle.t1_text.proofs.RewritingLemmas.{squeezed_takes, untagged_takes, one_piece, piece_at, solid_stays, parted_next, parted_whole, parted_some, numbered_some}
+use Rattle.t1_text.proofs.RewritingLemmas.{squeezed_takes, untagged_takes, one_piece, piece_at, solid_stays, parted_next, parted_whole, parted_some, numbered_some, commented_two}
 
 -- ---- words
 
@@ -156,6 +156,21 @@ line_ends own rest s =
           ∙ five_parts s.1 a.1 b.1 c.1 (10 ∷ [])),
     )
 
+-- and so does such a comment
+comment_ends : (own rest : List ℕ) → identity_comment.Spells tt own rest → (body : List ℕ) × (own ≡ body ++ 10 ∷ [])
+unfolding identity_comment
+comment_ends own rest s =
+    let e = line_ends s.2 rest s.5 in
+    (s.1 ++ e.0, s.3 ∙ (ap (λ (v : List ℕ). s.1 ++ v) e.1 ∙ sym (append_assoc s.1 e.0 (10 ∷ []))))
+
+-- words that end with LF are those of a text before what stands behind it
+ended_words : (own rest : List ℕ) → (body : List ℕ) × (own ≡ body ++ 10 ∷ []) → words (own ++ rest) ≡ words own ++ words rest
+unfolding words_behind
+ended_words own rest ends =
+    let alone : words own ≡ words ends.0 ++ [] = ap words ends.1 ∙ words_apart [] ends.0 10 [] refl in
+    ap words (ap (λ (v : List ℕ). v ++ rest) ends.1 ∙ append_assoc ends.0 (10 ∷ []) rest)
+    ∙ (words_apart [] ends.0 10 rest refl ∙ ap (λ (l : List (List ℕ)). l ++ words rest) (sym (append-nil (words ends.0)) ∙ sym alone))
+
 -- words that stay before others that are renewed
 all_stay : (ws old new : List (List ℕ)) → Renews None old new → Renews None (ws ++ old) (ws ++ new)
 all_stay [] old new h = h
@@ -169,12 +184,12 @@ no_pieces : (piece : Piece) (n : ℕ) → pieces piece n [] ≡ []
 no_pieces piece zero = refl
 no_pieces piece (suc n) = refl
 
--- a text loses the words of lines that number its font, and no other
+-- a text loses the words of lines that number its font, in comments too, and no other
 unnumbered_so : (n : ℕ) (t : List ℕ) → length t ≤ n → Renews None (words t) (words (pieces unnumbered_piece n t))
 unfolding unnumbered_piece words_behind
 unnumbered_so n [] le = subst (λ (v : List ℕ). Renews None (words []) (words v)) (sym (no_pieces unnumbered_piece n)) (same_renews (words []))
 unnumbered_so zero (b ∷ bs) le = absurd (omega (arith, le))
-unnumbered_so (suc n) (b ∷ bs) le = by_line (identity_line.read (b ∷ bs)) refl (λ rest less. unnumbered_so n rest (omega (arith, le, less)))
+unnumbered_so (suc n) (b ∷ bs) le = by_comment (identity_comment.read (b ∷ bs)) refl (λ rest less. unnumbered_so n rest (omega (arith, le, less)))
   where
     text : List ℕ
     text = b ∷ bs
@@ -203,15 +218,23 @@ unnumbered_so (suc n) (b ∷ bs) le = by_line (identity_line.read (b ∷ bs)) re
         by_end (parted is_in_line text).0 (parted is_in_line text).1 (parted_whole is_in_line text) (front_stops is_in_line text) later
     by_line (Some x) e later =
         let s = identity_line.takes text x e in
-        let ends = line_ends s.0 x.1 s.2 in
-        let own : words s.0 ≡ words ends.0 ++ [] = ap words ends.1 ∙ words_apart [] ends.0 10 [] refl in
-        let whole : words text ≡ words s.0 ++ words x.1 =
-        ap words (s.1 ∙ (ap (λ (v : List ℕ). v ++ x.1) ends.1 ∙ append_assoc ends.0 (10 ∷ []) x.1))
-        ∙ (words_apart [] ends.0 10 x.1 refl
-        ∙ ap (λ (l : List (List ℕ)). l ++ words x.1) (sym (append-nil (words ends.0)) ∙ sym own)) in
+        let whole : words text ≡ words s.0 ++ words x.1 = ap words s.1 ∙ ended_words s.0 x.1 (line_ends s.0 x.1 s.2) in
         subst (λ (l : List (List ℕ)). Renews None l (words (pieces unnumbered_piece n x.1))) (sym whole)
         (goes (words s.0) (words x.1) (words (pieces unnumbered_piece n x.1)) (record { text = s.0; behind = x.1; numbers = s.2; are = refl })
         (later x.1 (omega (arith, ap length s.1, length-append s.0 x.1, numbered_some s.0 x.1 s.2))))
+
+    by_comment : (o : Option (Unit {0} × List ℕ)) → identity_comment.read text ≡ o →
+        ((u : List ℕ) → length u < length text → Renews None (words u) (words (pieces unnumbered_piece n u))) →
+        Renews None (words text) (words ((without_comment text o).0 ++ pieces unnumbered_piece n (without_comment text o).1))
+    by_comment None e later = by_line (identity_line.read text) refl later
+    by_comment (Some x) e later =
+        let s = identity_comment.takes text x e in
+        let out = pieces unnumbered_piece n x.1 in
+        let whole : words text ≡ words s.0 ++ words x.1 = ap words s.1 ∙ ended_words s.0 x.1 (comment_ends s.0 x.1 s.2) in
+        let left : words (codes "%\n" ++ out) ≡ codes "%" ∷ words out = words_apart [] (codes "%") 10 out refl in
+        subst (λ (l : List (List ℕ) × List (List ℕ)). Renews None l.0 l.1) (λ i. (sym whole i, sym left i))
+        (empties (words s.0) (words x.1) (words out) (record { text = s.0; behind = x.1; numbers = s.2; are = refl })
+        (later x.1 (omega (arith, ap length s.1, length-append s.0 x.1, commented_two s.0 x.1 s.2))))
 
 pub unnumbered_renews : (t : List ℕ) → Renews None (words t) (words (unnumbered t))
 unnumbered_renews t = unnumbered_so (length t) t (omega arith)
@@ -347,6 +370,8 @@ bare_words_are name t = each_bare name (length t) t (omega arith)
 
 -- words that are renewed, and then lose tags
 pub tags_go : (name : List ℕ) (old mid : List (List ℕ)) → Renews None old mid → Renews (Some name) old (flat_map (untagged_words (Some name)) mid)
+unfolding words_behind
 tags_go name _ _ none = none
 tags_go name _ _ (stays w old new h) = stays w old (flat_map (untagged_words (Some name)) new) (tags_go name old new h)
 tags_go name _ _ (goes line old new k h) = goes line old (flat_map (untagged_words (Some name)) new) k (tags_go name old new h)
+tags_go name _ _ (empties line old new k h) = empties line old (flat_map (untagged_words (Some name)) new) k (tags_go name old new h)

@@ -1,12 +1,13 @@
 -- Texts that are rewritten piece by piece: each piece has bytes, and what is put in its place is no longer.
 use Rattle.std.proofs.Common.{◌≡◌, is_some, ◌⊎◌, ◌&&◌, ◌||◌, ℕ, zero, suc, ◌≤◌, ◌<◌, arith, Bool, true, false, cond, List, [], ◌∷◌, ◌++◌, length, take, drop, Option, Some, None, inl, inr, refl, sym}
-use Rattle.std.proofs.{Common.{ap, subst, ◌∙◌, append_assoc, one-add, true≢false}, lemmas.Bool.{eqb-true}, lemmas.List.{length-append, append-nil, length-drop, take-append-drop}}
+use Rattle.std.proofs.{Common.{ap, subst, ◌∙◌, append_assoc, one-add, true≢false}, lemmas.Bool.{eqb-true}, lemmas.Option.{none-some}, lemmas.List.{length-append, append-nil, length-drop, take-append-drop}}
 use Rattle.std.specs.{Prelude.{◌==◌, not}, List.{prefix_len, list_any}}
 use Rattle.t1_bytes.specs.{Laws.{AreBytes}, Eexec.{is_blank, blank_comes}}
 use Rattle.t1_grammar.specs.{Grammar.{Grammar, Lacks, fixed, unread}, Places.{occurs, absent_lacks}}
 use Rattle.t1_text.specs.{declared.rewriting.Step.{Step}, declared.rewriting.Step.TheVariants.{Unnumbered, Untagged}, Words.{is_regular}}
 use Rattle.t1_text.specs.{Rewriting.{Piece, pieces, rewritten, parted, TakesPiece, TakesPieces}, Squeezing.{ends_line, one_space, is_solid, squeezed_piece, squeezed, stays, staying}}
-use Rattle.t1_text.specs.{Identity.{unique_id, extended_id, identity_line, is_in_line, with_end, first_line, without_line, unnumbered_piece, unnumbered}, Tags.{untagged, renamed, untagged_piece}}
+use Rattle.t1_text.specs.Identity.{unique_id, extended_id, identity_line, identity_comment, is_in_line, with_end, first_line, without_line, without_comment}
+use Rattle.t1_text.specs.{Identity.{unnumbered_piece, unnumbered}, Tags.{untagged, renamed, untagged_piece}}
 use Rattle.t1_text.specs.Steps.{piece_of}
 use Rattle.t1_text.proofs.{Bytes.{AreBytes-append, bytes_left, bytes_right}, Untested.{both_true, not_true}, TagLemmas.{ends_untagged}}
 
@@ -174,6 +175,13 @@ numbered_some text rest s = elim s.4 [
       omega (arith, ap length s.3, length-append s.1 s.2, ap length u.0.3, length-append u.0.1 u.0.2, ten)
 ]
 
+-- a comment that numbers its font has two bytes
+pub commented_two : (text rest : List ℕ) → identity_comment.Spells tt text rest → 2 ≤ length text
+unfolding identity_comment
+commented_two text rest s =
+    let one = ap length s.4.0.0 ∙ s.4.0.1 in
+    omega (arith, ap length s.3, length-append s.1 s.2, one, numbered_some s.2 rest s.5)
+
 -- a line and what stands behind it are the text
 pub line_whole : (b : ℕ) (bs : List ℕ) → b ∷ bs ≡ (first_line (b ∷ bs)).0 ++ (first_line (b ∷ bs)).1
 line_whole b bs = by_end (parted is_in_line (b ∷ bs)).0 (parted is_in_line (b ∷ bs)).1 (parted_whole is_in_line (b ∷ bs))
@@ -202,10 +210,10 @@ line_takes b bs = by_end (parted is_in_line (b ∷ bs)).0 (parted is_in_line (b 
       bytes = λ h. h;
     }
 
--- a line, or nothing in place of one that numbers the font
+-- a line, or nothing in place of one that numbers the font, or `%` in place of such a comment
 pub unnumbered_takes : TakesPieces unnumbered_piece
 unfolding unnumbered_piece
-unnumbered_takes b bs = by_line (identity_line.read (b ∷ bs)) refl
+unnumbered_takes b bs = by_comment (identity_comment.read (b ∷ bs)) refl
   where
     by_line : (o : Option (Unit {0} × List ℕ)) → identity_line.read (b ∷ bs) ≡ o → TakesPiece (b ∷ bs) (without_line (b ∷ bs) o)
     by_line None e = line_takes b bs
@@ -217,6 +225,19 @@ unnumbered_takes b bs = by_line (identity_line.read (b ∷ bs)) refl
           some = numbered_some s.0 x.1 s.2;
           short = omega arith;
           bytes = λ h. tt;
+        }
+
+    by_comment : (o : Option (Unit {0} × List ℕ)) → identity_comment.read (b ∷ bs) ≡ o → TakesPiece (b ∷ bs) (without_comment (b ∷ bs) o)
+    by_comment None e = by_line (identity_line.read (b ∷ bs)) refl
+    by_comment (Some x) e =
+        let s = identity_comment.takes (b ∷ bs) x e in
+        let two = commented_two s.0 x.1 s.2 in
+        record {
+          own = s.0;
+          whole = s.1;
+          some = omega (arith, two);
+          short = two;
+          bytes = λ h. (omega arith, (omega arith, tt));
         }
 
 -- the pieces of each step
@@ -379,6 +400,21 @@ module _ (text : List ℕ) (no_unique : Lacks unique_id text) (no_extended : Lac
   unfolding identity_line
   no_line = rw (unread unique_id text (no_unique 0), unread extended_id text (no_extended 0)) refl
 
+-- nor does a comment
+no_comment : (text : List ℕ) → Lacks unique_id text → Lacks extended_id text → identity_comment.read text ≡ None
+unfolding identity_comment
+no_comment text u e = by_read (identity_comment.read text) refl
+  where
+    by_read : (o : Option (Unit {0} × List ℕ)) → identity_comment.read text ≡ o → o ≡ None
+    by_read None h = refl
+    by_read (Some x) h =
+        let s = identity_comment.takes text x h in
+        let c = s.2 in
+        let whole : text ≡ c.1 ++ (c.2 ++ x.1) = s.1 ∙ (ap (λ (v : List ℕ). v ++ x.1) c.3 ∙ append_assoc c.1 c.2 x.1) in
+        let line = no_line (c.2 ++ x.1) (lacks_behind unique_id c.1 (c.2 ++ x.1) (subst (Lacks unique_id) whole u))
+        (lacks_behind extended_id c.1 (c.2 ++ x.1) (subst (Lacks extended_id) whole e)) in
+        absurd (none-some (tt, x.1) (sym line ∙ identity_line.again tt c.2 x.1 c.5))
+
 lines_stay : (n : ℕ) (text : List ℕ) → length text ≤ n → Lacks unique_id text → Lacks extended_id text → pieces unnumbered_piece n text ≡ text
 unfolding unnumbered_piece
 lines_stay zero [] le u e = refl
@@ -388,10 +424,11 @@ lines_stay (suc n) (b ∷ bs) le u e =
     let t = line_takes b bs in
     let x = first_line (b ∷ bs) in
     let less : length x.1 < length (b ∷ bs) = omega (arith, ap length t.whole, length-append t.own x.1, t.some) in
-    ap (λ (o : Option (Unit {0} × List ℕ)). (without_line (b ∷ bs) o).0 ++ pieces unnumbered_piece n (without_line (b ∷ bs) o).1) (no_line (b ∷ bs) u e)
+    ap (λ (o : Option (Unit {0} × List ℕ)). (without_comment (b ∷ bs) o).0 ++ pieces unnumbered_piece n (without_comment (b ∷ bs) o).1) (no_comment (b ∷ bs) u e)
+    ∙ (ap (λ (o : Option (Unit {0} × List ℕ)). (without_line (b ∷ bs) o).0 ++ pieces unnumbered_piece n (without_line (b ∷ bs) o).1) (no_line (b ∷ bs) u e)
     ∙ (ap (λ (v : List ℕ). x.0 ++ v) (lines_stay n x.1 (omega (arith, le, less))
     (lacks_behind unique_id t.own x.1 (subst (Lacks unique_id) t.whole u)) (lacks_behind extended_id t.own x.1 (subst (Lacks extended_id) t.whole e)))
-    ∙ sym (line_whole b bs))
+    ∙ sym (line_whole b bs)))
 
 -- a text in which no number occurs has no line to lose
 pub no_numbers : (text : List ℕ) → occurs unique_id text ≡ false → occurs extended_id text ≡ false → text ≡ unnumbered text

@@ -54,6 +54,12 @@ identity_line = do
   fixed (10 ∷ [])
   before goes_on
 
+-- a comment that would be such a line without its `%`
+unfoldable pub identity_comment : Grammar (Unit {0})
+identity_comment = do
+  fixed (codes "%")
+  identity_line
+
 -- what stands before a line's end, with the LF if there is one, and what stands behind it
 abbrev pub with_end : List ℕ → List ℕ → List ℕ × List ℕ
 with_end body [] = (body, [])
@@ -72,10 +78,15 @@ abbrev pub without_line : List ℕ → Option (Unit {0} × List ℕ) → List �
 without_line text (Some x) = ([], x.1)
 without_line text None = first_line text
 
-unfoldable pub unnumbered_piece : Piece
-unnumbered_piece text = without_line text (identity_line.read text)
+-- of a comment that would number the font its `%` stays and no more, as cairo leaves it
+abbrev pub without_comment : List ℕ → Option (Unit {0} × List ℕ) → List ℕ × List ℕ
+without_comment text (Some x) = (codes "%\n", x.1)
+without_comment text None = without_line text (identity_line.read text)
 
--- a text without the lines that number its font
+unfoldable pub unnumbered_piece : Piece
+unnumbered_piece text = without_comment text (identity_comment.read text)
+
+-- a text without the lines that number its font, in comments too
 abbrev pub unnumbered : List ℕ → List ℕ
 unnumbered text = rewritten unnumbered_piece text
 

@@ -1,8 +1,8 @@
 -- What rewriting changes in a text, word by word: white space, lines that number the font, the tags of its name, and the numbers of its box.
-use Rattle.std.specs.Prelude.{◌≡◌, ◌⊎◌, ℕ, List, [], ◌∷◌, ◌++◌, Option, Some, None, if◌then◌else◌}
+use Rattle.std.specs.Prelude.{◌≡◌, ◌⊎◌, ℕ, List, [], ◌∷◌, ◌++◌, codes, Option, Some, None, if◌then◌else◌}
 use Rattle.t1_grammar.specs.Grammar.{first}
 use Rattle.t1_bytes.specs.Eexec.{is_blank}
-use Rattle.t1_text.specs.{Squeezing.{squeezed}, Identity.{identity_line}, Tags.{text_untagged, name_marker}, Boxes.{Box, BoxPlace, at_place, box_place_text}}
+use Rattle.t1_text.specs.{Squeezing.{squeezed}, Identity.{identity_line, identity_comment}, Tags.{text_untagged, name_marker}, Boxes.{Box, BoxPlace, at_place, box_place_text}}
 use Rattle.t1_text.specs.FontTest.{font_test, untested}
 
 -- ---- words
@@ -35,11 +35,20 @@ pub record NumbersFont (line : List (List ℕ)) : Type 0 where
   pub numbers : identity_line.Spells tt text behind
   pub are : line ≡ words text
 
--- words that are renewed: those of a line that numbers the font go, and each other stays in its place, but for the tags of a name
+-- these are the words of a comment that would be such a line without its `%`
+pub record NumbersInComment (line : List (List ℕ)) : Type 0 where
+  pub text : List ℕ
+  pub behind : List ℕ
+  pub numbers : identity_comment.Spells tt text behind
+  pub are : line ≡ words text
+
+-- words that are renewed: those of a line that numbers the font go, a comment that would be one is left empty, and each other stays in its place, but for
+-- the tags of a name
 pub data Renews (name : Option (List ℕ)) : List (List ℕ) → List (List ℕ) → Type 0 where
   none : Renews name [] []
   stays : (word : List ℕ) (old new : List (List ℕ)) → Renews name old new → Renews name (word ∷ old) (untagged_words name word ++ new)
   goes : (line old new : List (List ℕ)) → NumbersFont line → Renews name old new → Renews name (line ++ old) new
+  empties : (line old new : List (List ℕ)) → NumbersInComment line → Renews name old new → Renews name (line ++ old) (codes "%" ∷ new)
 
 -- a text that is renewed
 abbrev pub TextRenews : Option (List ℕ) → List ℕ → List ℕ → Type 0

@@ -4,7 +4,7 @@ ghost use Rattle.std.specs.{Prelude.{◌≡◌, ◌==◌, not, Some, length, tak
 ghost use Rattle.t1_grammar.specs.Grammar.{run};
 ghost use Rattle.t1_bytes.specs.Eexec.{is_blank};
 ghost use Rattle.t1_text.specs.{Words.{is_regular}, Rewriting.{rewritten}, Squeezing.{ends_line, one_space, is_solid, squeezed_piece, stays, staying, squeezed}};
-ghost use Rattle.t1_text.specs.Identity.{is_digit_or_blank, one_blank, unique_id, extended_id, access, defining, goes_on, identity_line, is_in_line, first_line, unnumbered_piece, unnumbered};
+ghost use Rattle.t1_text.specs.Identity.{is_digit_or_blank, one_blank, unique_id, extended_id, access, defining, goes_on, identity_line, identity_comment, is_in_line, first_line, unnumbered_piece, unnumbered};
 ghost use Rattle.t1_text.specs.{Identity.{unique_begins, extended_begins}, Tags.{renamed, untagged_piece}, Steps.{piece_of}};
 
 use crate::font_test::blank_comes;
@@ -220,6 +220,16 @@ fn identity_line_at(text: &[u8]) -> Option<&[u8]>
     Some(rest)
 }
 
+/// What stands behind a comment that would be such a line without its `%`.
+#[tactic(auto, unfolding(crate::specs::Identity::identity_comment))]
+fn identity_comment_at(text: &[u8]) -> Option<&[u8]>
+    ensures { option_map (λ r. r.now) result ≡ option_map (λ x. x.1) (identity_comment.read text.now) }
+{
+    let (_, rest) = fixed_at(text, b"%")?;
+    let rest = identity_line_at(rest)?;
+    Some(rest)
+}
+
 /// How many bytes come before the first LF.
 fn line_len(text: &[u8]) -> usize
     ensures { result ≡ length (take_while is_in_line text.now) }
@@ -239,11 +249,14 @@ fn first_line(text: &[u8]) -> (&[u8], &[u8])
     }
 }
 
-/// The first line, or nothing if it numbers the font, and what stands behind it.
+/// The first line, or nothing if it numbers the font, or `%` if it would without that, and what stands behind it.
 #[tactic(auto, unfolding(crate::specs::Identity::unnumbered_piece))]
 fn unnumbered_piece(text: &[u8]) -> (&[u8], &[u8])
     ensures { (result.0.now, result.1.now) ≡ unnumbered_piece text.now }
 {
+    if let Some(rest) = identity_comment_at(text) {
+        return (b"%\n", rest);
+    }
     match identity_line_at(text) {
         Some(rest) => (&[], rest),
         None => first_line(text),
@@ -300,7 +313,7 @@ impl Marker for ExtendedId {
     ghost begins = { extended_begins };
 }
 
-/// A text without the lines that number its font.
+/// A text without the lines that number its font. Of a comment that would be such a line its `%` stays.
 ///
 /// # Errors
 ///
