@@ -2,7 +2,7 @@
 use Rattle.std.proofs.Common.{◌≡◌, ℕ, zero, suc, ◌≤◌, ◌<◌, arith, Bool, true, false, cond, List, [], ◌∷◌, ◌++◌, length, Option, Some, None, refl, sym, ap, subst, ◌∙◌}
 use Rattle.std.proofs.{Common.{append_assoc, true≢false}, lemmas.List.{length-append, append-nil}, lemmas.Grind.{flat_map-append}}
 use Rattle.std.proofs.{lemmas.Bool.{eqb-true}, lemmas.Slice.Eq.{bytes_eq-Decides}}
-use Rattle.std.specs.{Prelude.{◌-◌, not, ◌==◌, ◌||◌, codes}, List.{AllByRecursion, list_any, flat_map}}
+use Rattle.std.specs.{Prelude.{not, ◌==◌, ◌||◌, codes}, List.{AllByRecursion, list_any, flat_map}}
 use Rattle.t1_bytes.specs.Eexec.{is_blank}
 use Rattle.t1_grammar.specs.Grammar.{Stops}
 use Rattle.t1_text.specs.{Words.{is_regular}, Rewriting.{Piece, pieces, parted}, Squeezing.{ends_line, one_space, is_solid, squeezed_piece, squeezed}}
