@@ -3,7 +3,8 @@ use Rattle.std.{proofs.Common.{◌≡◌, refl}, specs.Prelude.{ℕ, List, [], �
 use Rattle.t1_grammar.specs.Grammar.{first_at}
 use Rattle.t1_bytes.specs.{White.{gap}, Eexec.{eexec_marker}}
 use Rattle.t1_text.specs.{Words.{keyword, decimal, name, next_name}, Markers.{encoding_marker}}
-use Rattle.t1_text.specs.FontTest.{if_known, ask_number, get_number, is_same, then_save, token, test_tokens, literal, known_name, if_numbered, known_number, font_test, apart_test, eexec_there, untested}
+use Rattle.t1_text.specs.FontTest.{if_known, ask_number, get_number, is_same, then_save, token, test_tokens, literal, known_name, if_numbered, known_number}
+use Rattle.t1_text.specs.FontTest.{font_test, apart_test, eexec_there, untested}
 
 -- tokens, each before this text
 abbrev spread : List ℕ → List (List ℕ) → List ℕ
@@ -34,6 +35,12 @@ answered_test words =
     codes "FontDirectory/X known{/X findfont dup/UniqueID known" ++ (words ++ (codes "{dup\n/UniqueID get 0 eq exch/FontType "
     ++ codes "get 1 eq and}{pop false}ifelse\n{save true}{false}ifelse}{false}ifelse"))
 
+-- one with `pop false` behind the first `known`
+abbrev named_test : List ℕ
+named_test =
+    codes "FontDirectory/X known pop false{/X findfont dup/UniqueID known{dup/UniqueID get 0 eq exch/FontType "
+    ++ codes "get 1 eq and}{pop false}ifelse\n{save true}{false}ifelse}{false}ifelse"
+
 -- the test of CMR10
 abbrev test : List ℕ
 test = test_of (codes "CMR10") (codes "CMR10")
@@ -56,7 +63,8 @@ alone = refl
 
 -- white space between all tokens
 spread_out : untested (codes "a " ++ (spread (codes " \n") (codes "FontDirectory" ∷ codes "/X" ∷ if_known)
-    ++ (spread (codes "\t") (codes "/X" ∷ (ask_number ++ (if_known ++ get_number))) ++ (spread (codes "\n\n") (codes "0" ∷ is_same) ++ (spread (codes "\r") then_save ++ codes "b"))))) ≡ codes "a \rb"
+    ++ (spread (codes "\t") (codes "/X" ∷ (ask_number ++ (if_known ++ get_number)))
+    ++ (spread (codes "\n\n") (codes "0" ∷ is_same) ++ (spread (codes "\r") then_save ++ codes "b"))))) ≡ codes "a \rb"
 unfolding first_at gap eexec_marker keyword decimal name next_name encoding_marker
     token test_tokens literal known_name if_numbered known_number font_test apart_test eexec_there
 spread_out = refl
@@ -179,11 +187,8 @@ unfolding first_at gap eexec_marker keyword decimal name next_name encoding_mark
     token test_tokens literal known_name if_numbered known_number font_test apart_test eexec_there
 pop_falsely = refl
 
--- the name is asked for by `known` alone
-name_answered : untested (codes "FontDirectory/X known pop false{/X findfont dup/UniqueID known{dup/UniqueID get 0 eq exch/FontType get 1 eq and}{pop false}ifelse"
-    ++ codes "{save true}{false}ifelse}{false}ifelse")
-    ≡ codes "FontDirectory/X known pop false{/X findfont dup/UniqueID known{dup/UniqueID get 0 eq exch/FontType get 1 eq and}{pop false}ifelse"
-    ++ codes "{save true}{false}ifelse}{false}ifelse"
+-- the name is asked for with the same words
+name_answered : untested named_test ≡ named_test
 unfolding first_at gap eexec_marker keyword decimal name next_name encoding_marker
     token test_tokens literal known_name if_numbered known_number font_test apart_test eexec_there
 name_answered = refl

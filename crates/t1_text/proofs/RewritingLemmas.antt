@@ -1,6 +1,7 @@
 -- Texts that are rewritten piece by piece: each piece has bytes, and what is put in its place is no longer.
 use Rattle.std.proofs.Common.{◌≡◌, is_some, ◌⊎◌, ◌&&◌, ◌||◌, ℕ, zero, suc, ◌≤◌, ◌<◌, arith, Bool, true, false, cond, List, [], ◌∷◌, ◌++◌, length, take, drop, Option, Some, None, inl, inr, refl, sym}
-use Rattle.std.proofs.{Common.{ap, subst, ◌∙◌, append_assoc, one-add, true≢false}, lemmas.Bool.{eqb-true}, lemmas.Option.{none-some}, lemmas.List.{length-append, append-nil, length-drop, take-append-drop}}
+use Rattle.std.proofs.{Common.{ap, subst, ◌∙◌, append_assoc, one-add, true≢false}, lemmas.Bool.{eqb-true}, lemmas.Option.{none-some}}
+use Rattle.std.proofs.lemmas.List.{length-append, append-nil, length-drop, take-append-drop}
 use Rattle.std.specs.{Prelude.{◌==◌, not}, List.{prefix_len, list_any}}
 use Rattle.t1_bytes.specs.{Laws.{AreBytes}, Eexec.{is_blank, blank_comes}}
 use Rattle.t1_grammar.specs.{Grammar.{Grammar, Lacks, fixed, unread}, Places.{occurs, absent_lacks}}
@@ -415,6 +416,10 @@ no_comment text u e = by_read (identity_comment.read text) refl
         (lacks_behind extended_id c.1 (c.2 ++ x.1) (subst (Lacks extended_id) whole e)) in
         absurd (none-some (tt, x.1) (sym line ∙ identity_line.again tt c.2 x.1 c.5))
 
+-- what becomes of a line, and of others behind it
+abbrev with_others : ℕ → List ℕ × List ℕ → List ℕ
+with_others n x = x.0 ++ pieces unnumbered_piece n x.1
+
 lines_stay : (n : ℕ) (text : List ℕ) → length text ≤ n → Lacks unique_id text → Lacks extended_id text → pieces unnumbered_piece n text ≡ text
 unfolding unnumbered_piece
 lines_stay zero [] le u e = refl
@@ -424,8 +429,8 @@ lines_stay (suc n) (b ∷ bs) le u e =
     let t = line_takes b bs in
     let x = first_line (b ∷ bs) in
     let less : length x.1 < length (b ∷ bs) = omega (arith, ap length t.whole, length-append t.own x.1, t.some) in
-    ap (λ (o : Option (Unit {0} × List ℕ)). (without_comment (b ∷ bs) o).0 ++ pieces unnumbered_piece n (without_comment (b ∷ bs) o).1) (no_comment (b ∷ bs) u e)
-    ∙ (ap (λ (o : Option (Unit {0} × List ℕ)). (without_line (b ∷ bs) o).0 ++ pieces unnumbered_piece n (without_line (b ∷ bs) o).1) (no_line (b ∷ bs) u e)
+    ap (λ (o : Option (Unit {0} × List ℕ)). with_others n (without_comment (b ∷ bs) o)) (no_comment (b ∷ bs) u e)
+    ∙ (ap (λ (o : Option (Unit {0} × List ℕ)). with_others n (without_line (b ∷ bs) o)) (no_line (b ∷ bs) u e)
     ∙ (ap (λ (v : List ℕ). x.0 ++ v) (lines_stay n x.1 (omega (arith, le, less))
     (lacks_behind unique_id t.own x.1 (subst (Lacks unique_id) t.whole u)) (lacks_behind extended_id t.own x.1 (subst (Lacks extended_id) t.whole e)))
     ∙ sym (line_whole b bs)))

@@ -7,8 +7,8 @@ ghost use Rattle.std.specs.Prelude.{◌≡◌, ℕ, List, ◌++◌, ◌∷◌, �
 ghost use Rattle.std.specs.{Prelude.{if◌then◌else◌}, Option.{option_map}};
 ghost use Rattle.t1_grammar.specs.Grammar.{first};
 ghost use Rattle.t1_bytes.specs.Eexec.{blank_comes};
-ghost use Rattle.t1_text.specs.FontTest.{is_brace, if_false, ask_number, get_number, is_same, then_save, token, test_tokens, literal, known_name, if_numbered, known_number, font_test, precedes_test, found_test, place_and_around};
-ghost use Rattle.t1_text.specs.FontTest.{eexec_there, test_begins, eexec_begins, has_marker, is_untested, untested, taken_test};
+ghost use Rattle.t1_text.specs.FontTest.{is_brace, if_false, ask_number, get_number, is_same, then_save, token, test_tokens, literal, known_name, if_numbered, known_number};
+ghost use Rattle.t1_text.specs.FontTest.{font_test, precedes_test, found_test, place_and_around, eexec_there, test_begins, eexec_begins, has_marker, is_untested, untested, taken_test};
 
 use crate::markers::{EncodingMarker, Marker, first};
 use crate::words::{decimal_at, is_regular, keyword_at, next_name_at, regular_comes};

@@ -4,8 +4,8 @@ ghost use Rattle.std.specs.{Prelude.{◌≡◌, ◌==◌, not, Some, length, tak
 ghost use Rattle.t1_grammar.specs.Grammar.{run};
 ghost use Rattle.t1_bytes.specs.Eexec.{is_blank};
 ghost use Rattle.t1_text.specs.{Words.{is_regular}, Rewriting.{rewritten}, Squeezing.{ends_line, one_space, is_solid, squeezed_piece, stays, staying, squeezed}};
-ghost use Rattle.t1_text.specs.Identity.{is_digit_or_blank, one_blank, unique_id, extended_id, access, defining, goes_on, identity_line, identity_comment, is_in_line, first_line, unnumbered_piece, unnumbered};
-ghost use Rattle.t1_text.specs.{Identity.{unique_begins, extended_begins}, Tags.{renamed, untagged_piece}, Steps.{piece_of}};
+ghost use Rattle.t1_text.specs.Identity.{is_digit_or_blank, one_blank, unique_id, extended_id, access, defining, goes_on, identity_line, identity_comment, is_in_line, first_line};
+ghost use Rattle.t1_text.specs.{Identity.{unnumbered_piece, unnumbered, unique_begins, extended_begins}, Tags.{renamed, untagged_piece}, Steps.{piece_of}};
 
 use crate::font_test::blank_comes;
 use crate::markers::{Marker, occurs};
