@@ -41,6 +41,9 @@ ACROSS, UP, STUB = b"\xef\x16\x0b", b"\xef\x04\x0b", RETURN
 TESTED = (b"FontDirectory/Small known{/Small findfont dup/UniqueID known{dup/UniqueID get 7 eq exch\n/FontType get 1 eq and}"
           b"{pop false}ifelse{save true}{false}ifelse}{false}ifelse")
 
+# The same as cairo writes it, which makes the test answer false.
+OF_CAIRO = TESTED.replace(b"known{dup", b"known pop false {dup")
+
 # The arguments; the exit status; what is printed on standard output and on standard error; the files that are changed.
 Row = namedtuple("Row", "words status out err left", defaults=(b"", b"", {}))
 
@@ -126,6 +129,9 @@ def files():
     given["one.names"], given["two.names"], given["bad.names"] = b"B", b"\r\nB\r\n", b"B\nZed\nA"
     given["spelled.font"] = given["one.cut"].replace(word + b" def", word + b" % a comment\n readonly def")
     given["tested.font"] = given["one.cut"].replace(b"/FontName", TESTED + b"/FontName")
+    given["cairo.font"] = given["one.cut"].replace(b"/FontName", OF_CAIRO + b"/FontName")
+    given["numbered.cut"] = given["one.cut"].replace(b"/FontName", b"%/UniqueID 0 def\n/FontName")
+    given["blanked.cut"] = given["two.cut"].replace(b"/FontName", b"%               \n/FontName")
     given["one.ps"], given["two.ps"] = document(PARTS[0]), document(PARTS[1])
     given["other.ps"] = document(small_font(b"ABCDEF+Small", [STUB] * 5 + [UP], {b"B": 5}, b"/Encoding ISOLatin1Encoding def\n"))
     given["tag.ps"] = document(small_font(b"GHIJKL+Small", [STUB] * 5 + [UP], {b"B": 5}))
@@ -387,6 +393,8 @@ def rows_of_rejoined():
     yield Row(["rejoin", "out", "one.cut", "wide.cut"], 0, b"", b"", {"out": both})
     yield Row(["rejoin", "out", "wide.cut", "one.cut"], 0, b"", b"", {"out": both})
     yield Row(["rejoin", "out", "spaced.cut"], 0, b"", b"", {"out": commented})
+    yield Row(["rejoin", "out", "numbered.cut", "blanked.cut"], 0, b"", b"", {"out": both.replace(b"/FontName", b"%\n/FontName")})
+    yield Row(["rejoin", "old", "numbered.cut", "two.cut"], 1, b"", refused)
     yield Row(["pfa", "spaced.cut", "out"], 0, b"", b"", {"out": files()["spaced.cut"]})
     yield Row(["rejoin", "old", "one.cut", "other.cut"], 1, b"", refused)
     yield Row(["rejoin", "old", "one.cut", "no.font"], 1, b"", b"refused: no eexec\n")
@@ -504,10 +512,11 @@ def rows_of_mended():
     tested = b"test of FontDirectory taken out at 3\n"
     yield Row(["mend", "spelled.font", "out"], 0, b"", spelled, {"out": one})
     yield Row(["mend", "tested.font", "tested.font"], 0, b"", tested, {"tested.font": one})
+    yield Row(["mend", "cairo.font", "out"], 0, b"", tested, {"out": one})
     yield Row(["mend", "tested.font", "no.folder/out"], 3, b"", b"failed: write\n")
     yield Row(["mend", "one.cut", "old"], 0, b"", b"", {"old": one})
     yield Row(["mend", "--pfb", "tiny.pfa", "out"], 0, b"", b"", {"out": example("tiny.pfb")})
-    yield Row(["rejoin", "out", "tested.font", "spelled.font", "one.cut"], 0, b"", b"", {"out": untagged})
+    yield Row(["rejoin", "out", "tested.font", "cairo.font", "spelled.font", "one.cut"], 0, b"", b"", {"out": untagged})
     yield Row(["mend", "no.font", "out"], 1, b"", b"refused: no eexec\n")
     yield Row(["mend", "absent", "out"], 3, b"", b"failed: read\n")
 

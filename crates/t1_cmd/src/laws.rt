@@ -18,8 +18,9 @@ pub fn subset_without_codes()
 
 /// What fonts rejoin to is the canonical file of a font in which each of their glyphs runs and draws as it did, or has the fault that
 /// it had, where hints are replaced and where they are kept, over the maps of both fonts and as calls see them. Word by word the kept
-/// texts of that font are those of each of the fonts, but for the words of lines that number the font, which go, the tags of its name,
-/// the numbers of its FontBBox and the declared count of Subrs. Truncated subsets of one font rejoin to the subset over all the names.
+/// texts of that font are those of each of the fonts, but for the words of lines that number the font, which go (in a comment but for
+/// its `%`), the tags of its name, the numbers of its FontBBox and the declared count of Subrs. Truncated subsets of one font rejoin to
+/// the subset over all the names.
 pub fn rejoined()
     ensures { Rejoined }
 {}

@@ -1,5 +1,5 @@
--- What normalizing changes in the texts of a font, word by word: white space, lines that number the font, the tags of its name, and the numbers of its box.
--- Every other word stays, in its place: so FontMatrix, PaintType, lenIV, BlueValues, StdHW and every other entry are what they were.
+-- What normalizing changes in the texts of a font, word by word: white space, lines that number the font, in comments too, the tags of its name, and the
+-- numbers of its box. Every other word stays, in its place: so FontMatrix, PaintType, lenIV, BlueValues, StdHW and every other entry are what they were.
 use Rattle.std.specs.{Prelude.{◌≡◌, ◌⊎◌, ℕ, List, Option, None}, Option.{option_map}}
 use Rattle.t1_font.specs.{FontValue.{Shell}, NormalTexts.{both_normal, normal_texts}}
 use Rattle.t1_text.specs.Tags.{tagged_name}

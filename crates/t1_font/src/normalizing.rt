@@ -74,7 +74,8 @@ impl Source {
     ///
     /// Each longest run of blanks, tabs, CR and LF becomes one LF if it has CR or LF, else one blank; runs within strings, too,
     /// which draw nothing. Then lines of the head, of the clear tail and of the private text that number the font (`/UniqueID`,
-    /// `/XUID`) go, where a name or `currentdict` follows. Then the font's name loses its tags in each word of the head
+    /// `/XUID`) go, where the text ends or a name, a comment or `currentdict` follows; of a comment that would be such a line without
+    /// its `%`, that `%` stays, as cairo leaves it. Then the font's name loses its tags in each word of the head
     /// and of the clear tail that begins with it; it is what stands behind the first `/FontName`, white space and a slash of the head, or
     /// else of the clear tail.
     ///

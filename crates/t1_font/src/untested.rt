@@ -21,9 +21,10 @@ impl Source {
     /// The font without the test in its head whether it was loaded before. What the test answers is for a `restore` behind
     /// the font's `cleartomark`, which isn't kept, so where a font keeps its test an operand is left on PostScript's stack.
     ///
-    /// The test is found as Computer Modern spells it, with any white space between its tokens, with one name in both places and
-    /// with any number. The first one is removed, and the white space around it stays. A head in which another test is left stays as
-    /// it is, and so does one in which a marker would arise that ends the head or the clear text.
+    /// The test is found as Computer Modern spells it, or with `known pop false` in place of its second `known`, by which cairo makes
+    /// it answer false; with any white space between its tokens, with one name in both places and with any number. The first one is
+    /// removed, and the white space around it stays. A head in which another test is left stays as it is, and so does one in which a
+    /// marker would arise that ends the head or the clear text.
     ///
     /// # Errors
     ///

@@ -151,7 +151,8 @@ pub fn meets_smallest()
 {}
 
 /// Word by word, the texts of a font that is normalized are what they were, but for the words of lines that number the font, which
-/// go, and for the tags of the font's name; where white space alone is squeezed they are what they were.
+/// go, for those of comments that would be such lines, of which `%` stays, and for the tags of the font's name; where white space
+/// alone is squeezed they are what they were.
 pub fn texts_renewed()
     ensures { TextsRenewed }
 {}

@@ -157,8 +157,8 @@ pub fn unlacking_draw()
 {}
 
 /// Word by word the kept texts of fonts that are normalized are what they were, but for the words of lines that number the font, which
-/// go, the tags of its name, the numbers of its FontBBox and the declared count of Subrs; and what fonts come to has the kept texts of
-/// each of them.
+/// go (in a comment but for its `%`), the tags of its name, the numbers of its FontBBox and the declared count of Subrs; and what
+/// fonts come to has the kept texts of each of them.
 #[tactic(auto, using(t1_algebra::proofs::rejoining::Renewed::normalized_renewed, t1_algebra::proofs::rejoining::Renewed::shells_stay))]
 pub fn normalized_renewed()
     ensures fonts { NormalizedRenewed }

@@ -73,10 +73,26 @@ const ROWS: &[Row] = &[
         "lines that number the font, not in the tail",
     ),
     (
-        b"%/UniqueID 1 def\n/UniqueID 2 def\ndup /A 1 def /UniqueID 3 def\n/UniqueIDs 4 def\n/UniqueID 5 put\n/UniqueID (6) def\n\
+        b"%!\n/Encoding StandardEncoding def\n/FontType 1 def\n%/UniqueID 0 def\n/FontBBox{0 0 1 1}readonly def\ncurrentfile eexec\n",
+        b"/lenIV 0 def\n%/UniqueID 0 def\n/StdHW[31]def\n/CharStrings 1 dict dup begin\n/.notdef 1 RD \x1b ND\nend\n\
+          mark currentfile closefile\n",
+        b"%!\n|/FontType 1 def\n%\n/FontBBox{0 0 1 1}readonly def\ncurrentfile eexec|/lenIV 0 def\n%\n/StdHW[31]def\n||\n\
+          mark currentfile closefile|",
+        "comments of Latin Modern",
+    ),
+    (
+        b"%!\n/Encoding StandardEncoding def\n/FontType 1 def\n%               \n/FontBBox{0 0 1 1}readonly def\ncurrentfile eexec\n",
+        b"/lenIV 0 def\n%               \n/StdHW[31]def\n/CharStrings 1 dict dup begin\n/.notdef 1 RD \x1b ND\nend\n\
+          mark currentfile closefile\n",
+        b"%!\n|/FontType 1 def\n%\n/FontBBox{0 0 1 1}readonly def\ncurrentfile eexec|/lenIV 0 def\n%\n/StdHW[31]def\n||\n\
+          mark currentfile closefile|",
+        "what cairo leaves of them",
+    ),
+    (
+        b"% /UniqueID 1 def\n/UniqueID 2 def\ndup /A 1 def /UniqueID 3 def\n/UniqueIDs 4 def\n/UniqueID 5 put\n/UniqueID (6) def\n\
           /XUID [a] def\n/Encoding StandardEncoding def\ncurrentfile eexec\n",
         b"/lenIV 0 def /CharStrings 1 dict dup begin\n/.notdef 1 RD \x1b ND\nend\nmark currentfile closefile\n",
-        b"%/UniqueID 1 def\n/UniqueID 2 def\ndup /A 1 def /UniqueID 3 def\n/UniqueIDs 4 def\n/UniqueID 5 put\n/UniqueID (6) def\n\
+        b"% /UniqueID 1 def\n/UniqueID 2 def\ndup /A 1 def /UniqueID 3 def\n/UniqueIDs 4 def\n/UniqueID 5 put\n/UniqueID (6) def\n\
           /XUID [a] def\n|\ncurrentfile eexec|/lenIV 0 def ||\nmark currentfile closefile|",
         "lines that stay",
     ),

@@ -17,6 +17,23 @@ const SPREAD: &[u8] =
     b"a FontDirectory\t/X known { /X findfont dup\r/UniqueID known\n{ dup /UniqueID get 0 eq exch\n
 /FontType get 1 eq and } { pop false } ifelse { save true } { false } ifelse } { false } ifelse b";
 
+/// A test that cairo has made answer false, as pdftocairo writes that of Latin Modern.
+const OF_CAIRO: &[u8] = b"%!
+FontDirectory/LMRoman10-Regular known{/LMRoman10-Regular findfont dup/UniqueID known pop false {dup
+/UniqueID get 0 eq exch/FontType get 1 eq and}{pop false}ifelse
+{save true}{false}ifelse}{false}ifelse
+17 dict begin";
+
+/// The first answer taken away, and no other put in its place.
+const POP_ALONE: &[u8] =
+    b"FontDirectory/X known{/X findfont dup/UniqueID known pop {dup/UniqueID get 1 eq exch
+/FontType get 1 eq and}{pop false}ifelse{save true}{false}ifelse}{false}ifelse";
+
+/// Another one put in its place.
+const POP_TRUE: &[u8] =
+    b"FontDirectory/X known{/X findfont dup/UniqueID known pop true {dup/UniqueID get 1 eq exch
+/FontType get 1 eq and}{pop false}ifelse{save true}{false}ifelse}{false}ifelse";
+
 /// Another name in the second place.
 const OTHER_NAME: &[u8] =
     b"FontDirectory/X known{/Y findfont dup/UniqueID known{dup/UniqueID get 1 eq exch
@@ -72,6 +89,9 @@ fn heads_without_tests(rt: HostRuntime) {
     const ROWS: &[(&[u8], &[u8], &str)] = &[
         (TESTED, UNTESTED, "a test"),
         (SPREAD, b"a  b", "white space between all tokens"),
+        (OF_CAIRO, b"%!\n\n17 dict begin", "as cairo writes it"),
+        (POP_ALONE, POP_ALONE, "no other answer"),
+        (POP_TRUE, POP_TRUE, "another answer"),
         (OTHER_NAME, OTHER_NAME, "another name"),
         (TWO, TWO, "two tests"),
         (IN_A_WORD, IN_A_WORD, "a longer word"),
