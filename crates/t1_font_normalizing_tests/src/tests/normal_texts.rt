@@ -76,7 +76,7 @@ const ROWS: &[Row] = &[
         b"%!\n/Encoding StandardEncoding def\n/FontType 1 def\n%/UniqueID 0 def\n/FontBBox{0 0 1 1}readonly def\ncurrentfile eexec\n",
         b"/lenIV 0 def\n%/UniqueID 0 def\n/StdHW[31]def\n/CharStrings 1 dict dup begin\n/.notdef 1 RD \x1b ND\nend\n\
           mark currentfile closefile\n",
-        b"%!\n|/FontType 1 def\n%\n/FontBBox{0 0 1 1}readonly def\ncurrentfile eexec|/lenIV 0 def\n%\n/StdHW[31]def\n||\n\
+        b"%!\n|\n/FontType 1 def\n%\n/FontBBox{0 0 1 1}readonly def\ncurrentfile eexec|/lenIV 0 def\n%\n/StdHW[31]def\n||\n\
           mark currentfile closefile|",
         "comments of Latin Modern",
     ),
@@ -84,7 +84,7 @@ const ROWS: &[Row] = &[
         b"%!\n/Encoding StandardEncoding def\n/FontType 1 def\n%               \n/FontBBox{0 0 1 1}readonly def\ncurrentfile eexec\n",
         b"/lenIV 0 def\n%               \n/StdHW[31]def\n/CharStrings 1 dict dup begin\n/.notdef 1 RD \x1b ND\nend\n\
           mark currentfile closefile\n",
-        b"%!\n|/FontType 1 def\n%\n/FontBBox{0 0 1 1}readonly def\ncurrentfile eexec|/lenIV 0 def\n%\n/StdHW[31]def\n||\n\
+        b"%!\n|\n/FontType 1 def\n%\n/FontBBox{0 0 1 1}readonly def\ncurrentfile eexec|/lenIV 0 def\n%\n/StdHW[31]def\n||\n\
           mark currentfile closefile|",
         "what cairo leaves of them",
     ),
