@@ -31,7 +31,7 @@ int main(int argc, char **argv)
         return fail("the job can't be read");
     job.data = data;
     job.size = size;
-    number = t1subset_pool(&job, 1, &answer);
+    number = t1subset_pool(&job, 1, T1SUBSET_TAGS, &answer);
     out = number == T1SUBSET_OK ? answer.bytes : job;
     if (number == T1SUBSET_OK)
         fprintf(stderr, "INFO: each font once: %zu bytes of %zu\n", out.size, job.size);

@@ -17,7 +17,7 @@
  * Memory and time: if the heap refuses a growth, the call returns T1SUBSET_MEMORY, and nothing is held. The calls that
  * were measured took at most eight times their files and 2 MB. A font of 1 MB can be made so that a call that runs its
  * glyphs takes minutes. subset_within, merge_within, rejoin_within and diff_within bound what is run, without a clock;
- * list_full, pool, pool_tags, level and fonts have no such limit: a service that opens files of strangers should limit the
+ * list_full, pool, level and fonts have no such limit: a service that opens files of strangers should limit the
  * time of these from outside, for instance in a process of its own.
  *
  * On x86-64 the library needs a processor of the level x86-64-v2 (nearly all since 2009), and doesn't look for it.
@@ -67,12 +67,18 @@ enum t1subset_form {
     T1SUBSET_PFB = 1        /* segments, with the cipher in binary */
 };
 
+/* How documents are pooled: 0, or the sum of some of these. */
+enum t1subset_pooling {
+    T1SUBSET_TAGS = 1,      /* names that are equal without the tags that they begin with have one font */
+    T1SUBSET_DSC = 2        /* the documents become one document with all their pages */
+};
+
 /* What a call returns. Several things may be wrong with the input: the first is told, files in their order before names
  * and conflicts. Behind each number stands its text; N is also answer->detail. */
 enum t1subset_number {
     T1SUBSET_OK = 0,                    /* the result is in answer->bytes */
     T1SUBSET_MEMORY = 1,                /* a growth was refused, and nothing is held (no text) */
-    T1SUBSET_BAD_CALL = 2,              /* the form is neither T1SUBSET_PFA nor T1SUBSET_PFB (no text) */
+    T1SUBSET_BAD_CALL = 2,              /* the form is neither T1SUBSET_PFA nor T1SUBSET_PFB, or no such pooling (no text) */
     T1SUBSET_FILE_TOO_LONG = 3,         /* "file too long": it has more than 268,435,456 bytes */
     T1SUBSET_NO_GLYPH = 4,              /* "no glyph NAME": the first name that the font lacks */
     T1SUBSET_NO_CODE = 5,               /* "no code N": the first code for which the Encoding has no name; told before names */
@@ -207,12 +213,14 @@ uint32_t t1subset_join(const uint8_t *first, size_t first_size, const uint8_t *s
  * before the first document, as "/pool:NAME", and each place has the line "/NAME /pool:NAME findfont definefont pop" in its
  * stead. The fonts of any other name stay: t1subset_fonts says why fonts don't rejoin. Every other byte stays, and an LF stands
  * between two documents where no line ends there.
- * The only refusals are T1SUBSET_MEMORY and T1SUBSET_FILE_TOO_LONG, of a document, or of all together (input -1). */
-uint32_t t1subset_pool(const t1subset_bytes *documents, size_t count, t1subset_answer *answer);
-
-/* The same, and then once more with names that are equal without the tags that they begin with, six capitals and "+": these have
- * one font if their fonts rejoin, whose name before the first document has no tags. */
-uint32_t t1subset_pool_tags(const t1subset_bytes *documents, size_t count, t1subset_answer *answer);
+ * With T1SUBSET_TAGS in pooling names that are equal without the tags that they begin with, six capitals and "+", have one font,
+ * too, if their fonts rejoin; its name before the first document has no tags.
+ * With T1SUBSET_DSC the documents become one document after Adobe's Document Structuring Conventions: one header with the number of
+ * pages, one setup with the fonts, all pages under new numbers, each behind the prolog and the setup of its own document and
+ * between save and restore, and one trailer. A document without %%Page comments is one page.
+ * The only refusals are T1SUBSET_MEMORY, T1SUBSET_BAD_CALL, T1SUBSET_NO_DOCUMENT and T1SUBSET_FILE_TOO_LONG, of a document, or of
+ * what they become (input -1). */
+uint32_t t1subset_pool(const t1subset_bytes *documents, size_t count, uint32_t pooling, t1subset_answer *answer);
 
 /* Documents in which each place of a name has the joined font, so that any of them may be printed without the others.
  * answers points to count answers, one for each document, in their order; free each of them. If the call is refused, for

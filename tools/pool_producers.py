@@ -7,10 +7,11 @@ usage: tools/pool_producers.py [DOCUMENTS]    DOCUMENTS is how many each program
 The documents of a program have other words in the same fonts. Ghostscript draws each page at 72 and at 300 dots an inch; a page
 is right if both images are, byte for byte, those of its own document. Prints a table: how many pages, the bytes of all documents,
 the pages that are right where they stand one behind the other, the bytes that `pool` writes, and the pages that are right there,
-and both for `pool --tags`; and behind it the names that kept their fonts.
+both for `pool --tags`, and both for `pool --tags --dsc`, whose pages are right if they are so forwards and once `psselect -r` has
+reversed them; and behind it the names that kept their fonts.
 
-Needs the program (bin/t1subset, or T1SUBSET), Debian's package ghostscript, and for each program that is to be tried its own:
-texlive-binaries, texlive-base, texlive-metapost, poppler-utils, groff, gnuplot-nox.
+Needs the program (bin/t1subset, or T1SUBSET), Debian's packages ghostscript and psutils, and for each program that is to be tried its
+own: texlive-binaries, texlive-base, texlive-metapost, poppler-utils, groff, gnuplot-nox, enscript, a2ps.
 """
 import os
 import random
@@ -48,6 +49,12 @@ def by_dvips(folder, number):
     printed(["dvips", "-q", "-o", "doc.ps", "doc"], cwd=folder)
 
 
+def by_dvips_in_save(folder, number):
+    tex(folder, number)
+    printed(["tex", "-interaction=batchmode", "doc"], cwd=folder)
+    printed(["dvips", "-q", "-s", "-o", "doc.ps", "doc"], cwd=folder)
+
+
 def by_pdftops(folder, number):
     tex(folder, number)
     printed(["pdftex", "-interaction=batchmode", "doc"], cwd=folder)
@@ -58,6 +65,22 @@ def by_pdftocairo(folder, number):
     tex(folder, number)
     printed(["pdftex", "-interaction=batchmode", "doc"], cwd=folder)
     printed(["pdftocairo", "-ps", "doc.pdf", "doc.ps"], cwd=folder)
+
+
+def by_ps2write(folder, number):
+    tex(folder, number)
+    printed(["pdftex", "-interaction=batchmode", "doc"], cwd=folder)
+    printed(["gs", "-q", "-dSAFER", "-sDEVICE=ps2write", "-o", "doc.ps", "doc.pdf"], cwd=folder)
+
+
+def by_enscript(folder, number):
+    put(("\n".join(words((number, 0))) + "\n").encode(), folder, "doc.txt")
+    printed(["enscript", "-q", "-p", "doc.ps", "doc.txt"], cwd=folder)
+
+
+def by_a2ps(folder, number):
+    put(("\n".join(words((number, 0))) + "\n").encode(), folder, "doc.txt")
+    printed(["a2ps", "-q", "-o", "doc.ps", "doc.txt"], cwd=folder)
 
 
 def by_metapost(folder, number):
@@ -83,11 +106,15 @@ plot sin({number + 1} * x)
 
 NEEDS = {
     "dvips": (by_dvips, ["tex", "dvips"]),
+    "dvips -s": (by_dvips_in_save, ["tex", "dvips"]),
     "pdfTeX, pdftops": (by_pdftops, ["pdftex", "pdftops"]),
     "pdfTeX, pdftocairo": (by_pdftocairo, ["pdftex", "pdftocairo"]),
+    "pdfTeX, ps2write": (by_ps2write, ["pdftex", "gs"]),
     "MetaPost": (by_metapost, ["mpost"]),
     "groff": (by_groff, ["groff"]),
     "gnuplot": (by_gnuplot, ["gnuplot", "kpsewhich"]),
+    "enscript": (by_enscript, ["enscript"]),
+    "a2ps": (by_a2ps, ["a2ps"]),
 }
 
 
@@ -125,6 +152,19 @@ def one_by_one(documents):
     return b"".join(text if text.endswith(b"\n") else text + b"\n" for text in documents)
 
 
+def reversed_pages(document):
+    """The pages of a document from the last to the first, by another program."""
+    return subprocess.run(["psselect", "-q", "-r"], input=document, capture_output=True, check=True).stdout
+
+
+def right_both_ways(document, wanted):
+    """How many pages are right forwards, and where there is psselect, how many are when it has reversed them."""
+    forwards = right(drawn_of(document), wanted)
+    if not shutil.which("psselect"):
+        return forwards
+    return min(forwards, right([pages[::-1] for pages in drawn_of(reversed_pages(document))], wanted))
+
+
 def made(make, count):
     for number in range(count):
         with tempfile.TemporaryDirectory() as folder:
@@ -137,9 +177,11 @@ def row(name, documents):
     own = [drawn_of(document) for document in documents]
     wanted = [[page for drawn in own for page in drawn[size]] for size in range(2)]
     behind, (pool, told), (by_families, _) = one_by_one(documents), pooled(documents), pooled(documents, "--tags")
+    one, _ = pooled(documents, "--tags", "--dsc")
     cells = [len(wanted[0])]
     for joined in (behind, pool, by_families):
         cells += [len(joined), right(drawn_of(joined), wanted)]
+    cells += [len(one), right_both_ways(one, wanted)]
     return f"| {name} | " + " | ".join(map(str, cells)) + " |", told
 
 
@@ -147,8 +189,9 @@ def main():
     count = int(sys.argv[1]) if len(sys.argv) > 1 else 5
     if not shutil.which("gs"):
         sys.exit("missing: run `apt-get install ghostscript`")
-    print("| Program | Pages | Bytes | Right one behind the other | Bytes pooled | Right pooled | Bytes with --tags | Right with --tags |")
-    print("|---|---|---|---|---|---|---|---|")
+    print("| Program | Pages | Bytes | Right one behind the other | Bytes pooled | Right pooled | Bytes with --tags | Right with --tags "
+          "| Bytes with --tags --dsc | Right with --tags --dsc |")
+    print("|---|---|---|---|---|---|---|---|---|---|")
     notes, everything = [], []
     for name, (make, needs) in NEEDS.items():
         if not all(map(shutil.which, needs)):

@@ -74,6 +74,11 @@ def document(font):
     return b"%!PS\n%%BeginFont: Small\n" + font + b"{restore}if\n%%EndFont\nshowpage\n"
 
 
+def paged(font, pages):
+    """A document with this font before its pages, which ends without a trailer."""
+    return b"%!PS\n%%BeginFont: Small\n" + font + b"%%EndFont\n" + b"".join(b"%%Page: 1 1\n" + page + b"\n" for page in pages)
+
+
 def version_of_the_man_page():
     """The program's name and version, as the first line of the man page has them between quotes."""
     return bytes_of(TOP, "docs/t1subset.1").split(b'"')[1]
@@ -133,6 +138,7 @@ def files():
     given["numbered.cut"] = given["one.cut"].replace(b"/FontName", b"%/UniqueID 0 def\n/FontName")
     given["blanked.cut"] = given["two.cut"].replace(b"/FontName", b"%               \n/FontName")
     given["one.ps"], given["two.ps"] = document(PARTS[0]), document(PARTS[1])
+    given["page.ps"], given["two.pages.ps"] = paged(PARTS[0], [b"1"]), paged(PARTS[1], [b"2", b"3"])
     given["other.ps"] = document(small_font(b"ABCDEF+Small", [STUB] * 5 + [UP], {b"B": 5}, b"/Encoding ISOLatin1Encoding def\n"))
     given["tag.ps"] = document(small_font(b"GHIJKL+Small", [STUB] * 5 + [UP], {b"B": 5}))
     given["tag.other.ps"] = document(small_font(b"GHIJKL+Small", [STUB] * 5 + [UP], {b"B": 5}, b"/Encoding ISOLatin1Encoding def\n"))
@@ -412,6 +418,42 @@ def lined(name, key, start=b"/pool:"):
     return b"/%s %s%s findfont definefont pop\n" % (name, start, key)
 
 
+def one_document(name, fonts, pages):
+    """The document that others become, with names of its own that begin so, these fonts, and pages each of which is a head and a text."""
+    kept = b"%s:kept" % name
+    prolog = b"/%s 3 dict def\n/%s:begin{%s begin/saved save def/operands count 1 sub def/dicts countdictstack 1 sub def end}bind def\n" % (kept, name, kept)
+    prolog += b"/%s:end{count %s/operands get sub dup 0 gt{{pop}repeat}{pop}ifelse countdictstack %s/dicts get sub dup 0 gt{{end}repeat}{pop}ifelse " % (name, kept, kept)
+    prolog += b"%s/saved get restore}bind def\n" % kept
+    text = b"%%!PS-Adobe-3.0\n%%%%Pages: %d\n%%%%EndComments\n%%%%BeginProlog\n" % len(pages)
+    text += prolog + b"%%EndProlog\n%%BeginSetup\n" + fonts + b"%%EndSetup\n"
+    for number, (head, own, page) in enumerate(pages, 1):
+        text += b"%%%%Page: %d %d\n%%%%BeginPageSetup\n%s:begin\n" % (number, number, name)
+        text += head + own + b"%\n%%EndPageSetup\n" + page + b"%s:end\n" % name
+    return text + b"%%Trailer\n%%EOF\n"
+
+
+def rows_of_pages():
+    """Documents that become one document."""
+    name, other, own = b"ABCDEF+Small", b"GHIJKL+Small", b"% %%Page: 1 1\n"
+    begin = entry(name, name, PARTS[0])[len(b"%!PS-Adobe-3.0\n"):], entry(name, name, BOTH)[len(b"%!PS-Adobe-3.0\n"):]
+    head = b"%%BeginFont: Small\n" + lined(name, name) + b"%%EndFont\n"
+    yield Row(["pool", "--dsc", "out", "page.ps"], 0, b"", b"", {"out": one_document(b"pool:", begin[0], [(head, own, b"1\n")])})
+    three = [(head, own, page) for page in (b"1\n", b"2\n", b"3\n")]
+    yield Row(["pool", "--dsc", "out", "page.ps", "two.pages.ps"], 0, b"", b"", {"out": one_document(b"pool:", begin[1], three)})
+    whole = document(lined(name, name))[len(b"%!PS\n"):]
+    told = b"document 2 has no pages by its comments: it is one page\n"
+    out = one_document(b"pool:", begin[0], [(head, own, b"1\n"), (b"", b"", whole)])
+    yield Row(["pool", "--dsc", "out", "page.ps", "one.ps"], 0, b"", told, {"out": out})
+    untagged = small_font(b"Small", [STUB] * 4 + [ACROSS, UP], {b"A": 4, b"B": 5})
+    family = entry(b"Small", b"Small", untagged)[len(b"%!PS-Adobe-3.0\n"):]
+    heads = [b"%%BeginFont: Small\n" + lined(it, b"Small") + b"%%EndFont\n" for it in (name, other)]
+    pages = [(heads[0], own, b"1\n"), (b"", b"", document(lined(other, b"Small"))[len(b"%!PS\n"):])]
+    yield Row(["pool", "--tags", "--dsc", "out", "page.ps", "tag.ps"], 0, b"", told, {"out": one_document(b"pool:", family, pages)})
+    yield Row(["pool", "--dsc", "old", "page.ps", "a.pdf"], 1, b"", b"refused: no document: a PDF file\n")
+    yield Row(["pool", "--dsc", "old", "page.ps", "absent"], 3, b"", b"failed: read\n")
+    yield Row(["pool", "--dsc", "out", "empty.ps"], 0, b"", told.replace(b"2", b"1"), {"out": one_document(b"pool", b"", [(b"", b"", b"")])})
+
+
 def rows_of_pooled():
     """Documents that become one with each font once."""
     given, name, other = files(), b"ABCDEF+Small", b"GHIJKL+Small"
@@ -549,4 +591,4 @@ def rows_of_listings():
 
 def all_rows(given):
     rows = [*rows_of_words(), *rows_of_fonts(), *rows_of_full(), *rows_of_several(), *rows_of_explained(), *rows_of_outputs(given)]
-    return [*rows, *rows_of_names(), *rows_of_codes(), *rows_of_limits(), *rows_of_rejoined(), *rows_of_pooled(), *rows_of_levelled(), *rows_without_a_path(), *rows_of_listed_fonts(), *rows_of_mended(), *rows_of_differences(), *rows_of_listings()]
+    return [*rows, *rows_of_names(), *rows_of_codes(), *rows_of_limits(), *rows_of_rejoined(), *rows_of_pooled(), *rows_of_pages(), *rows_of_levelled(), *rows_without_a_path(), *rows_of_listed_fonts(), *rows_of_mended(), *rows_of_differences(), *rows_of_listings()]

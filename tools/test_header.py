@@ -148,6 +148,8 @@ def page_faults(header, text, page):
     table.update((PARTS[name], int(number)) for number, name in (it.split(" ", 1) for it in parts))
     forms = re.search(r"T1SUBSET_PFA \((\d)\) or T1SUBSET_PFB \((\d)\)", bare)
     table.update(pfa=int(forms[1]), pfb=int(forms[2]))
+    ways = re.search(r"T1SUBSET_TAGS \((\d)\) and T1SUBSET_DSC \((\d)\)", bare)
+    table.update(tags=int(ways[1]), dsc=int(ways[2]))
     for name in sorted({*table, *header.numbers}):
         if table.get(name) != header.numbers.get(name):
             yield f"number {name}: {header.numbers.get(name)} in the header, {table.get(name)} in the man page"

@@ -40,6 +40,8 @@ ELSEWHERE = {"ok", "memory", "bad_call", "file_too_long", "no_font", "nothing_to
 NO_LIMIT = str(2 ** 64 - 1)
 # Options that no call has.
 OWN_OPTIONS = {"--names", "--explain"}
+# Those by which `pool` differs.
+POOLING = {"--tags", "--dsc"}
 
 
 class Library:
@@ -73,7 +75,7 @@ def library_rows(given):
     program's own; so are its help and its version, files of names, `check` of several files, and the command that writes documents into a folder."""
     rows = [row for row in program_rows.all_rows(given) if row.status < 2 and row.out is not program_rows.SOME]
     rows = [row for row in rows if not OWN_OPTIONS.intersection(word.split("=")[0] for word in row.words if isinstance(word, str))]
-    rows = [row for row in rows if not (row.err and "--tags" in row.words)]
+    rows = [row for row in rows if not (row.err and POOLING.intersection(row.words))]
     rows = [row for row in rows if row.words[0] != "level" and (row.words[0] != "check" or len(row.words) == 2)]
     return [row for row in rows if not row.words[0].startswith("--")]
 
@@ -173,7 +175,7 @@ class Pair:
 
 def inputs_of(words):
     """The files of these arguments, whose options stand last."""
-    words = list(itertools.takewhile(lambda word: not word.startswith("--"), [word for word in words if word != "--tags"]))
+    words = list(itertools.takewhile(lambda word: not word.startswith("--"), [word for word in words if word not in POOLING]))
     if words[0] in ("pool", "fonts"):
         return words[2:] if words[0] == "pool" else words[1:]
     return words[2:] if words[0] in ("merge", "rejoin") else words[1:] if words[0] in ("diff", "join") else words[1:2]

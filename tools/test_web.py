@@ -31,7 +31,7 @@ from test_program import wrong
 
 WORDS = os.path.join(TOP, "web/tests/words.js")
 # Options of the program alone.
-OWN_OPTIONS = {"--names", "--explain", "--tags"}
+OWN_OPTIONS = {"--names", "--explain", "--tags", "--dsc"}
 FONTS = 2
 # What is changed in a module that lies, in bytes of the same number.
 TRUTH, LIE = b" glyphs, ", b" glyphs; "

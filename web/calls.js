@@ -85,7 +85,7 @@ function library(bytes) {
     diff: (first, second) => call("diff", () => [...one(first), ...one(second)]),
     diff_within: (first, second, tokens) => call("diff_within", () => [...one(first), ...one(second), limits(tokens)]),
     join: (first, second) => call("join", () => [...one(first), ...one(second)]),
-    pool: (documents) => call("pool", () => many(documents)),
+    pool: (documents, pooling = 0) => call("pool", () => [...many(documents), pooling]),
     level: (documents) => documents.length ? called("level_answers", () => many(documents), documents.length) : [],
     fonts: (documents) => call("fonts", () => many(documents)),
     extract: (name, documents) => call("extract", () => [...one(name), ...many(documents)]),

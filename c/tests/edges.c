@@ -63,13 +63,13 @@ static void no_bytes(t1subset_bytes font) {
 /* Documents without fonts, which stay as they are, and files without documents. */
 static void no_documents(t1subset_bytes font) {
     const t1subset_bytes two[] = {font, {NULL, 0}};
-    EXPECT(t1subset_pool(NULL, 0, &answer), T1SUBSET_OK, -1, "");
-    EXPECT(t1subset_pool(two + 1, 1, &answer), T1SUBSET_NO_DOCUMENT, 0, "no document: an empty file");
-    EXPECT(t1subset_pool(two, 1, &answer), T1SUBSET_OK, -1, (const char *) font.data);
-    EXPECT(t1subset_pool(two, 2, &answer), T1SUBSET_NO_DOCUMENT, 1, "no document: an empty file");
-    EXPECT(t1subset_pool_tags(NULL, 0, &answer), T1SUBSET_OK, -1, "");
-    EXPECT(t1subset_pool_tags(two, 1, &answer), T1SUBSET_OK, -1, (const char *) font.data);
-    EXPECT(t1subset_pool_tags(two, 2, &answer), T1SUBSET_NO_DOCUMENT, 1, "no document: an empty file");
+    EXPECT(t1subset_pool(NULL, 0, 0, &answer), T1SUBSET_OK, -1, "");
+    EXPECT(t1subset_pool(two + 1, 1, 0, &answer), T1SUBSET_NO_DOCUMENT, 0, "no document: an empty file");
+    EXPECT(t1subset_pool(two, 1, 0, &answer), T1SUBSET_OK, -1, (const char *) font.data);
+    EXPECT(t1subset_pool(two, 2, 0, &answer), T1SUBSET_NO_DOCUMENT, 1, "no document: an empty file");
+    EXPECT(t1subset_pool(NULL, 0, T1SUBSET_TAGS, &answer), T1SUBSET_OK, -1, "");
+    EXPECT(t1subset_pool(two, 1, T1SUBSET_TAGS, &answer), T1SUBSET_OK, -1, (const char *) font.data);
+    EXPECT(t1subset_pool(two, 2, T1SUBSET_TAGS, &answer), T1SUBSET_NO_DOCUMENT, 1, "no document: an empty file");
     EXPECT(t1subset_fonts(NULL, 0, &answer), T1SUBSET_OK, -1, "0 places, 0 names, 0 kept\n");
     EXPECT(t1subset_fonts(two, 1, &answer), T1SUBSET_OK, -1, "0 places, 0 names, 0 kept\n");
     EXPECT(t1subset_fonts(two, 2, &answer), T1SUBSET_NO_DOCUMENT, 1, "no document: an empty file");
@@ -185,9 +185,9 @@ static void too_long(t1subset_bytes font) {
     EXPECT(t1subset_mends(data, TOO_LONG, &answer), T1SUBSET_FILE_TOO_LONG, 0, "file too long");
     EXPECT(t1subset_merge(two, 2, T1SUBSET_PFA, &answer), T1SUBSET_FILE_TOO_LONG, 1, "file too long");
     EXPECT(t1subset_join(NULL, 0, data, TOO_LONG, &answer), T1SUBSET_FILE_TOO_LONG, 1, "file too long");
-    EXPECT(t1subset_pool(two, 2, &answer), T1SUBSET_FILE_TOO_LONG, 1, "file too long");
-    EXPECT(t1subset_pool(together, 2, &answer), T1SUBSET_FILE_TOO_LONG, -1, "file too long");
-    EXPECT(t1subset_pool_tags(two, 2, &answer), T1SUBSET_FILE_TOO_LONG, 1, "file too long");
+    EXPECT(t1subset_pool(two, 2, 0, &answer), T1SUBSET_FILE_TOO_LONG, 1, "file too long");
+    EXPECT(t1subset_pool(together, 2, 0, &answer), T1SUBSET_FILE_TOO_LONG, -1, "file too long");
+    EXPECT(t1subset_pool(two, 2, T1SUBSET_TAGS, &answer), T1SUBSET_FILE_TOO_LONG, 1, "file too long");
     EXPECT(t1subset_fonts(two, 2, &answer), T1SUBSET_FILE_TOO_LONG, 1, "file too long");
     EXPECT(t1subset_extract(NULL, 0, two, 2, &answer), T1SUBSET_FILE_TOO_LONG, 1, "file too long");
     levels(font, data);

@@ -54,8 +54,9 @@ static uint32_t rejoin_within(t1subset_answer *to) { return t1subset_rejoin_with
 static uint32_t diff_within(t1subset_answer *to) {
     return t1subset_diff_within(parts[0].data, parts[0].size, parts[1].data, parts[1].size, &enough, to);
 }
-static uint32_t pool(t1subset_answer *to) { return t1subset_pool(documents, 2, to); }
-static uint32_t pool_tags(t1subset_answer *to) { return t1subset_pool_tags(documents, 2, to); }
+static uint32_t pool(t1subset_answer *to) { return t1subset_pool(documents, 2, 0, to); }
+static uint32_t pool_tags(t1subset_answer *to) { return t1subset_pool(documents, 2, T1SUBSET_TAGS, to); }
+static uint32_t pool_dsc(t1subset_answer *to) { return t1subset_pool(documents, 2, T1SUBSET_TAGS | T1SUBSET_DSC, to); }
 static uint32_t fonts(t1subset_answer *to) { return t1subset_fonts(documents, 2, to); }
 static uint32_t extract(t1subset_answer *to) { return t1subset_extract((const uint8_t *) "Tiny", 4, documents, 2, to); }
 /* Two documents with one font: if the second has another answer than the first, or holds something where the first is refused,
@@ -99,7 +100,8 @@ static const struct {
     {"merge", merge, T1SUBSET_OK}, {"rejoin", rejoin, T1SUBSET_OK}, {"diff", diff, T1SUBSET_OK}, {"join", join, T1SUBSET_OK},
     {"subset within limits", subset_within, T1SUBSET_OK}, {"merge within limits", merge_within, T1SUBSET_OK},
     {"rejoin within limits", rejoin_within, T1SUBSET_OK}, {"diff within limits", diff_within, T1SUBSET_OK},
-    {"pool", pool, T1SUBSET_OK}, {"pool_tags", pool_tags, T1SUBSET_OK}, {"level", level, T1SUBSET_OK}, {"fonts", fonts, T1SUBSET_OK}, {"extract", extract, T1SUBSET_OK},
+    {"pool", pool, T1SUBSET_OK}, {"pool_tags", pool_tags, T1SUBSET_OK}, {"pool_dsc", pool_dsc, T1SUBSET_OK},
+    {"level", level, T1SUBSET_OK}, {"fonts", fonts, T1SUBSET_OK}, {"extract", extract, T1SUBSET_OK},
     {"extract of no font", no_place, T1SUBSET_NO_FONT},
     {"subset of no glyph", no_glyph, T1SUBSET_NO_GLYPH}, {"subset of no code", no_code, T1SUBSET_NO_CODE},
     {"merge of no font", no_font, T1SUBSET_NO_EEXEC},

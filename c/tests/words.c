@@ -36,7 +36,7 @@ struct options {
     t1subset_limits limits;
     int limited;
     int full;
-    int tags;
+    uint32_t pooling;
 };
 
 static void add_codes(struct options *options, const char *bytes, size_t size) {
@@ -73,7 +73,8 @@ static int take_options(struct options *options, int count, char **words) {
         if (!plain && !strcmp(words[at], "--")) plain = 1;
         else if (!plain && !strcmp(words[at], "--pfb")) options->form = T1SUBSET_PFB;
         else if (!plain && !strcmp(words[at], "--full")) options->full = 1;
-        else if (!plain && !strcmp(words[at], "--tags")) options->tags = 1;
+        else if (!plain && !strcmp(words[at], "--tags")) options->pooling |= T1SUBSET_TAGS;
+        else if (!plain && !strcmp(words[at], "--dsc")) options->pooling |= T1SUBSET_DSC;
         else if (!plain && (value = value_of("--codes", words, &at))) add_list(options, value);
         else if (!plain && (value = value_of("--text", words, &at))) text = value;
         else if (!plain && (value = value_of("--tokens", words, &at))) set_tokens(options, value);
@@ -128,7 +129,7 @@ static uint32_t call(const char *word, const struct options *options, const t1su
     if (!strcmp(word, "merge")) return merge(options, arguments, count, answer);
     if (!strcmp(word, "rejoin")) return rejoin(options, arguments, count, answer);
     if (!strcmp(word, "diff")) return diff(options, first, second, answer);
-    if (!strcmp(word, "pool")) return (options->tags ? t1subset_pool_tags : t1subset_pool)(arguments, count, answer);
+    if (!strcmp(word, "pool")) return t1subset_pool(arguments, count, options->pooling, answer);
     if (!strcmp(word, "fonts")) return t1subset_fonts(arguments, count, answer);
     if (!strcmp(word, "extract")) return t1subset_extract((const uint8_t *) options->extract, strlen(options->extract), arguments, count, answer);
     if (!strcmp(word, "join")) return t1subset_join(first.data, first.size, second.data, second.size, answer);

@@ -27,6 +27,7 @@ BytesLike = Union[bytes, bytearray, memoryview, mmap.mmap]
 Name = Union[str, bytes]
 
 _FORMS = {Form.PFA: 0, Form.PFB: 1}
+_TAGS, _DSC = 1, 2
 
 
 def check(font: BytesLike) -> Checked:
@@ -188,19 +189,20 @@ def join(first: BytesLike, second: BytesLike) -> bytes:
     return _call(library.t1subset_join, *_file(first), *_file(second))
 
 
-def pool(documents: Iterable[BytesLike], *, tags: bool = False) -> bytes:
+def pool(documents: Iterable[BytesLike], *, tags: bool = False, dsc: bool = False) -> bytes:
     """PostScript documents, one behind the other, with each font once. Where a font may stand says the man page
     t1subset(1), under `pool`. A font that has several places stands before the first document, and each place has a line
     by which its name finds it. The fonts of a name that don't rejoin stay: `fonts` says why. With `tags` names that are equal
-    without the tags that they begin with, six capitals and `+`, then have one font, too, if it can be made.
+    without the tags that they begin with, six capitals and `+`, have one font, too, if it can be made. With `dsc` the documents
+    become one document after Adobe's Document Structuring Conventions, whose pages stand by themselves.
 
     >>> document = b"%!PS\\n%%BeginFont: Tiny\\n" + font + b"%%EndFont\\nshowpage\\n"
     >>> line = b"%!PS\\n%%BeginFont: Tiny\\n/Tiny /pool:Tiny findfont definefont pop\\n%%EndFont\\nshowpage\\n"
     >>> pool([document, document]).endswith(b"if\\n" + line + line)
     True
     """
-    call = library.t1subset_pool_tags if tags else library.t1subset_pool
-    return _call(call, *_files(_several(documents, "documents")))
+    pooling = (_TAGS if tags else 0) | (_DSC if dsc else 0)
+    return _call(library.t1subset_pool, *_files(_several(documents, "documents")), pooling)
 
 
 def level(documents: Iterable[BytesLike]) -> List[bytes]:

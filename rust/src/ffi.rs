@@ -108,8 +108,7 @@ extern "C" {
         second_size: usize,
         answer: *mut Answer,
     ) -> u32;
-    fn t1subset_pool(documents: *const Given<'_>, count: usize, answer: *mut Answer) -> u32;
-    fn t1subset_pool_tags(documents: *const Given<'_>, count: usize, answer: *mut Answer) -> u32;
+    fn t1subset_pool(documents: *const Given<'_>, count: usize, pooling: u32, answer: *mut Answer) -> u32;
     fn t1subset_level(documents: *const Given<'_>, count: usize, answers: *mut Answer) -> u32;
     fn t1subset_fonts(documents: *const Given<'_>, count: usize, answer: *mut Answer) -> u32;
     fn t1subset_extract(
@@ -289,16 +288,10 @@ pub(crate) fn join(first: &[u8], second: &[u8]) -> Result<Vec<u8>, Refused> {
     call(|answer| unsafe { t1subset_join(first.as_ptr(), first.len(), second.as_ptr(), second.len(), answer) })
 }
 
-pub(crate) fn pool(documents: &[&[u8]]) -> Result<Vec<u8>, Refused> {
+pub(crate) fn pool(documents: &[&[u8]], pooling: u32) -> Result<Vec<u8>, Refused> {
     let documents = given(documents);
     // SAFETY: as in `merge`.
-    call(|answer| unsafe { t1subset_pool(documents.as_ptr(), documents.len(), answer) })
-}
-
-pub(crate) fn pool_tags(documents: &[&[u8]]) -> Result<Vec<u8>, Refused> {
-    let documents = given(documents);
-    // SAFETY: as in `merge`.
-    call(|answer| unsafe { t1subset_pool_tags(documents.as_ptr(), documents.len(), answer) })
+    call(|answer| unsafe { t1subset_pool(documents.as_ptr(), documents.len(), pooling, answer) })
 }
 
 pub(crate) fn level(documents: &[&[u8]]) -> Result<Vec<Vec<u8>>, Refused> {

@@ -20,7 +20,7 @@
 //!
 //! Any number of threads may call at once. A font of 1 MB can be made so that a call that runs its glyphs takes minutes.
 //! [`subset_within`], [`merge_within`], [`rejoin_within`] and [`diff_within`] bound what is run, without a clock;
-//! [`list_full`], [`pool`], [`pool_tags`], [`level`] and [`fonts`] have no such limit: a service that opens files of
+//! [`list_full`], [`pool`], [`pool_with`], [`level`] and [`fonts`] have no such limit: a service that opens files of
 //! strangers should limit the time of these from outside, for instance in a process of its own.
 //!
 //! # Panics
@@ -55,6 +55,15 @@ pub enum Form {
     Pfa,
     /// Segments, with the cipher in binary.
     Pfb,
+}
+
+/// How [`pool_with`] pools documents; by default as [`pool`] does.
+#[derive(Clone, Copy, Debug, Default, PartialEq, Eq, Hash)]
+pub struct Pooling {
+    /// Names that are equal without the tags that they begin with, six capitals and `+`, have one font, too, if it can be made.
+    pub tags: bool,
+    /// The documents become one document after Adobe's Document Structuring Conventions, whose pages stand by themselves.
+    pub dsc: bool,
 }
 
 /// What [`subset_within`], [`merge_within`], [`rejoin_within`] and [`diff_within`] may do at most. By default nothing is
@@ -370,13 +379,21 @@ pub fn join(first: &[u8], second: &[u8]) -> Result<Vec<u8>, Refused> {
 /// # }
 /// ```
 pub fn pool<D: AsRef<[u8]>>(documents: &[D]) -> Result<Vec<u8>, Refused> {
-    ffi::pool(&slices(documents))
+    ffi::pool(&slices(documents), 0)
 }
 
-/// The same, and then once more with names that are equal without the tags that they begin with, six capitals and `+`: these have
-/// one font, if it can be made.
-pub fn pool_tags<D: AsRef<[u8]>>(documents: &[D]) -> Result<Vec<u8>, Refused> {
-    ffi::pool_tags(&slices(documents))
+/// The same in one of several ways.
+///
+/// ```
+/// use t1subset::{pool_with, Pooling};
+///
+/// let documents = ["%!PS\n%%Page: 1 1\nshowpage\n", "%!PS\n%%Page: 1 1\nshowpage\n"];
+/// let one = pool_with(&documents, Pooling { dsc: true, ..Pooling::default() })?;
+/// assert!(one.starts_with(b"%!PS-Adobe-3.0\n%%Pages: 2\n"));
+/// # Ok::<(), t1subset::Refused>(())
+/// ```
+pub fn pool_with<D: AsRef<[u8]>>(documents: &[D], pooling: Pooling) -> Result<Vec<u8>, Refused> {
+    ffi::pool(&slices(documents), u32::from(pooling.tags) | u32::from(pooling.dsc) << 1)
 }
 
 /// The documents, in each of which each place of a name has the joined font, so that any of them may be printed without

@@ -5,10 +5,13 @@ mod common;
 use common::{before_pooled, document, each_font, example, made, some_names, EMPTY, STUB};
 use std::thread;
 use t1subset::{
-    check, convert, diff, extract, fonts, join, level, list, list_full, mend, mends, merge, pool, pool_tags, rejoin, show,
+    check, convert, diff, extract, fonts, join, level, list, list_full, mend, mends, merge, pool, pool_with, rejoin, show,
     subset,
 };
-use t1subset::{diff_within, merge_within, rejoin_within, subset_codes, subset_within, Form, Limits};
+use t1subset::{diff_within, merge_within, rejoin_within, subset_codes, subset_within, Form, Limits, Pooling};
+
+const TAGS: Pooling = Pooling { tags: true, dsc: false };
+const DSC: Pooling = Pooling { tags: false, dsc: true };
 
 #[test]
 fn subsets_merge_in_any_order_to_the_subset_of_all() {
@@ -171,9 +174,22 @@ fn fonts_of_families_join() {
     let first = document("Tiny", b"/ABCDEF+Tiny /pool:Tiny findfont definefont pop\n");
     let second = document("Tiny", b"/GHIJKL+Tiny /pool:Tiny findfont definefont pop\n");
     assert!(pool(&[&one, &other]).unwrap() == [&one[..], &other].concat());
-    assert!(pool_tags(&[&one, &other]).unwrap() == [&before[..], &first, &second].concat());
+    assert!(pool_with(&[&one, &other], TAGS).unwrap() == [&before[..], &first, &second].concat());
     let none: [&[u8]; 0] = [];
-    assert_eq!(pool_tags(&none), Ok(Vec::new()));
+    assert_eq!(pool_with(&none, TAGS), Ok(Vec::new()));
+}
+
+/// A page of a document without a prolog, under a new number.
+fn page(number: usize, text: &str) -> String {
+    format!("%%Page: {number} {number}\n%%BeginPageSetup\npool:begin\n% %%Page: 1 1\n%\n%%EndPageSetup\n{text}pool:end\n")
+}
+
+#[test]
+fn documents_become_one() {
+    let one = pool_with(&["%!PS\n%%Page: 1 1\na\n", "%!PS\n%%Page: 1 1\nb\n"], DSC).unwrap();
+    let pages = format!("%%EndProlog\n%%BeginSetup\n%%EndSetup\n{}{}%%Trailer\n%%EOF\n", page(1, "a\n"), page(2, "b\n"));
+    assert!(one.starts_with(b"%!PS-Adobe-3.0\n%%Pages: 2\n%%EndComments\n%%BeginProlog\n"));
+    assert!(one.ends_with(pages.as_bytes()));
 }
 
 #[test]

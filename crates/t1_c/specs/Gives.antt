@@ -98,10 +98,10 @@ GivesAnswer Answers file =
 abbrev pub GivesFiles : {A : Type 0} → (List ℕ → Result A Reason) → (List A → Result (List ℕ) Reason → Type 0) → List (List ℕ) → ℕ → Answer → Type 0
 GivesFiles understand Answers files = CallGives (λ text. OfFiles understand Answers files (Ok text)) (RefusedAt understand Answers files)
 
--- a call that takes the number of a form does this; a number that no form has is a bad call
-abbrev pub In : Option Form → (Form → ℕ → Answer → Type 0) → ℕ → Answer → Type 0
+-- a call that takes the number of a form, or of a way of pooling, does this; a number that none has is a bad call
+abbrev pub In : {A : Type 0} → Option A → (A → ℕ → Answer → Type 0) → ℕ → Answer → Type 0
 In None Does code a = HasNothing bad_call code a
-In (Some form) Does code a = Does form code a
+In (Some x) Does code a = Does x code a
 
 -- of a call that takes the number of a form this holds, if a form has the number
 abbrev pub IfForm : Option Form → (Form → Type 0) → Type 0

@@ -1,10 +1,11 @@
--- The numbers by which C knows forms, refusals, and the parts of a font. `include/t1subset.h` has the same names and
+-- The numbers by which C knows forms, ways of pooling, refusals, and the parts of a font. `include/t1subset.h` has the same names and
 -- numbers. A number that was released never changes.
-use Rattle.std.specs.Prelude.{ℕ, Option, Some, None, if◌then◌else◌, ◌==◌}
+use Rattle.std.specs.Prelude.{ℕ, ◌+◌, true, false, Option, Some, None, if◌then◌else◌, ◌==◌}
 use Rattle.t1_bytes.specs.{declared.form.Form.{Form}, declared.form.Form.TheVariants.{Pfa, Pfb}}
 use Rattle.t1_font.specs.declared.fault.ReadFault.{ReadFault}
 use Rattle.t1_subset.specs.{declared.conflict.ShellPart.{ShellPart}, declared.conflict.Conflict.{Conflict}}
 use Rattle.t1_join.specs.{declared.listing.ListFault.{ListFault}, declared.listing.JoinFault.{JoinFault}}
+use Rattle.t1_cmd.specs.declared.pools.Pooling.{Pooling}
 use Rattle.t1_cmd.specs.{declared.faults.Reason.{Reason}, declared.faults.Reason.TheVariants.{TooLong, Memory, List, Join, Font, NoGlyph, NoCode, NoFont, Document, TooManyTokens, Lacks, Merge}}
 use Rattle.t1_font.specs.declared.fault.ReadFault.TheVariants as fault
 use Rattle.t1_subset.specs.declared.conflict.ShellPart.TheVariants as part
@@ -23,6 +24,20 @@ pfb = 1
 -- the form of a number
 abbrev pub form_at : ℕ → Option Form
 form_at n = if n == pfa then Some Pfa else if n == pfb then Some Pfb else None
+
+-- ---- how documents are pooled
+
+abbrev pub tags : ℕ
+tags = 1
+
+abbrev pub dsc : ℕ
+dsc = 2
+
+-- what a number says of how documents are pooled: the sum of these that hold
+abbrev pub pooling_at : ℕ → Option Pooling
+pooling_at n =
+    if n == 0 then Some (record { tags = false; dsc = false }) else if n == tags then Some (record { tags = true; dsc = false })
+    else if n == dsc then Some (record { tags = false; dsc = true }) else if n == tags + dsc then Some (record { tags = true; dsc = true }) else None
 
 -- ---- refusals
 

@@ -1,24 +1,24 @@
 //! The calls over documents, before what they make is given.
 ghost use Rattle.std.specs.Prelude.{◌≡◌, length, None, Ok, IfOk, IfErr};
 ghost use Rattle.t1_subset.specs.NameSets.{lent};
-ghost use Rattle.t1_cmd.specs.{Files.{OfFiles, RefusesFiles}, Documents.{text_input, PoolsTo}, FontPlaces.{ListsTo}};
+ghost use Rattle.t1_cmd.specs.{Files.{OfFiles, RefusesFiles}, Documents.{text_input}, Pages.{PoolsTo}, FontPlaces.{ListsTo}};
 ghost use Rattle.t1_cmd.specs.declared.faults.Reason.TheVariants.{Memory};
 ghost use Rattle.t1_c.specs.Gives.{place_labels};
 
 use crate::labels::{lent, place_labels};
 use std::alloc::Global;
-use t1_cmd::{FilesRefusal, Pooled, Reason, list_fonts, pool_files};
+use t1_cmd::{FilesRefusal, Pooled, Pooling, Reason, list_fonts, pool_files};
 
-/// Documents, one behind the other, with each font once: one for each name, or also one for names that are equal without their tags.
+/// Documents with each font once.
 pub(crate) fn pooled(
     alloc: Global,
-    tags: bool,
+    how: Pooling,
     documents: &[&[u8]],
 ) -> Result<Vec<u8>, FilesRefusal>
-    ensures text { IfOk result (λ text. OfFiles text_input (PoolsTo tags) (lent documents.now) (Ok text.items)) }
-    ensures refused { IfErr result (RefusesFiles text_input (PoolsTo tags) (lent documents.now)) }
+    ensures text { IfOk result (λ text. OfFiles text_input (PoolsTo how) (lent documents.now) (Ok text.items)) }
+    ensures refused { IfErr result (RefusesFiles text_input (PoolsTo how) (lent documents.now)) }
 {
-    match pool_files(alloc, tags, documents) {
+    match pool_files(alloc, how, documents) {
         Ok(pooled) => {
             let Pooled { text, .. } = pooled;
             Ok(text)

@@ -19,14 +19,14 @@ ghost use Rattle.t1_cmd.specs.{CheckText.{check_answer}, ListText.{list_answer},
 ghost use Rattle.t1_cmd.specs.{Fonts.{font_input, mended_input, file_answer}, Mends.{mends_answer}, Subsets.{subset_answer, subset_with_codes}};
 ghost use Rattle.t1_cmd.specs.{Budgets.{SubsetsWithin, MergesWithin, RejoinsWithin, DiffersWithin}, Mergers.{MergesToFile}, Rejoins.{RejoinsTo}};
 ghost use Rattle.t1_cmd.specs.{Diffs.{DiffersBy}, Listings.{listing_input, JoinsTo}, WrittenSubsets.{OfUnion}, Cuts.{OfRejoined}};
-ghost use Rattle.t1_cmd.specs.{Documents.{text_input, PoolsTo}, FontPlaces.{ListsTo}, Extracts.{ExtractsTo}};
-ghost use Rattle.t1_c.specs.Numbers.{form_at, bad_call};
+ghost use Rattle.t1_cmd.specs.{Documents.{text_input}, Pages.{PoolsTo}, FontPlaces.{ListsTo}, Extracts.{ExtractsTo}};
+ghost use Rattle.t1_c.specs.Numbers.{form_at, pooling_at, bad_call};
 ghost use Rattle.t1_c.specs.Gives.{GivesOne, GivesOf, GivesMended, GivesAnswer, GivesFiles, GivesLevels, HaveNothing, In, IfForm, GivesText, place_labels};
 
 pub use answers::Answer;
 use answers::{give_each, give_files, give_none, give_nothing, give_of};
 use documents::{places, pooled};
-use numbers::{BAD_CALL, form_of};
+use numbers::{BAD_CALL, form_of, pooling_of};
 use std::alloc::Global;
 use t1_cmd::{
     Budget, check_file, convert_file, diff_files, diff_files_within, extract_file, join_listings,
@@ -310,20 +310,20 @@ pub extern "C" fn t1subset_join(
     give_files(alloc, join_listings(alloc, first, second), answer)
 }
 
-/// Makes of documents one text, in which each font stands once.
+/// Makes documents in which each font stands once: one text, one behind the other, or as one document.
 #[unsafe(no_mangle)]
-pub extern "C" fn t1subset_pool(alloc: Global, documents: &[&[u8]], answer: &mut Answer) -> u32
-    ensures { GivesFiles text_input (PoolsTo false) (lent documents.now) result answer.new }
+pub extern "C" fn t1subset_pool(
+    alloc: Global,
+    documents: &[&[u8]],
+    pooling: u32,
+    answer: &mut Answer,
+) -> u32
+    ensures { In (pooling_at pooling) (λ how. GivesFiles text_input (PoolsTo how) (lent documents.now)) result answer.new }
 {
-    give_files(alloc, pooled(alloc, false, documents), answer)
-}
-
-/// Makes of documents one text, in which each font stands once, and names that are equal without their tags have one font.
-#[unsafe(no_mangle)]
-pub extern "C" fn t1subset_pool_tags(alloc: Global, documents: &[&[u8]], answer: &mut Answer) -> u32
-    ensures { GivesFiles text_input (PoolsTo true) (lent documents.now) result answer.new }
-{
-    give_files(alloc, pooled(alloc, true, documents), answer)
+    match pooling_of(pooling) {
+        Some(how) => give_files(alloc, pooled(alloc, how, documents), answer),
+        None => give_nothing(BAD_CALL, answer),
+    }
 }
 
 /// Makes documents in which each place of a name has the joined font, each in an answer of its own. C calls it as

@@ -1,8 +1,8 @@
-//! The numbers by which C knows forms, refusals, and the parts of a font.
+//! The numbers by which C knows forms, ways of pooling, refusals, and the parts of a font.
 ghost use Rattle.std.specs.Prelude.{◌≡◌};
-ghost use Rattle.t1_c.specs.Numbers.{form_at, number_of, font_number, merge_number, list_number, join_number, part_number, detail_of};
+ghost use Rattle.t1_c.specs.Numbers.{form_at, pooling_at, number_of, font_number, merge_number, list_number, join_number, part_number, detail_of};
 
-use t1_cmd::Reason;
+use t1_cmd::{Pooling, Reason};
 use t1_font::{Form, ReadFault};
 use t1_join::{JoinFault, ListFault};
 use t1_subset::{Conflict, ShellPart};
@@ -23,6 +23,20 @@ pub(crate) fn form_of(form: u32) -> Option<Form>
         1 => Some(Form::Pfb),
         _ => None,
     }
+}
+
+/// What a number says of how documents are pooled.
+pub(crate) fn pooling_of(pooling: u32) -> Option<Pooling>
+    ensures { result ≡ pooling_at pooling }
+{
+    let (tags, dsc) = match pooling {
+        0 => (false, false),
+        1 => (true, false),
+        2 => (false, true),
+        3 => (true, true),
+        _ => return None,
+    };
+    Some(Pooling { tags, dsc })
 }
 
 // The number of a fault of reading a font.

@@ -36,10 +36,10 @@ PooledAs false text out = PooledByKeys Name text out
 PooledAs true text out = (between : List ℕ) × PooledByKeys Name text between × PooledByKeys Family between out
 
 -- documents one behind the other with each font once, if they are together within the file limit
-abbrev pub PoolsTo : Bool → List (List ℕ) → Result (List ℕ) Reason → Type 0
-PoolsTo tags documents (Ok out) = (length (one_text documents) ≤ file_limit) × PooledAs tags (one_text documents) out
-PoolsTo tags documents (Err TooLong) = file_limit < length (one_text documents)
-PoolsTo tags documents (Err r) = ⊥
+abbrev pub PoolsBehind : Bool → List (List ℕ) → Result (List ℕ) Reason → Type 0
+PoolsBehind tags documents (Ok out) = (length (one_text documents) ≤ file_limit) × PooledAs tags (one_text documents) out
+PoolsBehind tags documents (Err TooLong) = file_limit < length (one_text documents)
+PoolsBehind tags documents (Err r) = ⊥
 
 -- ---- what is told of names that keep their fonts
 

@@ -20,6 +20,7 @@ pub mod Cuts
 pub mod CodeLists
 pub mod FullText
 pub mod Documents
+pub mod Pages
 pub mod Levels
 pub mod FontPlaces
 pub mod Extracts

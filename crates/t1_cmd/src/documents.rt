@@ -1,27 +1,23 @@
-//! The engines over documents: each font once, or one font at each place of a name.
+//! Documents as they are read, and the lines that tell of their fonts.
 ghost use Rattle.std.specs.Prelude.{Bool, ℕ, List, Some, ◌≡◌, ◌+◌, ◌≤◌, ◌++◌, [], map, length, Ok, Err, OnOk, IfOk, IfErr, IfSome, MatchResult, if◌then◌else◌};
 ghost use Rattle.std.specs.{Option.{option_copied}, List.{flat_map}};
 ghost use Rattle.t1_bytes.specs.Limits.{file_limit};
 ghost use Rattle.t1_subset.specs.NameSets.{lent};
-ghost use Rattle.t1_document.specs.{Lines.{one_text}, Documents.{document_of}, Groups.{outcome_in}, Joins.{kept_text, names_from}, Rewriting.{is_seen}};
-ghost use Rattle.t1_document.specs.{Texts.{has_text}, Views.{place_view}, PoolLaws.{PooledByKeys}};
+ghost use Rattle.t1_document.specs.{Groups.{outcome_in}, Joins.{kept_text, names_from}, Rewriting.{is_seen}, Texts.{has_text}, Views.{place_view}};
 ghost use Rattle.t1_document.specs.{declared.joins.Outcome.TheVariants.{Stays}, declared.joins.Kept.TheVariants.{Barred}};
-ghost use Rattle.t1_cmd.specs.{Count.{calls_counted, inner_of}, Inputs.{Say, input_of, values_of}, Files.{values_from, IsUnread, SaidBy, OfFiles, RefusesFiles}};
-ghost use Rattle.t1_cmd.specs.{Runs.{ended, InputStops, InputEnds, RunEnds, Succeeds}, Answers.{MayRefuse}, Mergers.{inputs_of, InTurns, InputsStop}};
-ghost use Rattle.t1_cmd.specs.Documents.{taken_input, text_input, PooledAs, PoolsTo, kept_line, kept_lines, told_of, told_lines, new_lines, TellsKeys, TellsPooled};
+ghost use Rattle.t1_cmd.specs.{Count.{calls_counted, inner_of}, Inputs.{Say, input_of}, Files.{values_from, IsUnread}};
+ghost use Rattle.t1_cmd.specs.{Runs.{InputStops, InputEnds}, Answers.{MayRefuse}, Mergers.{inputs_of, InTurns, InputsStop}};
+ghost use Rattle.t1_cmd.specs.Documents.{taken_input, kept_line, kept_lines, told_of, told_lines, new_lines};
 
 use crate::counting::Counted;
 use crate::faults::{FilesRefusal, Reason, RunFault};
 use crate::reading::read_all;
 use crate::several::refused_at;
 use crate::texts::push_shown;
-use crate::writing::write_text;
 use std::alloc::{AllocError, Global};
-use std::io::{Read, Write};
+use std::io::Read;
 use t1_bytes::FILE_LIMIT;
-use t1_document::{
-    Joins, Kept, Key, Outcome, Place, PooledText, Texts, names_of, pool_document, push_document,
-};
+use t1_document::{Joins, Kept, Outcome, Place, Texts, names_of};
 use t1_jobs::job_of;
 use t1_join::push_item;
 
@@ -249,13 +245,18 @@ fn lines_with(
     Ok(lines)
 }
 
-// The lines of the keys of a pooled text.
-fn told_lines(alloc: Global, pooled: &PooledText<'_>) -> Result<Vec<Vec<u8>>, AllocError>
+// The lines of the keys of places, of which some are left.
+pub(crate) fn told_lines(
+    alloc: Global,
+    left: &[&[u8]],
+    places: &[Place<'_>],
+    joins: &Joins<'_>,
+) -> Result<Vec<Vec<u8>>, AllocError>
     ensures { IfOk result (λ v. map (λ l. l.items) v.items ≡ told_lines
-        (told_of (map (λ k. k.now) pooled.now.left.items) (outcome_in pooled.now.joins)) (map place_view pooled.now.places.items)) }
+        (told_of (map (λ k. k.now) left.now) (outcome_in joins.now)) (map place_view places.now)) }
 {
-    let left = texts_of(alloc, pooled.left.as_slice())?;
-    let lines = lines_with(alloc, pooled.places.as_slice(), &left, &pooled.joins)?;
+    let left = texts_of(alloc, left)?;
+    let lines = lines_with(alloc, places, &left, joins)?;
     Ok(lines)
 }
 
@@ -281,7 +282,7 @@ fn push_others(out: &mut Vec<u8>, told: &Texts<'_>, lines: &[Vec<u8>]) -> Result
 }
 
 // Adds lines, without those that are among others.
-fn push_lines(
+pub(crate) fn push_lines(
     alloc: Global,
     out: &mut Vec<u8>,
     told: &[Vec<u8>],
@@ -293,199 +294,4 @@ fn push_lines(
     let told = lent(alloc, told)?;
     let told = texts_of(alloc, told.as_slice())?;
     push_others(out, &told, lines)
-}
-
-// ---- pooled
-
-/// Documents as one text, with each font once.
-#[derive(Drop)]
-pub struct Pooled {
-    /// The documents, one behind the other.
-    pub text: Vec<u8>,
-    /// Lines of the names, and of the families, that keep their fonts.
-    pub kept: Vec<u8>,
-}
-
-// The documents, one behind the other.
-fn one_text(alloc: Global, documents: &[&[u8]]) -> Result<Vec<u8>, Reason>
-    ensures text { IfOk result (λ t. t.items ≡ one_text (lent documents.now)) }
-    ensures short { IfOk result (λ t. length t.items ≤ file_limit) }
-    ensures refused { IfErr result (λ e. (tags : Bool) → MayRefuse (PoolsTo tags (lent documents.now)) e) }
-{
-    let mut text = Vec::new(alloc);
-    'documents: for document in documents {
-        push_document(&mut text, *document)?;
-        if text.len() > FILE_LIMIT {
-            return Err(Reason::TooLong);
-        }
-    }
-    Ok(text)
-}
-
-// A text with the fonts of each key once, and the lines of those that keep theirs.
-#[derive(Drop)]
-struct Told {
-    text: Vec<u8>,
-    lines: Vec<Vec<u8>>,
-}
-
-// A text with the fonts of each key once.
-fn pool_keys(alloc: Global, by: Key, text: &[u8]) -> Result<Told, AllocError>
-    ensures text { IfOk result (λ t. PooledByKeys by text.now t.text.items) }
-    ensures lines { IfOk result (λ t. TellsKeys by text.now (map (λ l. l.items) t.lines.items)) }
-{
-    let pooled = pool_document(alloc, by, text)?;
-    let lines = told_lines(alloc, &pooled)?;
-    Ok(Told {
-        text: pooled.text,
-        lines,
-    })
-}
-
-// A text with each font once: one for each name, and then also one for names that are equal without their tags.
-fn pool_text(alloc: Global, tags: bool, text: Vec<u8>) -> Result<Pooled, AllocError>
-    ensures text { IfOk result (λ p. PooledAs tags text.items p.text.items) }
-    ensures kept { IfOk result (λ p. TellsPooled tags text.items p.kept.items) }
-{
-    let names = pool_keys(alloc, Key::Name, text.as_slice())?;
-    drop(text);
-    let mut kept = Vec::new(alloc);
-    push_lines(alloc, &mut kept, &[], names.lines.as_slice())?;
-    if !tags {
-        return Ok(Pooled {
-            text: names.text,
-            kept,
-        });
-    }
-    let families = pool_keys(alloc, Key::Family, names.text.as_slice())?;
-    push_lines(
-        alloc,
-        &mut kept,
-        names.lines.as_slice(),
-        families.lines.as_slice(),
-    )?;
-    Ok(Pooled {
-        text: families.text,
-        kept,
-    })
-}
-
-// Documents as one text, with each font once.
-fn pool(alloc: Global, tags: bool, documents: &[&[u8]]) -> Result<Pooled, Reason>
-    ensures text { IfOk result (λ p. PoolsTo tags (lent documents.now) (Ok p.text.items)) }
-    ensures kept { IfOk result (λ p. TellsPooled tags (one_text (lent documents.now)) p.kept.items) }
-    ensures refused { IfErr result (MayRefuse (PoolsTo tags (lent documents.now))) }
-{
-    let text = match one_text(alloc, documents) {
-        Ok(text) => text,
-        Err(reason) => return Err(reason),
-    };
-    Ok(pool_text(alloc, tags, text)?)
-}
-
-// Documents that are owned, one behind the other.
-fn joined(alloc: Global, documents: &[Vec<u8>]) -> Result<Vec<u8>, Reason>
-    ensures text { IfOk result (λ t. t.items ≡ one_text (map (λ d. d.items) documents.now)) }
-    ensures short { IfOk result (λ t. length t.items ≤ file_limit) }
-    ensures refused { IfErr result (λ e. (tags : Bool) → MayRefuse (PoolsTo tags (map (λ d. d.items) documents.now)) e) }
-{
-    let documents = lent(alloc, documents)?;
-    one_text(alloc, documents.as_slice())
-}
-
-// Documents as one text, with each font once. They are dropped before it is pooled.
-fn pool_owned(alloc: Global, tags: bool, documents: Vec<Vec<u8>>) -> Result<Pooled, Reason>
-    ensures text { IfOk result (λ p. PoolsTo tags (map (λ d. d.items) documents.items) (Ok p.text.items)) }
-    ensures kept { IfOk result (λ p. TellsPooled tags (one_text (map (λ d. d.items) documents.items)) p.kept.items) }
-    ensures refused { IfErr result (MayRefuse (PoolsTo tags (map (λ d. d.items) documents.items))) }
-{
-    let text = match joined(alloc, documents.as_slice()) {
-        Ok(text) => text,
-        Err(reason) => return Err(reason),
-    };
-    drop(documents);
-    Ok(pool_text(alloc, tags, text)?)
-}
-
-/// Documents in memory, one behind the other, with each font once, and a line for each name that keeps its fonts, as [`run_pool`]
-/// has them; with `tags` names that are equal without their tags have one font.
-///
-/// # Errors
-///
-/// [`Reason::TooLong`] or [`Reason::Document`] with the place of the first file that is over the file limit or carries no document, and
-/// [`Reason::TooLong`] without a place if all documents together are over it; [`Reason::Memory`] if a growth was refused.
-pub fn pool_files(alloc: Global, tags: bool, documents: &[&[u8]]) -> Result<Pooled, FilesRefusal>
-    ensures text { IfOk result (λ p. OfFiles text_input (PoolsTo tags) (lent documents.now) (Ok p.text.items)) }
-    ensures kept { IfOk result (λ p. SaidBy text_input (λ ds. TellsPooled tags (one_text ds) p.kept.items) (lent documents.now)) }
-    ensures refused { IfErr result (RefusesFiles text_input (PoolsTo tags) (lent documents.now)) }
-{
-    let carried = match all_taken(alloc, Taken::Document, documents) {
-        Ok(carried) => carried,
-        Err(refusal) => return Err(refusal),
-    };
-    match pool(alloc, tags, carried.as_slice()) {
-        Ok(pooled) => Ok(pooled),
-        Err(reason) => Err(FilesRefusal {
-            place: None,
-            reason,
-        }),
-    }
-}
-
-// Writes the documents that readers have one behind the other, with each font once.
-fn write_pooled<R: Read, W: Write>(
-    alloc: Global,
-    tags: bool,
-    readers: &mut [Counted<R>],
-    writer: &mut Counted<W>,
-) -> Result<Vec<u8>, RunFault>
-    ensures ends { RunEnds text_input (PoolsTo tags) W.contents
-        (inputs_of R.remaining readers.old readers.new) writer.old writer.new (ended result) }
-    ensures told { IfOk result (λ lines. IfSome (values_of text_input (inputs_of R.remaining readers.old readers.new))
-        (λ documents. TellsPooled tags (one_text documents) lines.items)) }
-    ensures turns { InTurns readers.old readers.new }
-{
-    let documents = match read_texts(alloc, Taken::Document, readers) {
-        Ok(documents) => documents,
-        Err(fault) => return Err(fault),
-    };
-    let pooled = match pool_owned(alloc, tags, documents) {
-        Ok(pooled) => pooled,
-        Err(reason) => return Err(RunFault::Refused(reason)),
-    };
-    match write_text(writer, pooled.text.as_slice()) {
-        Ok(()) => Ok(pooled.kept),
-        Err(fault) => Err(fault),
-    }
-}
-
-/// Writes documents one behind the other, with each font once, and answers a line for each name that keeps its fonts.
-///
-/// An LF stands between two documents where no line ends there. The fonts of a name stand once, before the first document, and each
-/// place of the name has a line by which it finds them ([`pool_document`](t1_document::pool_document) by
-/// [`Key::Name`](t1_document::Key::Name)). With `tags` what comes out is pooled once more, by families
-/// ([`Key::Family`](t1_document::Key::Family)): names that are equal without their tags have one font.
-///
-/// A name keeps its fonts if they don't rejoin, or if they do and can't stand before the documents, or a line can't stand at a place.
-/// With `tags` the lines of the families that keep theirs stand behind those of the names, but no line stands twice.
-///
-/// A file may carry its document in a print job or in an EPS file for DOS ([`job_of`]); what stands around it is left out.
-///
-/// The inputs are read one after the other. [`Reason::TooLong`] is answered if one of them, or all together, are over the file
-/// limit, and [`Reason::Document`] if one carries no document. Nothing else is refused but for want of memory.
-pub fn run_pool<R: Read, W: Write>(
-    alloc: Global,
-    tags: bool,
-    readers: &mut [Counted<R>],
-    writer: &mut Counted<W>,
-) -> Result<Vec<u8>, RunFault>
-    ensures ends { RunEnds text_input (PoolsTo tags) W.contents
-        (inputs_of R.remaining readers.old readers.new) writer.old writer.new (ended result) }
-    ensures succeeds { Succeeds text_input (PoolsTo tags)
-        (inputs_of R.remaining readers.old readers.new) writer.old writer.new (ended result) }
-    ensures told { IfOk result (λ lines. IfSome (values_of text_input (inputs_of R.remaining readers.old readers.new))
-        (λ documents. TellsPooled tags (one_text documents) lines.items)) }
-    ensures turns { InTurns readers.old readers.new }
-{
-    write_pooled(alloc, tags, readers, writer)
 }

@@ -4,3 +4,4 @@ mod documents;
 mod fonts;
 mod jobs;
 mod kept;
+mod pages;

@@ -3,7 +3,20 @@ use super::changed::with_all;
 use super::engines::subset;
 use super::texts::joined;
 use std::alloc::{AllocError, Global};
+use t1_cmd::Pooling;
 use t1_tiny::PFA;
+
+/// Documents one behind the other, with a font for each name.
+pub const BEHIND: Pooling = Pooling {
+    tags: false,
+    dsc: false,
+};
+
+/// Documents one behind the other, with a font for each family, too.
+pub const FAMILIES: Pooling = Pooling {
+    tags: true,
+    dsc: false,
+};
 
 /// A document with a place for a font, and a line behind it that has no end.
 pub fn document(alloc: Global, font: &[u8]) -> Result<Vec<u8>, AllocError> {

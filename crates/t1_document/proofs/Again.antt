@@ -43,7 +43,7 @@ from_names P (p ∷ ps) h = (
 
 -- ---- what places get can stand there
 
-own_of_all : (documents : List (List ℕ)) → AllByRecursion Own (places_of_all documents)
+pub own_of_all : (documents : List (List ℕ)) → AllByRecursion Own (places_of_all documents)
 own_of_all [] = tt
 own_of_all (d ∷ ds) = all_append Own (document_of d).places (places_of_all ds) (own_texts_stand d) (own_of_all ds)
 

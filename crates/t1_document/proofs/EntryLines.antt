@@ -4,9 +4,9 @@ use Rattle.std.proofs.{lemmas.Bool.{and_parts}, lemmas.Option.{none-some, same_S
 use Rattle.std.specs.{Prelude.{◌&&◌, not}, List.{AllByRecursion, list_all}, Option.{option_map}, Str.{bytes_eq}}
 use Rattle.t1_grammar.specs.Grammar.{Stops}
 use Rattle.t1_text.specs.Words.{is_regular, regular_comes}
-use Rattle.t1_document.specs.{declared.pooling.Key.{Key}, Documents.{Place}, Rewriting.{NewTexts, can_give, is_seen}}
+use Rattle.t1_document.specs.{declared.pooling.Key.{Key}, declared.entries.Least.{Least}, Documents.{Place}, Rewriting.{NewTexts, can_give, is_seen}}
 use Rattle.t1_document.specs.Pooling.{key_of, places_by, line_end, place_line, Entry, leaves, is_so, behind_text, entry_name, takes_line, entry_named}
-use Rattle.t1_document.specs.Pooling.{entry_for, first_of_several, entry_leaving, entry_by, entry_of, entry_in, end_by, line_ends}
+use Rattle.t1_document.specs.{Pooling.{entry_for, first_from, entry_leaving, entry_by, entry_from, end_by, line_ends}, Apart.{entry_among}}
 use Rattle.t1_document.proofs.{Retold.{not_true}, Rewritten.{same_bytes}}
 
 -- what holds of the places of each key holds of each place and its key
@@ -44,9 +44,9 @@ takes_of start key text answers ps e h = by_test (is_so answers (leaves text) &&
     by_test true t k = by_name t (entry_name start text (behind_text answers)) k
     by_test false t k = absurd (none-some e k)
 
-entry_takes : (start key : List ℕ) (text : Option (List ℕ)) (ps : List Place) (e : Entry) → entry_of start key text ps ≡ Some e →
+entry_takes : (least : Least) (start key : List ℕ) (text : Option (List ℕ)) (ps : List Place) (e : Entry) → entry_from least start key text ps ≡ Some e →
     list_all (takes_line start key e.answers) ps ≡ true
-entry_takes start key text ps e h = by_text text (first_of_several ps) h
+entry_takes least start key text ps e h = by_text text (first_from least ps) h
   where
     by_leaving : (t : List ℕ) (o : Option Bool) → entry_leaving start key t o ps ≡ Some e → list_all (takes_line start key e.answers) ps ≡ true
     by_leaving t None k = absurd (none-some e k)
@@ -85,9 +85,9 @@ each_of P Q f (p ∷ ps) h = (f p h.0, each_of P Q f ps h.1)
 
 -- ---- the lines of keys
 
-module _ (by : Key) (start : List ℕ) (new : NewTexts) (ps : List Place) (keys : List (List ℕ)) where
+module _ (least : Least) (by : Key) (start : List ℕ) (new : NewTexts) (ps : List Place) (keys : List (List ℕ)) where
   abbrev entry : List ℕ → Option Entry
-  entry = entry_in start by new ps
+  entry = entry_among least start by new ps
 
   abbrev ends : NewTexts
   ends = line_ends entry keys
@@ -105,7 +105,7 @@ module _ (by : Key) (start : List ℕ) (new : NewTexts) (ps : List Place) (keys 
 
   -- the line of a key can stand at a place
   abbrev pub IsGiven : List ℕ → Place → Type 0
-  IsGiven key p = (end : List ℕ) → line_ends (entry_in start by new ps) keys key ≡ Some end → IsLineFor start key end p
+  IsGiven key p = (end : List ℕ) → line_ends (entry_among least start by new ps) keys key ≡ Some end → IsLineFor start key end p
 
   given : (key : List ℕ) → AllByRecursion (IsGiven key) (places_by by key ps)
   given key = by_entry (entry key) refl
@@ -123,7 +123,7 @@ module _ (by : Key) (start : List ℕ) (new : NewTexts) (ps : List Place) (keys 
           let w = end_of key end x in
           let same : e ≡ w.0 = same_Some e w.0 (sym h ∙ w.1) in
           subst (λ (t : List ℕ). IsLineFor start key t p) (ap (λ (y : Entry). line_end y.answers) same ∙ sym w.2) g) (places_by by key ps)
-          (lines_given start key e.answers (places_by by key ps) (entry_takes start key (new key) (places_by by key ps) e h))
+          (lines_given start key e.answers (places_by by key ps) (entry_takes least start key (new key) (places_by by key ps) e h))
 
   -- that of its key can stand at each place
   pub all_given : AllByRecursion (λ p. IsGiven (key_of by p.name) p) ps

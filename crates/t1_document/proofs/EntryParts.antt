@@ -5,10 +5,10 @@ use Rattle.std.specs.{Prelude.{◌&&◌, ◌||◌, codes}, Str.{bytes_eq}, Optio
 use Rattle.t1_grammar.specs.Grammar.{fixed, choice}
 use Rattle.t1_font.proofs.canonical.EntriesWritten.{fixed_read}
 use Rattle.t1_document.specs.{declared.marks.Side.TheVariants.{Begin, End}, declared.marks.Kind.{Kind}, declared.marks.Kind.TheVariants.{Font, Resource}}
-use Rattle.t1_document.specs.{declared.marks.Mark.{Mark}, Lines.{lines_of, breaks}, Marks.{begins_with, mark_of, mark_behind, kind_of, has_mark}}
+use Rattle.t1_document.specs.{declared.marks.Mark.{Mark}, declared.entries.Least.{Least}, Lines.{lines_of, breaks}, Marks.{begins_with, mark_of, mark_behind, kind_of, has_mark}}
 use Rattle.t1_document.specs.{Stretches.{IsStretch, Stretch, stretches, AreThose}, Fonts.{FontText, font_in}, Documents.{Place}}
 use Rattle.t1_document.specs.Pooling.{Entry, entry_bytes, behind_text, renaming, defined_as, leaves, is_so, clashes, named_by, if_clear}
-use Rattle.t1_document.specs.Pooling.{entry_name, takes_line, entry_named, entry_for, first_of_several, entry_leaving, entry_by, entry_of}
+use Rattle.t1_document.specs.Pooling.{entry_name, takes_line, entry_named, entry_for, first_from, entry_leaving, entry_by, entry_from}
 use Rattle.t1_document.proofs.{LineLemmas.{lines_apart, breaks-nil, breaks_behind}, StretchLemmas.{none_in_nothing, stretches_again}}
 use Rattle.t1_document.proofs.{Breaks.{breaks-behind, begun, mark_starts}, FontLemmas.{font_stands}}
 use Rattle.t1_document.proofs.{RegularNames.{IsRegular, regular_ends, no_end-append, whole_line, slash_no_mark, name_regular}, Spelled.{spells_name}}
@@ -80,8 +80,9 @@ entry_is start key text answers ps e h = by_test (is_so answers (leaves text) &&
     by_test true k = by_name (entry_name start text (behind_text answers)) refl k
     by_test false k = absurd (none-some e k)
 
-pub known_entry : (start key : List ℕ) (text : Option (List ℕ)) (ps : List Place) (e : Entry) → entry_of start key text ps ≡ Some e → IsEntry start text e
-known_entry start key text ps e h = by_text text (first_of_several ps) h
+pub known_entry : (least : Least) (start key : List ℕ) (text : Option (List ℕ)) (ps : List Place) (e : Entry) → entry_from least start key text ps ≡ Some e →
+    IsEntry start text e
+known_entry least start key text ps e h = by_text text (first_from least ps) h
   where
     by_leaving : (t : List ℕ) (o : Option Bool) → entry_leaving start key t o ps ≡ Some e → IsEntry start (Some t) e
     by_leaving t None k = absurd (none-some e k)

@@ -4,7 +4,8 @@ use Rattle.std.proofs.{lemmas.Bool.{true≢false, lt-ltb, or_parts}, lemmas.Opti
 use Rattle.std.proofs.{lemmas.Slice.Eq.{bytes_eq-Decides}, lemmas.List.{append-nil, length-append}, lemmas.List.Elements.{filter-append}}
 use Rattle.std.specs.{Prelude.{◌||◌, codes}, List.{AllByRecursion}, Str.{bytes_eq}}
 use Rattle.t1_bytes.specs.White.{has_bytes}
-use Rattle.t1_document.specs.{declared.pooling.Key.{Key}, Documents.{Place, Document, document_bytes, document_of}, Rewriting.{NewTexts, Fate, fated, is_seen}}
+use Rattle.t1_document.specs.{declared.pooling.Key.{Key}, declared.entries.Least.TheVariants.{Two}}
+use Rattle.t1_document.specs.{Documents.{Place, Document, document_bytes, document_of}, Rewriting.{NewTexts, Fate, fated, is_seen}}
 use Rattle.t1_document.specs.Joins.{Outcomes, AreOutcomes, ComeTo, names_from, places_under, new_texts}
 use Rattle.t1_document.specs.Pooling.{own_start, free_start, key_of, under_key, keyed, places_by, line_end, place_line, text_part, Entry}
 use Rattle.t1_document.specs.Pooling.{clashes, any_clashes, behind_text}
@@ -195,7 +196,7 @@ module _ (by : Key) (text : List ℕ) (outcomes : Outcomes) (are : AreOutcomes (
   ends = line_ends entry keys
 
   pub known : (key : List ℕ) (e : Entry) → entry key ≡ Some e → IsEntry (47 ∷ colons n) (new_texts outcomes key) e
-  known key e h = known_entry (47 ∷ colons n) key (new_texts outcomes key) (places_by by key ps) e h
+  known key e h = known_entry Two (47 ∷ colons n) key (new_texts outcomes key) (places_by by key ps) e h
 
   of_key : (key : List ℕ) (e : Entry) → entry key ≡ Some e → key_of by e.name ≡ key
   of_key key e h =
@@ -209,7 +210,7 @@ module _ (by : Key) (text : List ℕ) (outcomes : Outcomes) (are : AreOutcomes (
   abbrev fate : Place → Fate
   fate p = fate_ending (47 ∷ colons n) by (ends (key_of by p.name)) p
 
-  fit_all : (qs : List Place) → AllByRecursion (λ p. IsGiven by (47 ∷ colons n) (new_texts outcomes) ps keys (key_of by p.name) p) qs →
+  fit_all : (qs : List Place) → AllByRecursion (λ p. IsGiven Two by (47 ∷ colons n) (new_texts outcomes) ps keys (key_of by p.name) p) qs →
       AllFit (map (λ (x : Place × Fate). x.1) (line_fates (47 ∷ colons n) by ends qs)) qs
   fit_all [] h = tt
   fit_all (q ∷ qs) h = (by_end (ends (key_of by q.name)) refl, fit_all qs h.1)
@@ -229,7 +230,7 @@ module _ (by : Key) (text : List ℕ) (outcomes : Outcomes) (are : AreOutcomes (
       let fs = map (λ (x : Place × Fate). x.1) xs in
       let is : with_lines ≡ fated_by fs ps d.last = fated_is xs d.last ∙ ap (λ (qs : List Place). fated_by fs qs d.last) (same_places fate ps) in
       ap (λ (x : Document). document_of (document_bytes x)) is
-      ∙ (document_is fs text (fit_all ps (all_given by (47 ∷ colons n) (new_texts outcomes) ps keys)) ∙ sym is)
+      ∙ (document_is fs text (fit_all ps (all_given Two by (47 ∷ colons n) (new_texts outcomes) ps keys)) ∙ sym is)
 
   abbrev before : List ℕ
   before = front (colons n) (new_texts outcomes) entry known (colons_plain n) keys regular

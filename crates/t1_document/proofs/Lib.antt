@@ -30,6 +30,9 @@ pub mod KeyedPlaces
 pub mod AnyOrder
 pub mod RegularNames
 pub mod OwnStarts
+pub mod FreeStarts
+pub mod LongestLoop
+pub mod FoundApart
 pub mod PoolLoops
 pub mod PooledDocuments
 pub mod EntryParts

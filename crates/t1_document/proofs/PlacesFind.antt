@@ -9,7 +9,7 @@ use Rattle.t1_grammar.specs.Grammar.{Stops}
 use Rattle.t1_text.specs.Words.{is_regular}
 use Rattle.t1_font.specs.{declared.fault.ReadFault.{ReadFault}, FontValue.{FontValue}, ReadFont.{read_font_widely}}
 use Rattle.t1_font.proofs.canonical.EntriesWritten.{fixed_read}
-use Rattle.t1_document.specs.{declared.pooling.Key.{Key}, Stretches.{Stretches}, Fonts.{FontText}}
+use Rattle.t1_document.specs.{declared.pooling.Key.{Key}, declared.entries.Least.{Least}, declared.entries.Least.TheVariants.{Two}, Stretches.{Stretches}, Fonts.{FontText}}
 use Rattle.t1_document.specs.{Documents.{Place, document_of}, Rewriting.{NewTexts, Fate, fate_bytes, fated_bytes, is_seen}, Joins.{Outcomes, AreOutcomes, names_from, new_texts, places_under}}
 use Rattle.t1_document.specs.{JoinLaws.{FontStaysIn}}
 use Rattle.t1_document.specs.Pooling.{own_start, start_from, free_start, key_of, under_key, keyed, places_by, line_end, defined_as}
@@ -17,8 +17,9 @@ use Rattle.t1_document.specs.Pooling.{place_line, Entry, behind_text, clashes, a
 use Rattle.t1_document.specs.Pooling.{keys_of, line_ends, entries, prolog, fate_ending, line_fates, pooled_by}
 use Rattle.t1_document.specs.PoolLaws.{Found, with_found, own_name, KeepsOwn, defining, Runs, RunsFront, RunsPart, RunsLines}
 use Rattle.t1_document.specs.PoolLaws.{takes_answer, behind_line, RunsStretches, EntersOne, EntersAll, FindsFont, AllFind}
+use Rattle.t1_document.specs.{Apart.{entry_among}, ApartLaws.{FindsAlways}}
 use Rattle.t1_document.specs.PoolLaws.{place_fates, PlacesFind, KeepsRest, PooledOthersStay, OnePooledByKeys}
-use Rattle.t1_document.proofs.{NewTextsDraw.{IsGood, places_sound, sound_under, come_to}, Drawn.{stays_in_itself}, OneOutcome.{one_outcome}, Rewritten.{same_bytes, fated_written}}
+use Rattle.t1_document.proofs.{NewTextsDraw.{IsSound, IsGood, places_sound, sound_under, come_to}, Drawn.{stays_in_itself}, OneOutcome.{one_outcome}, Rewritten.{same_bytes, fated_written}}
 use Rattle.t1_document.proofs.{RegularNames.{IsRegular, IsNamed, places_named}, OwnTexts.{Own, own_texts_stand}}
 use Rattle.t1_document.proofs.{Retold.{no_font_in_line, stands_font}, KeyedPlaces.{keyed_sound, keys_regular}, EntryLines.{IsGiven, all_given}}
 use Rattle.t1_document.proofs.{DefiningLines.{regular_both, key_regular, colons_regular, defining_read, renames_read}, EntryParts.{IsEntry, known_entry, font_regular, stretches_of_entry}}
@@ -254,6 +255,16 @@ module _ (own : List ℕ) (new : NewTexts) (entry : List ℕ → Option Entry)
           all_find ps apt.1 after (has_behind p apt.0 found before after kept has (ends (key p)) was),
         )
 
+    -- each of them, whatever was run since the entries
+    pub each_finds : (ps : List Place) → AllByRecursion IsApt ps → (found : Found) → HasAll found →
+        AllByRecursion (FindsAlways start found) (line_fates start by ends ps)
+    each_finds [] apt found has = tt
+    each_finds (p ∷ ps) apt found has = (
+      λ before after kept run.
+          finds p apt.0 found before after kept has (ends (key p)) refl (defined p apt.0 (ends (key p)) refl before after run),
+      each_finds ps apt.1 found has,
+    )
+
 -- ---- the places of a text
 
 -- each text that keys get is good for their places
@@ -286,29 +297,27 @@ pub none_passes : (test : Place → Bool) (ps : List Place) → list_any test ps
 none_passes test [] h = tt
 none_passes test (p ∷ ps) h = let parts = or_parts (test p) (list_any test ps) h in (parts.0, none_passes test ps parts.1)
 
-module _ (by : Key) (text : List ℕ) (bytes : AreBytes text) (outcomes : Outcomes) (are : AreOutcomes (keyed by (document_of text).places) outcomes) where
-  abbrev places : List Place
-  places = (document_of text).places
-
+module _ (least : Least) (by : Key) (places : List Place) (sound : AllByRecursion IsSound places) (named : AllByRecursion IsNamed places)
+    (stand : AllByRecursion Own places) (outcomes : Outcomes) (are : AreOutcomes (keyed by places) outcomes) where
   abbrev new : NewTexts
   new = new_texts outcomes
 
   good : GoodFor by new places
   good k t e =
-      come_to k (places_under k (keyed by places)) (sound_under k (keyed by places) (keyed_sound by places (places_sound text bytes))) (outcomes k) t (are k) e
+      come_to k (places_under k (keyed by places)) (sound_under k (keyed by places) (keyed_sound by places sound)) (outcomes k) t (are k) e
 
   module _ (own : List ℕ) where
     abbrev sign : List ℕ
     sign = 47 ∷ own
 
     abbrev entered : List ℕ → Option Entry
-    entered = entry_in sign by new places
+    entered = entry_among least sign by new places
 
     abbrev own_keys : List (List ℕ)
     own_keys = keys_of sign by places
 
     known : (key : List ℕ) (e : Entry) → entered key ≡ Some e → IsEntry sign (new key) e
-    known key e h = known_entry sign key (new key) (places_by by key places) e h
+    known key e h = known_entry least sign key (new key) (places_by by key places) e h
 
     -- where there are own_keys, no name clashes
     abbrev any : Bool
@@ -327,29 +336,42 @@ module _ (by : Key) (text : List ℕ) (bytes : AreBytes text) (outcomes : Outcom
     module _ (plain : IsRegular own) where
       apt : (ps : List Place) → AllByRecursion (λ p. (k : List ℕ) → is_seen own_keys k ≡ true → clashes sign p.name ≡ false) ps → GoodFor by new ps →
           AllByRecursion IsNamed ps → AllByRecursion Own ps →
-          AllByRecursion (λ p. IsGiven by sign new places own_keys (key_of by p.name) p) ps → AllByRecursion (IsApt own new entered known plain by own_keys) ps
+          AllByRecursion (λ p. IsGiven least by sign new places own_keys (key_of by p.name) p) ps →
+          AllByRecursion (IsApt own new entered known plain by own_keys) ps
       apt [] c g n o l = tt
       apt (p ∷ ps) c g n o l = (
         record { named = n.0; ends_so = λ end e. (l.0 end e).0; stands = o.0; clear = c.0; good = good_first by new p ps g },
         apt ps c.1 (good_behind by new p ps g) n.1 o.1 l.1,
       )
 
+      all_apt : AllByRecursion (IsApt own new entered known plain by own_keys) places
+      all_apt =
+          apt places (clear any refl places
+          (λ h. none_passes (λ p. clashes sign p.name) places (or_parts (any_clashes sign places) (any_clashes sign (keyed by places)) h).0)) good
+          named stand (all_given least by sign new places own_keys)
+
+      all_have : (before after : Found) → EntersAll sign (map (λ key. entry_part sign key (entered key)) own_keys) before after →
+          HasAll own new entered known plain by own_keys after
+      all_have before after run k e is seen =
+          has_all own new entered known plain k e is own_keys (keys_regular sign by places named) seen before after run
+
+      -- the places, one behind the other
       found : (before after : Found) → EntersAll sign (map (λ key. entry_part sign key (entered key)) own_keys) before after →
           AllFind sign (line_fates sign by (line_ends entered own_keys) places) after
-      found before after run =
-          all_find own new entered known plain by own_keys places
-          (apt places (clear any refl places
-          (λ h. none_passes (λ p. clashes sign p.name) places (or_parts (any_clashes sign places) (any_clashes sign (keyed by places)) h).0)) good
-          (places_named text) (own_texts_stand text) (all_given by sign new places own_keys)) after
-          (λ k e is seen. has_all own new entered known plain k e is own_keys (keys_regular sign by places (places_named text)) seen before after run)
+      found before after run = all_find own new entered known plain by own_keys places all_apt after (all_have before after run)
+
+      -- and each of them
+      pub each_found : (before after : Found) → EntersAll sign (map (λ key. entry_part sign key (entered key)) own_keys) before after →
+          AllByRecursion (FindsAlways sign after) (line_fates sign by (line_ends entered own_keys) places)
+      each_found before after run = each_finds own new entered known plain by own_keys places all_apt after (all_have before after run)
 
 -- ---- the laws
 
 -- the start of the pool's names is a slash and regular bytes
-abbrev HasOwn : List ℕ → Type 0
+abbrev pub HasOwn : List ℕ → Type 0
 HasOwn start = (own : List ℕ) × (start ≡ 47 ∷ own) × IsRegular own
 
-slash : (more n : ℕ) (text : List ℕ) → HasOwn (start_from more n text)
+pub slash : (more n : ℕ) (text : List ℕ) → HasOwn (start_from more n text)
 unfolding start_from
 slash zero n text = (codes "pool" ++ replicate n 58, refl, colons_regular n)
 slash (suc more) n text = by_free (occurs (fixed (own_start n)) text) (slash more (suc n) text)
@@ -365,7 +387,7 @@ places_find by text bytes outcomes are before after =
     let s = slash (length text) 1 text in
     subst (λ (start : List ℕ). EntersAll start (map (λ key. entry_part start key (entry_in start by new ps key)) (keys_of start by ps)) before after →
     AllFind start (line_fates start by (line_ends (entry_in start by new ps) (keys_of start by ps)) ps) after)
-    (sym s.1) (found by text bytes outcomes are s.0 s.2 before after)
+    (sym s.1) (found Two by ps (places_sound text bytes) (places_named text) (own_texts_stand text) outcomes are s.0 s.2 before after)
 
 -- ---- what stays
 
@@ -378,7 +400,7 @@ same_places f [] = refl
 same_places f (p ∷ ps) = ap (λ (qs : List Place). p ∷ qs) (same_places f ps)
 
 -- the end of a key's lines leaves false on the operand stack, or nothing
-an_end : (entry : List ℕ → Option Entry) (keys : List (List ℕ)) (key end : List ℕ) → line_ends entry keys key ≡ Some end →
+pub an_end : (entry : List ℕ → Option Entry) (keys : List (List ℕ)) (key end : List ℕ) → line_ends entry keys key ≡ Some end →
     (answers : Bool) × (end ≡ line_end answers)
 an_end entry keys key end h = by_seen (is_seen keys key) h
   where
@@ -390,7 +412,7 @@ an_end entry keys key end h = by_seen (is_seen keys key) h
     by_seen true k = by_entry (entry key) k
     by_seen false k = absurd (none-some end k)
 
-rests_stay : (from own : List ℕ) (by : Key) (ends_of : NewTexts) → from ≡ 47 ∷ own → IsRegular own →
+pub rests_stay : (from own : List ℕ) (by : Key) (ends_of : NewTexts) → from ≡ 47 ∷ own → IsRegular own →
     ((key end : List ℕ) → ends_of key ≡ Some end → (answers : Bool) × (end ≡ line_end answers)) → (ps : List Place) → AllByRecursion IsNamed ps →
     AllByRecursion KeepsRest (line_fates from by ends_of ps)
 rests_stay from own by ends_of is plain an_end_of [] named = tt

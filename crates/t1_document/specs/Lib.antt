@@ -12,4 +12,6 @@ pub mod Groups
 pub mod JoinLaws
 pub mod Families
 pub mod Pooling
+pub mod Apart
 pub mod PoolLaws
+pub mod ApartLaws

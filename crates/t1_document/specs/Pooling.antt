@@ -1,5 +1,5 @@
 -- Documents pooled: the font of each key stands once, before the first document, under a name of the pool's own, and each place of the key gets it by a line.
-use Rattle.std.specs.{Prelude.{ℕ, zero, suc, ◌&&◌, ◌||◌, not, Bool, true, false, List, [], ◌∷◌, ◌++◌, map, filter, replicate, length, codes, Option, Some, None, is_some, if◌then◌else◌}}
+use Rattle.std.specs.{Prelude.{ℕ, zero, suc, ◌&&◌, ◌||◌, not, Bool, true, false, List, [], ◌∷◌, ◌++◌, map, filter, replicate, length, codes, nat_lt, Option, Some, None, is_some, if◌then◌else◌}}
 use Rattle.std.specs.{Prelude.{Result, Ok, Err}, List.{list_all, list_any, flat_map}, Option.{option_map, option_and_then}, Str.{bytes_eq}}
 use Rattle.t1_grammar.specs.{Grammar.{fixed}, Places.{occurs}}
 use Rattle.t1_bytes.specs.White.{has_bytes}
@@ -7,6 +7,7 @@ use Rattle.t1_text.specs.Words.{regular_comes}
 use Rattle.t1_text.specs.FontTest.{taken_test}
 use Rattle.t1_font.specs.{declared.fault.ReadFault.{ReadFault}, FontValue.{FontValue}, ReadFont.{read_font_widely}}
 use Rattle.t1_document.specs.{declared.pooling.Key.{Key}, declared.pooling.Key.TheVariants.{Name, Family}, Marks.{begins_with, has_mark}, Fonts.{FontText, font_in}}
+use Rattle.t1_document.specs.{declared.entries.Least.{Least}, declared.entries.Least.TheVariants.{One, Two}}
 use Rattle.t1_document.specs.{Documents.{Place, Document, document_bytes, document_of}, Rewriting.{NewTexts, can_give, is_seen, Fate, Stays, Gives, fated}}
 use Rattle.t1_document.specs.{Families.{family}, Joins.{names_from}}
 
@@ -24,6 +25,15 @@ start_from (suc more) colons text = if occurs (fixed (own_start colons)) text th
 -- what the names of the pool begin with: `/pool:`, or more colons where the text has such names already
 abbrev pub free_start : List ℕ → List ℕ
 free_start text = start_from (length text) 1 text
+
+-- the longer of two starts of names
+abbrev pub longer : List ℕ → List ℕ → List ℕ
+longer a b = if nat_lt (length a) (length b) then b else a
+
+-- the longest of a start and those that are free in texts
+abbrev pub longest : List ℕ → List (List ℕ) → List ℕ
+longest start [] = start
+longest start (t ∷ ts) = longest (longer start (free_start t)) ts
 
 -- ---- keys
 
@@ -143,6 +153,12 @@ first_of_several [] = None
 first_of_several (p ∷ []) = None
 first_of_several (p ∷ q ∷ ps) = Some p
 
+-- the first of places, if there are so many
+abbrev pub first_from : Least → List Place → Option Place
+first_from Two ps = first_of_several ps
+first_from One [] = None
+first_from One (p ∷ ps) = Some p
+
 -- the entry of this text, where the first of these places leaves so much
 abbrev pub entry_leaving : List ℕ → List ℕ → List ℕ → Option Bool → List Place → Option Entry
 entry_leaving start key text None ps = None
@@ -153,6 +169,10 @@ abbrev pub entry_by : List ℕ → List ℕ → Option (List ℕ) → Option Pla
 entry_by start key None first ps = None
 entry_by start key (Some text) None ps = None
 entry_by start key (Some text) (Some p) ps = entry_leaving start key text (leaves p.text) ps
+
+-- the entry of a key whose places are these: there is one where the key has a text and at least so many places
+abbrev pub entry_from : Least → List ℕ → List ℕ → Option (List ℕ) → List Place → Option Entry
+entry_from least start key text ps = entry_by start key text (first_from least ps) ps
 
 -- The entry of a key whose places are these: there is one where the key has a text and several places.
 abbrev pub entry_of : List ℕ → List ℕ → Option (List ℕ) → List Place → Option Entry
@@ -226,6 +246,11 @@ has_no_lines (Some text) (Some end) = false
 -- a key with this text and these places keeps its font texts all the same, as it has no lines
 abbrev pub is_left : Option (List ℕ) → List Place → Option (List ℕ) → Bool
 is_left text ps end = is_several ps && has_no_lines text end
+
+-- a key with this text and these places, which has an entry from so many places on, keeps its font texts all the same
+abbrev pub is_left_from : Least → Option (List ℕ) → List Place → Option (List ℕ) → Bool
+is_left_from One text ps end = has_no_lines text end
+is_left_from Two text ps end = is_left text ps end
 
 -- the keys among places that have a new text and several places, and no lines, in the order of their first places
 abbrev pub left_keys : List ℕ → Key → NewTexts → List Place → List (List ℕ)

@@ -5,7 +5,7 @@ ghost use Rattle.std.specs.Option.{option_map};
 ghost use Rattle.t1_document.specs.{Joins.{new_texts}, Groups.{outcome_in, places_in}, Texts.{text_in}, Views.{font_view, place_view, entry_view}};
 ghost use Rattle.t1_text.specs.FontTest.{taken_test};
 ghost use Rattle.t1_document.specs.Pooling.{behind_text, text_part, renaming, entry_bytes, asks, leaves, is_so, named_by, entry_name, takes_line};
-ghost use Rattle.t1_document.specs.Pooling.{entry_for, first_of_several, entry_of, entry_part, end_added, entries, line_ends};
+ghost use Rattle.t1_document.specs.Pooling.{entry_for, first_of_several, first_from, entry_from, entry_part, end_added, entries, line_ends};
 
 use crate::documents::Place;
 use crate::fonts::{FontText, font_in};
@@ -186,21 +186,41 @@ fn first_of_several<'p, 'a>(places: &'p [Place<'a>]) -> Option<&'p Place<'a>>
     }
 }
 
+/// From how many places on a key has an entry.
+#[derive(Clone, Copy)]
+pub enum Least {
+    /// One.
+    One,
+    /// Two: a font that stands once stays where it is.
+    Two,
+}
+
+/// The first of places, if there are so many.
+fn first_from<'p, 'a>(least: Least, places: &'p [Place<'a>]) -> Option<&'p Place<'a>>
+    ensures { option_map (λ p. place_view p.now) result ≡ first_from least (map place_view places.now) }
+{
+    match least {
+        Least::One => places.first(),
+        Least::Two => first_of_several(places),
+    }
+}
+
 /// The entry of a key that has this text and these places.
 fn entry_of<'n>(
     alloc: Global,
+    least: Least,
     start: &[u8],
     key: &[u8],
     text: Option<&'n [u8]>,
     places: &[Place<'_>],
 ) -> Result<Option<Entry<'n>>, AllocError>
     ensures { IfOk result (λ o. option_map entry_view o
-        ≡ entry_of start.now key.now (option_map (λ t. t.now) text.entry) (map place_view places.now)) }
+        ≡ entry_from least start.now key.now (option_map (λ t. t.now) text.entry) (map place_view places.now)) }
 {
     let Some(text) = text else {
         return Ok(None);
     };
-    let Some(first) = first_of_several(places) else {
+    let Some(first) = first_from(least, places) else {
         return Ok(None);
     };
     match leaves(alloc, first.text)? {
@@ -256,16 +276,17 @@ fn push_entry(
 /// The entry of a key, by what its fonts come to, and its places.
 fn entry_in<'j>(
     alloc: Global,
+    least: Least,
     start: &[u8],
     key: &[u8],
     joins: &'j Joins<'_>,
     groups: &Groups<'_>,
 ) -> Result<Option<Entry<'j>>, AllocError>
     ensures { IfOk result (λ o. option_map entry_view o
-        ≡ entry_of start.now key.now (new_texts (outcome_in joins.now) key.now) (places_in groups.now key.now)) }
+        ≡ entry_from least start.now key.now (new_texts (outcome_in joins.now) key.now) (places_in groups.now key.now)) }
 {
     match groups.get(key) {
-        Some(places) => entry_of(alloc, start, key, joins.text(key), places),
+        Some(places) => entry_of(alloc, least, start, key, joins.text(key), places),
         None => Ok(None),
     }
 }
@@ -304,22 +325,23 @@ impl<'a> Parts<'a> {
 /// The entries of keys.
 pub(crate) fn parts_of<'a>(
     alloc: Global,
+    least: Least,
     start: &[u8],
     keys: &[&'a [u8]],
     joins: &Joins<'_>,
     groups: &Groups<'_>,
 ) -> Result<Parts<'a>, AllocError>
     ensures bytes { IfOk result (λ x. x.bytes.items ≡ entries start.now (λ key.
-        entry_of start.now key (new_texts (outcome_in joins.now) key) (places_in groups.now key)) (map (λ k. k.now) keys.now)) }
+        entry_from least start.now key (new_texts (outcome_in joins.now) key) (places_in groups.now key)) (map (λ k. k.now) keys.now)) }
     ensures ends { IfOk result (λ x. (name : List ℕ) → text_in x.ends name ≡ line_ends (λ key.
-        entry_of start.now key (new_texts (outcome_in joins.now) key) (places_in groups.now key)) (map (λ k. k.now) keys.now) name) }
+        entry_from least start.now key (new_texts (outcome_in joins.now) key) (places_in groups.now key)) (map (λ k. k.now) keys.now) name) }
 {
     let mut parts = Parts {
         bytes: Vec::new(alloc),
         ends: Texts::new(alloc),
     };
     'keys: for key in keys {
-        let entry = entry_in(alloc, start, *key, joins, groups)?;
+        let entry = entry_in(alloc, least, start, *key, joins, groups)?;
         parts.add(start, *key, &entry)?;
     }
     Ok(parts)

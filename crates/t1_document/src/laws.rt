@@ -3,7 +3,7 @@
 ghost use Rattle.t1_document.specs.Laws.{StretchesOfText, ReadAgain, DocumentOfText, PlacesSpell, JoinedDocuments, RewrittenIsRead, MarksStay, OthersStay};
 ghost use Rattle.t1_document.specs.Laws.{LevelRenews, CanonStands, OwnTextsStand, OwnTextsStay, LevelledTwice, LevelledApart};
 ghost use Rattle.t1_document.specs.JoinLaws.{NewTextsDraw, NewTextsStand, OneOutcome, OneLevelled, LevelledAgain, LevelledTogether, InAnyOrder};
-ghost use Rattle.t1_document.specs.PoolLaws.{Pooled};
+ghost use Rattle.t1_document.specs.{PoolLaws.{Pooled}, ApartLaws.{PooledApart}};
 
 /// The stretches of a text, joined, are the text.
 pub fn stretches_of_text()
@@ -111,4 +111,11 @@ pub fn in_any_order()
 /// any order documents get the same texts for their keys.
 pub fn pooled()
     ensures { Pooled }
+{}
+
+/// Where the fonts that documents have apart are run, each place of each document finds a font in which its own stays, whatever is run
+/// before it then that leaves the pool's names, which begin as nothing in the documents does. At each place stands its font text
+/// or a line, and then its rest. Documents have one text of fonts apart.
+pub fn pooled_apart()
+    ensures { PooledApart }
 {}

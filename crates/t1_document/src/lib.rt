@@ -14,6 +14,7 @@
 //! `specs/Rewriting.antt`, and the laws in `specs/Laws.antt`.
 #![tactic(auto)]
 
+mod apart;
 mod documents;
 mod entries;
 mod families;
@@ -31,11 +32,14 @@ mod rewriting;
 mod stretches;
 mod texts;
 
+pub use apart::{PooledApart, pool_apart};
 pub use documents::{Document, Place, read_document};
+pub use entries::Least;
 pub use joins::{Joins, Kept, Outcome, join_fonts};
 pub use levelling::{LevelledTexts, all_places, level_documents, read_documents};
 pub use lines::{line_of, push_document};
 pub use marks::{Kind, Mark, Open, Side, mark_of};
 pub use names::names_of;
+pub use own_names::{free_start, longest_start, stands_in};
 pub use pooling::{Key, PooledText, pool_document};
 pub use texts::Texts;

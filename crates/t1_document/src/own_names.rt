@@ -2,7 +2,8 @@
 
 ghost use Rattle.std.specs.Prelude.{◌≡◌, ◌++◌, IfOk, OnOk};
 ghost use Rattle.t1_grammar.specs.{Grammar.{fixed}, Places.{occurs}};
-ghost use Rattle.t1_document.specs.{Rewriting.{can_give}, Pooling.{free_start, clashes, defined_as, line_end, place_line}};
+ghost use Rattle.t1_subset.specs.NameSets.{lent};
+ghost use Rattle.t1_document.specs.{Rewriting.{can_give}, Pooling.{free_start, longer, longest, clashes, defined_as, line_end, place_line}};
 
 use crate::lines::breaks;
 use crate::rewriting::has_mark;
@@ -10,14 +11,18 @@ use std::alloc::{AllocError, Global};
 use t1_bytes::texts::{find_from, fixed_at};
 
 /// Whether a word stands somewhere in a text.
-pub(crate) fn stands_in(word: &[u8], text: &[u8]) -> bool
+pub fn stands_in(word: &[u8], text: &[u8]) -> bool
     ensures { result ≡ occurs (fixed word.now) text.now }
 {
     find_from(text, word, 0).is_some()
 }
 
 /// What the names of the pool begin with: it stands nowhere in this text.
-pub(crate) fn free_start(alloc: Global, text: &[u8]) -> Result<Vec<u8>, AllocError>
+///
+/// # Errors
+///
+/// Only want of memory.
+pub fn free_start(alloc: Global, text: &[u8]) -> Result<Vec<u8>, AllocError>
     ensures { IfOk result (λ v. v.items ≡ free_start text.now) }
 {
     let mut start = Vec::from_slice(alloc, b"/pool:")?;
@@ -25,6 +30,29 @@ pub(crate) fn free_start(alloc: Global, text: &[u8]) -> Result<Vec<u8>, AllocErr
         start.push(b':')?;
     }
     Ok(start)
+}
+
+/// The longer of two starts of names.
+fn longer(a: Vec<u8>, b: Vec<u8>) -> Vec<u8>
+    ensures { result.items ≡ longer a.items b.items }
+{
+    if a.len() < b.len() { b } else { a }
+}
+
+/// The longest of a start of names and those that are free in texts ([`free_start`]).
+///
+/// # Errors
+///
+/// Only want of memory.
+pub fn longest_start(alloc: Global, start: Vec<u8>, texts: &[&[u8]]) -> Result<Vec<u8>, AllocError>
+    ensures { IfOk result (λ v. v.items ≡ longest start.items (lent texts.now)) }
+{
+    let mut longest = start;
+    'texts: for text in texts {
+        let other = free_start(alloc, *text)?;
+        longest = longer(longest, other);
+    }
+    Ok(longest)
 }
 
 /// Whether a name begins as the pool's own do.

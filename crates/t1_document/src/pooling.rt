@@ -4,10 +4,10 @@ ghost use Rattle.std.specs.{Prelude.{◌≡◌, ◌++◌, ◌||◌, ◌∷◌, [
 ghost use Rattle.t1_document.specs.{Documents.{document_of}, Rewriting.{fate_bytes, fated_bytes}, Joins.{new_texts, names_from, AreOutcomes}};
 ghost use Rattle.t1_document.specs.{Groups.{outcome_in, places_in}, Texts.{text_in}, Views.{place_view, document_view}};
 ghost use Rattle.t1_document.specs.Pooling.{free_start, key_of, keyed, any_clashes, prolog, line_fate, line_fates, document_pooled, pooled_by};
-ghost use Rattle.t1_document.specs.Pooling.{is_several, has_no_lines, is_left, left_keys};
+ghost use Rattle.t1_document.specs.Pooling.{is_several, has_no_lines, is_left_from, left_keys};
 
 use crate::documents::{Document, Place, read_document};
-use crate::entries::parts_of;
+use crate::entries::{Least, parts_of};
 use crate::families::family;
 use crate::groups::{Groups, groups_by};
 use crate::joins::{Joins, join_fonts};
@@ -38,7 +38,11 @@ impl Key {
 }
 
 /// Places under their keys.
-fn keyed<'a>(alloc: Global, by: Key, places: &[Place<'a>]) -> Result<Vec<Place<'a>>, AllocError>
+pub(crate) fn keyed<'a>(
+    alloc: Global,
+    by: Key,
+    places: &[Place<'a>],
+) -> Result<Vec<Place<'a>>, AllocError>
     ensures { IfOk result (λ v. map place_view v.items ≡ keyed by (map place_view places.now)) }
 {
     let mut keyed = Vec::with_capacity(alloc, places.len())?;
@@ -64,7 +68,7 @@ fn any_clashes(start: &[u8], places: &[Place<'_>]) -> bool
 }
 
 /// Those of all keys that may have entries: none where the name or the key of a place clashes.
-fn keys_of<'k, 'a>(
+pub(crate) fn keys_of<'k, 'a>(
     start: &[u8],
     places: &[Place<'_>],
     keyed: &[Place<'_>],
@@ -113,7 +117,7 @@ fn push_place(
 }
 
 /// Adds places, of which those of keys whose lines end so have lines, and the bytes behind them.
-fn push_lined(
+pub(crate) fn push_lined(
     out: &mut Vec<u8>,
     start: &[u8],
     by: Key,
@@ -146,30 +150,56 @@ fn has_no_lines(text: Option<&[u8]>, end: Option<&[u8]>) -> bool
     matches!((text, end), (Some(_), None))
 }
 
-/// Whether a key that has a text keeps its font texts at several places.
-fn is_left(key: &[u8], ends: &Texts<'_>, joins: &Joins<'_>, groups: &Groups<'_>) -> bool
-    ensures { result ≡ is_left (new_texts (outcome_in joins.now) key.now) (places_in groups.now key.now) (text_in ends.now key.now) }
+/// Whether a key that has a text and these places keeps its font texts, though it has so many places.
+fn is_left_at(least: Least, text: Option<&[u8]>, places: &[Place<'_>], end: Option<&[u8]>) -> bool
+    ensures { result ≡ is_left_from least (option_map (λ t. t.now) text.entry) (map place_view places.now) (option_map (λ t. t.now) end.entry) }
 {
-    match groups.get(key) {
-        Some(places) => is_several(places) && has_no_lines(joins.text(key), ends.get(key)),
-        None => false,
+    match least {
+        Least::One => has_no_lines(text, end),
+        Least::Two => is_several(places) && has_no_lines(text, end),
     }
 }
 
+/// The places of a key.
+fn places_in<'g, 'a>(groups: &'g Groups<'a>, key: &[u8]) -> &'g [Place<'a>]
+    ensures { map place_view result.now ≡ places_in groups.now key.now }
+{
+    groups.get(key).unwrap_or_default()
+}
+
+/// Whether a key does.
+fn is_left(
+    least: Least,
+    key: &[u8],
+    ends: &Texts<'_>,
+    joins: &Joins<'_>,
+    groups: &Groups<'_>,
+) -> bool
+    ensures { result ≡ is_left_from least (new_texts (outcome_in joins.now) key.now) (places_in groups.now key.now) (text_in ends.now key.now) }
+{
+    is_left_at(
+        least,
+        joins.text(key),
+        places_in(groups, key),
+        ends.get(key),
+    )
+}
+
 /// Those of keys that do.
-fn left_keys<'a>(
+pub(crate) fn left_keys<'a>(
     alloc: Global,
+    least: Least,
     keys: &[&'a [u8]],
     ends: &Texts<'_>,
     joins: &Joins<'_>,
     groups: &Groups<'_>,
 ) -> Result<Vec<&'a [u8]>, AllocError>
-    ensures { IfOk result (λ v. map (λ k. k.now) v.items ≡ filter (λ key.
-        is_left (new_texts (outcome_in joins.now) key) (places_in groups.now key) (text_in ends.now key)) (map (λ k. k.now) keys.now)) }
+    ensures { IfOk result (λ v. map (λ k. k.now) v.items ≡ filter (λ key. is_left_from least
+        (new_texts (outcome_in joins.now) key) (places_in groups.now key) (text_in ends.now key)) (map (λ k. k.now) keys.now)) }
 {
     let mut left = Vec::new(alloc);
     'keys: for key in keys {
-        if is_left(*key, ends, joins, groups) {
+        if is_left(least, *key, ends, joins, groups) {
             left.push(*key)?;
         }
     }
@@ -203,8 +233,15 @@ impl<'a> Document<'a> {
         let groups = groups_by(alloc, by, own)?;
         let all = names_of(alloc, places)?;
         let keys = keys_of(start, own, places, all.as_slice());
-        let parts = parts_of(alloc, start, keys, joins, &groups)?;
-        let left = left_keys(alloc, all.as_slice(), &parts.ends, joins, &groups)?;
+        let parts = parts_of(alloc, Least::Two, start, keys, joins, &groups)?;
+        let left = left_keys(
+            alloc,
+            Least::Two,
+            all.as_slice(),
+            &parts.ends,
+            joins,
+            &groups,
+        )?;
         let mut text = prolog(alloc, parts.bytes.as_slice())?;
         push_lined(&mut text, start, by, &parts.ends, own, self.last)?;
         Ok(Lined { text, left })

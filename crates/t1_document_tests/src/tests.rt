@@ -1,5 +1,6 @@
 //! Documents as producers write them: which places they have, and what they become with new texts.
 
+mod apart;
 mod growths;
 mod joins;
 mod kept;

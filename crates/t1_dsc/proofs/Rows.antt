@@ -1,9 +1,9 @@
 -- Worked rows of the definitions, computed.
 use Rattle.std.{proofs.Common.{◌≡◌, ℕ, false, List, [], ◌∷◌, refl}, specs.Prelude.{codes}}
-use Rattle.t1_document.specs.{Lines.{lines_of}, Marks.{mark_of, kind_of}}
+use Rattle.t1_document.specs.{Lines.{lines_of}, Marks.{mark_of, kind_of}, Pooling.{longer}}
 use Rattle.t1_dsc.specs.{declared.lines.Role.{Role}, declared.lines.Role.TheVariants.{Text, Page, Trailer, SetupEnd, Structure}}
 use Rattle.t1_dsc.specs.{Structure.{Line, role_of, lines_from, open_from, lines_in, left_open}, Parts.{header_len, parts_of, has_pages, comments_len, setup_len}}
-use Rattle.t1_dsc.specs.Joining.{ended, quiet, closing, longer}
+use Rattle.t1_dsc.specs.Joining.{ended, quiet, closing}
 
 -- ---- what a line is
 

@@ -1,8 +1,8 @@
--- The loops that write lines, words and pages, and the one over starts of names.
-use Rattle.std.proofs.{Common.{◌≡◌, ◌≤◌, ◌<◌, ◌+◌, ◌-◌, ℕ, suc, List, ◌++◌, length, get_or, drop, map, sym, ap, ◌∙◌, arith, append_assoc}, lemmas.List.{append-nil, drop_more, drop_all}}
+-- The loops that write lines, words and pages.
+use Rattle.std.proofs.{Common.{◌≡◌, ◌≤◌, ◌<◌, ◌+◌, ◌-◌, ℕ, suc, List, ◌++◌, length, get_or, drop, map, sym, ap, ◌∙◌, arith, append_assoc}, lemmas.List.{append-nil, drop_more, drop_all, length-append}}
 use Rattle.std.specs.List.{flat_map}
-use Rattle.t1_dsc.specs.{Parts.{PageLines}, Joining.{times, longest, longer, Frame, page_bytes, pages_bytes}}
-use Rattle.t1_document.specs.Pooling.{free_start}
+use Rattle.t1_dsc.specs.{declared.fault.PagesFault.{PagesFault}, declared.fault.PagesFault.TheVariants.{TooLong, Memory}, Limits.{IsOver}}
+use Rattle.t1_dsc.specs.{Parts.{PageLines}, Joining.{times, Frame, page_bytes, pages_bytes}}
 
 -- ---- what each value of a list gives
 
@@ -37,17 +37,6 @@ times_all i n word le out all was =
     let none : n - i ≡ 0 = omega arith in
     sym (append-nil out) ∙ (ap (λ (k : ℕ). out ++ times k word) (sym none) ∙ was)
 
--- ---- the longest start
-
-module _ {X : Type 0} (view : X → List ℕ) (xs : List X) where
-  pub longest_more : (i : ℕ) (d : X) → i < length xs → (start more all : List ℕ) → more ≡ longer start (free_start (view (get_or xs i d))) →
-      longest start (map view (drop i xs)) ≡ all → longest more (map view (drop (i + 1) xs)) ≡ all
-  longest_more i d h start more all e was =
-      ap (λ (s : List ℕ). longest s (map view (drop (i + 1) xs))) e ∙ (ap (λ ys. longest start (map view ys)) (sym (drop_more xs i d h)) ∙ was)
-
-  pub longest_all : (i : ℕ) → length xs ≤ i → (start all : List ℕ) → longest start (map view (drop i xs)) ≡ all → start ≡ all
-  longest_all i le start all was = ap (λ ys. longest start (map view ys)) (sym (drop_all i xs le)) ∙ was
-
 -- ---- pages
 
 module _ {X : Type 0} (start : List ℕ) (frame : Frame) (view : X → PageLines) (ps : List X) (first : ℕ) (all : List ℕ) where
@@ -67,3 +56,15 @@ module _ {X : Type 0} (start : List ℕ) (frame : Frame) (view : X → PageLines
   pub paged_all : (i : ℕ) → length ps ≤ i → (n : ℕ) (out : List ℕ) → Paging i n out → out ≡ all
   paged_all i le n out was =
       sym (append-nil out) ∙ (ap (λ ys. out ++ pages_bytes start frame n (map view ys)) (sym (drop_all i ps le)) ∙ was.bytes)
+
+  -- what was written is no longer than all of it
+  pub paged_over : (limit i n : ℕ) (out : List ℕ) → Paging i n out → limit < length out → limit < length all
+  paged_over limit i n out was lt =
+      omega (arith, lt, ap length was.bytes, length-append out (pages_bytes start frame n (map view (drop i ps))))
+
+-- ---- bytes over a limit
+
+-- what is over a limit is so with more behind it
+pub over_more : (limit : ℕ) (bytes rest whole : List ℕ) (fault : PagesFault) → bytes ++ rest ≡ whole → IsOver limit bytes fault → IsOver limit whole fault
+over_more limit bytes rest whole TooLong e h = omega (arith, h, ap length e, length-append bytes rest)
+over_more limit bytes rest whole Memory e h = tt

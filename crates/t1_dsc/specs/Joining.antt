@@ -1,7 +1,7 @@
 -- Documents as one: each page with all that it stands on, one behind the other under new numbers.
-use Rattle.std.specs.{Prelude.{ℕ, ◌+◌, Bool, true, List, [], ◌∷◌, ◌++◌, take, drop, length, replicate, codes, decimal, if◌then◌else◌, nat_lt}}
+use Rattle.std.specs.{Prelude.{ℕ, ◌+◌, Bool, true, List, [], ◌∷◌, ◌++◌, take, drop, length, replicate, codes, decimal, if◌then◌else◌}}
 use Rattle.std.specs.List.{flat_map, concat}
-use Rattle.t1_document.specs.{declared.marks.Open.{Open}, Lines.{is_line_end}, Pooling.{free_start}}
+use Rattle.t1_document.specs.{declared.marks.Open.{Open}, Lines.{is_line_end}, Pooling.{free_start, longest}}
 use Rattle.t1_dsc.specs.{declared.lines.Role.{Role}, declared.lines.Role.TheVariants.{Text}, Structure.{Line, same_role, lines_in, left_open}}
 use Rattle.t1_dsc.specs.Parts.{PageLines, Parts, behind_header, has_pages, parts_of, comments_len, setup_len}
 
@@ -40,15 +40,6 @@ abbrev pub closing : Open → List ℕ
 closing o = times o.documents (codes "%%EndDocument\n") ++ times o.raw (codes "%%EndData\n")
 
 -- ---- names of the joined document's own
-
--- the longer of two starts of names
-abbrev pub longer : List ℕ → List ℕ → List ℕ
-longer a b = if nat_lt (length a) (length b) then b else a
-
--- the longest of a start and those that are free in documents
-abbrev pub longest : List ℕ → List (List ℕ) → List ℕ
-longest start [] = start
-longest start (d ∷ ds) = longest (longer start (free_start d)) ds
 
 -- what the names begin with: it stands neither in the fonts nor in a document
 abbrev pub names_start : List ℕ → List (List ℕ) → List ℕ

@@ -1,8 +1,10 @@
 //! Documents as one.
 
-ghost use Rattle.std.specs.Prelude.{◌≡◌, ◌++◌, ◌+◌, map, IfOk, OnOk};
+ghost use Rattle.std.specs.Prelude.{◌≡◌, ◌++◌, ◌+◌, ◌≤◌, length, map, IfOk, IfErr, OnOk};
+ghost use Rattle.t1_dsc.specs.Limits.{IsOver};
 ghost use Rattle.t1_dsc.specs.Joining.{count_in, page_count, told_in, pages_told, bytes_in, document_bytes, documents_bytes, total, header, prolog, quiet_in, quieted, setup, joined_pages};
 
+use crate::fault::PagesFault;
 use crate::lines::read_lines;
 use crate::names::{names_start, push_procedures};
 use crate::pages::{Frame, push_number, push_pages, sum};
@@ -74,7 +76,8 @@ fn count_all(alloc: Global, documents: &[&[u8]]) -> Result<PageCounts, AllocErro
     Ok(PageCounts { total, told })
 }
 
-/// Adds the pages of a text of whole lines, numbered from this number on, and tells the number behind theirs.
+/// Adds the pages of a text of whole lines, numbered from this number on, and tells the number behind theirs. No page is begun
+/// behind so many bytes.
 #[tactic(auto, unfolding(crate::specs::Joining::bytes_in))]
 fn push_in(
     alloc: Global,
@@ -82,9 +85,11 @@ fn push_in(
     start: &[u8],
     first: usize,
     text: &[u8],
-) -> Result<usize, AllocError>
+    limit: usize,
+) -> Result<usize, PagesFault>
     ensures next { IfOk result (λ n. n ≡ first + count_in text.now) }
     ensures bytes { OnOk result (out.new.items ≡ out.old.items ++ bytes_in start.now first text.now) }
+    ensures over { IfErr result (IsOver limit (out.old.items ++ bytes_in start.now first text.now)) }
 {
     let read = read_lines(alloc, text)?;
     let parts = parts_of(alloc, behind_header(read.lines.as_slice()))?;
@@ -97,39 +102,47 @@ fn push_in(
         head: head.as_slice(),
         tail: tail.as_slice(),
     };
-    push_pages(out, start, frame, first, parts.pages.as_slice())
+    push_pages(out, start, frame, first, parts.pages.as_slice(), limit)
 }
 
-/// Adds the pages of a document, numbered from this number on, and tells the number behind theirs.
+/// Adds the pages of a document, numbered from this number on, and tells the number behind theirs. No page is begun behind so many
+/// bytes.
 fn push_document(
     alloc: Global,
     out: &mut Vec<u8>,
     start: &[u8],
     first: usize,
     document: &[u8],
-) -> Result<usize, AllocError>
+    limit: usize,
+) -> Result<usize, PagesFault>
     ensures next { IfOk result (λ n. n ≡ first + page_count document.now) }
     ensures bytes { OnOk result (out.new.items ≡ out.old.items ++ document_bytes start.now first document.now) }
+    ensures over { IfErr result (IsOver limit (out.old.items ++ document_bytes start.now first document.now)) }
 {
     if is_ended(document) {
-        return push_in(alloc, out, start, first, document);
+        return push_in(alloc, out, start, first, document, limit);
     }
     let whole = with_end(alloc, document)?;
-    push_in(alloc, out, start, first, whole.as_slice())
+    push_in(alloc, out, start, first, whole.as_slice(), limit)
 }
 
-/// Adds the pages of documents.
+/// Adds the pages of documents. No page is begun behind so many bytes.
 fn push_documents(
     alloc: Global,
     out: &mut Vec<u8>,
     start: &[u8],
     documents: &[&[u8]],
-) -> Result<(), AllocError>
-    ensures { OnOk result (out.new.items ≡ out.old.items ++ documents_bytes start.now 1 (map (λ d. d.now) documents.now)) }
+    limit: usize,
+) -> Result<(), PagesFault>
+    ensures bytes { OnOk result (out.new.items ≡ out.old.items ++ documents_bytes start.now 1 (map (λ d. d.now) documents.now)) }
+    ensures over { IfErr result (IsOver limit (out.old.items ++ documents_bytes start.now 1 (map (λ d. d.now) documents.now))) }
 {
     let mut first = 1;
     'documents: for document in documents {
-        first = push_document(alloc, out, start, first, *document)?;
+        first = match push_document(alloc, out, start, first, *document, limit) {
+            Ok(next) => next,
+            Err(fault) => return Err(fault),
+        };
     }
     Ok(())
 }
@@ -178,27 +191,57 @@ fn push_setup(alloc: Global, out: &mut Vec<u8>, fonts: &[u8]) -> Result<(), Allo
     Ok(())
 }
 
+/// Adds what stands before the pages.
+fn push_front(
+    alloc: Global,
+    out: &mut Vec<u8>,
+    start: &[u8],
+    pages: usize,
+    fonts: &[u8],
+) -> Result<(), AllocError>
+    ensures { OnOk result (out.new.items ≡ out.old.items ++ (header pages ++ (prolog start.now ++ setup fonts.now))) }
+{
+    push_header(out, start, pages)?;
+    push_setup(alloc, out, fonts)
+}
+
+/// A text, if it isn't longer than this.
+fn within(text: Vec<u8>, limit: usize) -> Result<Vec<u8>, PagesFault>
+    ensures text { IfOk result (λ t. t.items ≡ text.items) }
+    ensures short { IfOk result (λ t. length t.items ≤ limit) }
+    ensures over { IfErr result (IsOver limit text.items) }
+{
+    if text.len() > limit {
+        return Err(PagesFault::TooLong);
+    }
+    Ok(text)
+}
+
 /// Documents as one, whose setup begins with `fonts`.
 ///
 /// # Errors
 ///
-/// Only want of memory.
+/// [`PagesFault::TooLong`] if it would have more bytes than `limit`: then few more than these are written. [`PagesFault::Memory`] if a
+/// growth was refused.
 #[tactic(auto, unfolding(crate::specs::Joining::joined_pages))]
 pub fn join_pages(
     alloc: Global,
     fonts: &[u8],
     documents: &[&[u8]],
-) -> Result<JoinedPages, AllocError>
+    limit: usize,
+) -> Result<JoinedPages, PagesFault>
     ensures text { IfOk result (λ j. j.text.items ≡ joined_pages fonts.now (map (λ d. d.now) documents.now)) }
     ensures pages { IfOk result (λ j. j.pages.items ≡ map pages_told (map (λ d. d.now) documents.now)) }
+    ensures short { IfOk result (λ j. length j.text.items ≤ limit) }
+    ensures over { IfErr result (IsOver limit (joined_pages fonts.now (map (λ d. d.now) documents.now))) }
 {
     let start = names_start(alloc, fonts, documents)?;
     let counts = count_all(alloc, documents)?;
     let mut text = Vec::new(alloc);
-    push_header(&mut text, start.as_slice(), counts.total)?;
-    push_setup(alloc, &mut text, fonts)?;
-    push_documents(alloc, &mut text, start.as_slice(), documents)?;
+    push_front(alloc, &mut text, start.as_slice(), counts.total, fonts)?;
+    push_documents(alloc, &mut text, start.as_slice(), documents, limit)?;
     text.extend_from_slice(b"%%Trailer\n%%EOF\n")?;
+    let text = within(text, limit)?;
     Ok(JoinedPages {
         text,
         pages: counts.told,

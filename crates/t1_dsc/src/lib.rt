@@ -2,7 +2,7 @@
 //! programs that select or reorder pages see every page of it.
 //!
 //! ```text
-//! let joined = join_pages(alloc, fonts, &[one, other])?;
+//! let joined = join_pages(alloc, fonts, &[one, other], limit)?;
 //! ```
 //!
 //! The text has one header, which tells the number of pages, one prolog with two procedures, one setup with `fonts`, and one
@@ -23,6 +23,7 @@
 //! (`specs/Parts.antt`); what documents become is in `specs/Joining.antt`, and the laws in `specs/Laws.antt`.
 #![tactic(auto)]
 
+mod fault;
 mod joining;
 pub mod laws;
 mod lines;
@@ -32,4 +33,5 @@ mod parts;
 mod quiet;
 mod whole;
 
+pub use fault::PagesFault;
 pub use joining::{JoinedPages, join_pages};

@@ -1,37 +1,10 @@
 //! Names of the joined document's own, and the procedures that have them.
 
 ghost use Rattle.std.specs.Prelude.{◌≡◌, ◌++◌, map, IfOk, OnOk};
-ghost use Rattle.t1_grammar.specs.{Grammar.{fixed}, Places.{occurs}};
-ghost use Rattle.t1_document.specs.Pooling.{free_start};
-ghost use Rattle.t1_dsc.specs.Joining.{longer, names_start, name_of, procedure_begin, procedure_end};
+ghost use Rattle.t1_dsc.specs.Joining.{names_start, name_of, procedure_begin, procedure_end};
 
 use std::alloc::{AllocError, Global};
-use t1_bytes::texts::find_from;
-
-/// Whether a word stands somewhere in a text.
-fn stands_in(word: &[u8], text: &[u8]) -> bool
-    ensures { result ≡ occurs (fixed word.now) text.now }
-{
-    find_from(text, word, 0).is_some()
-}
-
-/// A start of names that stands nowhere in this text.
-fn free_start(alloc: Global, text: &[u8]) -> Result<Vec<u8>, AllocError>
-    ensures { IfOk result (λ v. v.items ≡ free_start text.now) }
-{
-    let mut start = Vec::from_slice(alloc, b"/pool:")?;
-    'colons: while stands_in(start.as_slice(), text) {
-        start.push(b':')?;
-    }
-    Ok(start)
-}
-
-/// The longer of two starts of names.
-fn longer(a: Vec<u8>, b: Vec<u8>) -> Vec<u8>
-    ensures { result.items ≡ longer a.items b.items }
-{
-    if a.len() < b.len() { b } else { a }
-}
+use t1_document::{free_start, longest_start};
 
 /// What the names begin with: it stands neither in the fonts nor in a document.
 pub(crate) fn names_start(
@@ -41,12 +14,8 @@ pub(crate) fn names_start(
 ) -> Result<Vec<u8>, AllocError>
     ensures { IfOk result (λ v. v.items ≡ names_start fonts.now (map (λ d. d.now) documents.now)) }
 {
-    let mut start = free_start(alloc, fonts)?;
-    'documents: for document in documents {
-        let other = free_start(alloc, *document)?;
-        start = longer(start, other);
-    }
-    Ok(start)
+    let start = free_start(alloc, fonts)?;
+    longest_start(alloc, start, documents)
 }
 
 /// Adds a name as it is executed, without the slash that its start has.

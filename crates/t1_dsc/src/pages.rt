@@ -1,8 +1,10 @@
 //! A page with all that it stands on.
 
-ghost use Rattle.std.specs.Prelude.{◌≡◌, ◌++◌, ◌+◌, length, map, decimal, IfOk, OnOk};
+ghost use Rattle.std.specs.Prelude.{◌≡◌, ◌++◌, ◌+◌, length, map, decimal, IfOk, IfErr, OnOk};
+ghost use Rattle.t1_dsc.specs.Limits.{IsOver};
 ghost use Rattle.t1_dsc.specs.{Joining.{page_line, page_front, with_setup, page_inner, page_bytes, pages_bytes}, Views.{line_view, page_view, frame_view}};
 
+use crate::fault::PagesFault;
 use crate::lines::Line;
 use crate::names::push_name;
 use crate::parts::{PageLines, comments_len, setup_len};
@@ -102,20 +104,26 @@ fn push_page(
     push_name(out, start, b"end\n")
 }
 
-/// Adds pages, numbered from this number on, and tells the number behind theirs.
+/// Adds pages, numbered from this number on, and tells the number behind theirs. No page is begun behind so many bytes.
 pub(crate) fn push_pages(
     out: &mut Vec<u8>,
     start: &[u8],
     frame: Frame<'_>,
     first: usize,
     pages: &[PageLines<'_, '_>],
-) -> Result<usize, AllocError>
+    limit: usize,
+) -> Result<usize, PagesFault>
     ensures next { IfOk result (λ n. n ≡ first + length pages.now) }
     ensures bytes { OnOk result (out.new.items ≡ out.old.items
         ++ pages_bytes start.now (frame_view frame.entry) first (map page_view pages.now)) }
+    ensures over { IfErr result (IsOver limit (out.old.items
+        ++ pages_bytes start.now (frame_view frame.entry) first (map page_view pages.now))) }
 {
     let mut n = first;
     'pages: for page in pages {
+        if out.len() > limit {
+            return Err(PagesFault::TooLong);
+        }
         push_page(out, start, frame, n, page)?;
         n = sum(n, 1)?;
     }

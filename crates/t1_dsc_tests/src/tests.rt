@@ -1,7 +1,7 @@
 //! Documents as one, by rows that were written by hand.
 
 use std::alloc::{AllocError, Global};
-use t1_dsc::{JoinedPages, join_pages};
+use t1_dsc::{JoinedPages, PagesFault, join_pages};
 
 /// Fonts, documents, how many pages each has, and the text that they become, in pieces.
 type Row = (
@@ -133,10 +133,10 @@ fn joined_again(
     alloc: Global,
     fonts: &[u8],
     documents: &[&[u8]],
-) -> Result<JoinedPages, AllocError> {
-    match join_pages(alloc, fonts, documents) {
+) -> Result<JoinedPages, PagesFault> {
+    match join_pages(alloc, fonts, documents, usize::MAX) {
         Ok(joined) => Ok(joined),
-        Err(_) => join_pages(alloc, fonts, documents),
+        Err(_) => join_pages(alloc, fonts, documents, usize::MAX),
     }
 }
 
@@ -170,9 +170,9 @@ fn many_pages(alloc: Global, count: usize) -> Result<Vec<u8>, AllocError> {
 }
 
 /// How many pages are told of so many, and whether the last one has this number.
-fn last_of(alloc: Global, count: usize, last: &[u8]) -> Result<bool, AllocError> {
+fn last_of(alloc: Global, count: usize, last: &[u8]) -> Result<bool, PagesFault> {
     let document = many_pages(alloc, count)?;
-    let joined = join_pages(alloc, b"", &[document.as_slice()])?;
+    let joined = join_pages(alloc, b"", &[document.as_slice()], usize::MAX)?;
     Ok(joined.pages.as_slice() == [count].as_slice() && joined.text.as_slice().ends_with(last))
 }
 
@@ -186,4 +186,34 @@ fn many(rt: HostRuntime) {
             b"%%Page: 1000 1000\n%%BeginPageSetup\npool:begin\nhead\n% %%Page: 1 1\n%\n%%EndPageSetup\npage\npool:end\n%%Trailer\n%%EOF\n"
         ) == Ok(true)
     );
+}
+
+/// Whether a document joins within its own length, and within no less.
+fn is_limited(alloc: Global, count: usize) -> Result<bool, PagesFault> {
+    let document = many_pages(alloc, count)?;
+    let documents: &[&[u8]] = &[document.as_slice()];
+    let size = join_pages(alloc, b"", documents, usize::MAX)?.text.len();
+    let again = join_pages(alloc, b"", documents, size)?.text.len();
+    Ok(
+        again == size
+            && is_refused(alloc, documents, size.saturating_sub(1))?
+            && is_refused(alloc, documents, 0)?,
+    )
+}
+
+/// Whether documents are too long for this limit, and the refusal is printed so.
+fn is_refused(alloc: Global, documents: &[&[u8]], limit: usize) -> Result<bool, PagesFault> {
+    match join_pages(alloc, b"", documents, limit) {
+        Err(fault) => Ok(
+            fault == PagesFault::TooLong && fault.to_string(alloc)?.as_str() == "document too long",
+        ),
+        Ok(_) => Ok(false),
+    }
+}
+
+// meets join_pages TooLong at 1, 1000 pages
+#[test]
+fn limits(rt: HostRuntime) {
+    assert!(rt; is_limited(rt.alloc(), 1) == Ok(true));
+    assert!(rt; is_limited(rt.alloc(), 1000) == Ok(true));
 }

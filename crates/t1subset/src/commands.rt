@@ -123,10 +123,18 @@ is complete.
 With --tags, names that are equal without their tags, six capitals and `+`, then
 have one font, too: /pool:NAME, without the tags.
 
+With --dsc, OUT is one document, so that print spoolers and programs that select
+pages see all of them: one header with the number of pages, one setup with the
+fonts, and all pages under new numbers, each behind the prolog and the setup of
+its own document and between save and restore. A document without %%Page
+comments becomes one page, and a line on standard error says so.
+
 Examples: t1subset pool all.ps one.ps two.ps
-          t1subset pool --tags all.ps one.ps two.ps";
+          t1subset pool --tags --dsc all.ps one.ps two.ps";
 
 const TAGS_HELP: &str = "Gives names that are equal without their tags one font";
+
+const DSC_HELP: &str = "Makes one document of all, with all their pages";
 
 const LEVEL_HELP: &str = "\
 Writes each PostScript document into FOLDER, under its own last name, so that
@@ -268,7 +276,12 @@ const POOL: Row = Row {
     name: "pool",
     about: "Writes documents one behind the other with each font once",
     help: POOL_HELP,
-    words: &[OUT, DOCUMENTS, Word::Flag("tags", TAGS_HELP)],
+    words: &[
+        OUT,
+        DOCUMENTS,
+        Word::Flag("tags", TAGS_HELP),
+        Word::Flag("dsc", DSC_HELP),
+    ],
 };
 
 const LEVEL: Row = Row {

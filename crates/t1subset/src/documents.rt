@@ -10,7 +10,8 @@ use std::io::Write;
 use std::os::unix::fs::MetadataExt;
 use std::rt::Files;
 use t1_cmd::{
-    Counted, Levelled, Reason, RunFault, run_extract, run_fonts, run_level, run_pool, write_text,
+    Counted, Levelled, Pooling, Reason, RunFault, run_extract, run_fonts, run_level, run_pool,
+    write_text,
 };
 
 /// The documents of these paths, all of them opened, each of which is shown when it is read.
@@ -135,14 +136,17 @@ fn bytes_of<'p>(alloc: Global, words: &[&'p str]) -> Result<Vec<&'p [u8]>, Alloc
 }
 
 impl<'r, 'p: 'r, R: Files, O: Write + Drop, E: Write + Drop> Run<'r, 'p, R, O, E> {
-    /// Writes documents one behind the other with each font once.
+    /// Writes documents with each font once.
     pub fn pool(&mut self) -> Result<(), RunFault> {
         let paths = self.paths;
-        let tags = self.given.get_flag("tags");
+        let how = Pooling {
+            tags: self.given.get_flag("tags"),
+            dsc: self.given.get_flag("dsc"),
+        };
         let mut out = self.result();
         let progress = RefCell::new(self.told.progress(paths.len()));
         let mut documents = watched(self.rt, self.alloc, paths, &progress, &mut self.seen)?;
-        let done = run_pool(self.alloc, tags, documents.as_mut_slice(), &mut out);
+        let done = run_pool(self.alloc, how, documents.as_mut_slice(), &mut out);
         self.seen.input = last_read(paths, documents.as_slice());
         drop(documents);
         clear(progress);

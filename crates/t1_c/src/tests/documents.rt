@@ -1,8 +1,7 @@
 //! Documents with Tiny, or with subsets of it.
 use super::{begins, gave, used};
 use crate::{
-    Answer, level_answers, t1subset_extract, t1subset_fonts, t1subset_pool, t1subset_pool_tags,
-    t1subset_subset,
+    Answer, level_answers, t1subset_extract, t1subset_fonts, t1subset_pool, t1subset_subset,
 };
 use std::alloc::Global;
 use std::test::Fail;
@@ -103,14 +102,14 @@ fn pooled(rt: HostRuntime) -> Result<(), Fail> {
             })?;
         }
         let mut a = used();
-        let code = t1subset_pool(rt.alloc(), documents.as_slice(), &mut a);
+        let code = t1subset_pool(rt.alloc(), documents.as_slice(), 0, &mut a);
         assert!(rt; gave(code, &a, (0, 0, -1, want.as_slice())));
     }
     let mut a = used();
-    let code = t1subset_pool(rt.alloc(), &[b"%!PS", b"\x04%!showpage\x04"], &mut a);
+    let code = t1subset_pool(rt.alloc(), &[b"%!PS", b"\x04%!showpage\x04"], 0, &mut a);
     assert!(rt; gave(code, &a, (0, 0, -1, b"%!PS\n%!showpage")));
     let mut a = used();
-    let code = t1subset_pool(rt.alloc(), &[b"%!PS", b"%PDF-1.7"], &mut a);
+    let code = t1subset_pool(rt.alloc(), &[b"%!PS", b"%PDF-1.7"], 0, &mut a);
     assert!(rt; gave(code, &a, (8, 0, 1, b"no document: a PDF file")));
     Ok(())
 }
@@ -140,9 +139,9 @@ fn pooled_by_families(rt: HostRuntime) -> Result<(), Fail> {
         &[both.as_slice(), BEGIN, first, END, BEGIN, second, END],
     )?;
     let mut a = used();
-    let code = t1subset_pool_tags(alloc, &[one.as_slice(), other.as_slice()], &mut a);
+    let code = t1subset_pool(alloc, &[one.as_slice(), other.as_slice()], 1, &mut a);
     assert!(rt; gave(code, &a, (0, 0, -1, want.as_slice())));
-    let code = t1subset_pool_tags(alloc, &[], &mut a);
+    let code = t1subset_pool(alloc, &[], 1, &mut a);
     assert!(rt; gave(code, &a, (0, 0, -1, b"")));
     Ok(())
 }
@@ -227,7 +226,7 @@ fn fonts_that_stay(rt: HostRuntime) -> Result<(), Fail> {
     assert!(rt; gave(code, &a, (0, 0, -1, want)));
     let both = joined(rt.alloc(), &documents)?;
     let mut a = used();
-    let code = t1subset_pool(rt.alloc(), &documents, &mut a);
+    let code = t1subset_pool(rt.alloc(), &documents, 0, &mut a);
     assert!(rt; gave(code, &a, (0, 0, -1, both.as_slice())));
     let mut all = [used(), used()];
     let code = level_answers(rt.alloc(), &documents, &mut all);

@@ -3,9 +3,10 @@ use std::alloc::{AllocError, Global};
 use std::io::ErrorKind;
 use std::test::Fail;
 use t1_cmd::{
-    Counted, Levelled, Pooled, Reason, RunFault, level_files, pool_files, run_level, run_pool,
+    Counted, Levelled, Pooled, Pooling, Reason, RunFault, level_files, pool_files, run_level,
+    run_pool,
 };
-use t1_cmd_shared_tests::documents::{document, other, part, tagged, whole};
+use t1_cmd_shared_tests::documents::{BEHIND, FAMILIES, document, other, part, tagged, whole};
 use t1_cmd_shared_tests::engines::{Engine, run};
 use t1_cmd_shared_tests::feeds::{FINE, Feed, Plan, Sink, word};
 use t1_cmd_shared_tests::lists::readers;
@@ -13,9 +14,13 @@ use t1_cmd_shared_tests::texts::{are_same, done, joined, line_of, of_call, writt
 use t1_font::Form;
 use t1_tiny::PFA;
 
-/// What the call pools documents to, with tags or without, and behind it what is told.
-fn pooled_files(alloc: Global, tags: bool, documents: &[&[u8]]) -> Result<Vec<u8>, AllocError> {
-    match pool_files(alloc, tags, documents) {
+/// What the call pools documents to, and behind it what is told.
+pub fn pooled_files(
+    alloc: Global,
+    how: Pooling,
+    documents: &[&[u8]],
+) -> Result<Vec<u8>, AllocError> {
+    match pool_files(alloc, how, documents) {
         Ok(Pooled { text, kept }) => joined(alloc, &[text.as_slice(), kept.as_slice()]),
         Err(refusal) => {
             drop(refusal);
@@ -50,32 +55,32 @@ fn levelled_files(alloc: Global, documents: &[&[u8]]) -> Result<Vec<u8>, AllocEr
 fn files_are_alike(alloc: Global, documents: &[&[u8]]) -> bool {
     are_same(
         pooled(alloc, documents),
-        pooled_files(alloc, false, documents),
+        pooled_files(alloc, BEHIND, documents),
     ) && are_same(levelled(alloc, documents), levelled_files(alloc, documents))
 }
 
 /// What is written of documents that are pooled, and behind it what is told; or the line of the refusal.
 pub fn pooled(alloc: Global, documents: &[&[u8]]) -> Result<Vec<u8>, AllocError> {
-    pooled_as(alloc, false, documents)
+    pooled_as(alloc, BEHIND, documents)
 }
 
-/// The same of readers, with tags or without.
+/// The same of readers.
 fn pooled_from(
     alloc: Global,
-    tags: bool,
+    how: Pooling,
     readers: &mut [Counted<&[u8]>],
 ) -> Result<Vec<u8>, AllocError> {
     let mut out = Vec::new(alloc);
-    match run_pool(alloc, tags, readers, &mut Counted::new(&mut out)) {
+    match run_pool(alloc, how, readers, &mut Counted::new(&mut out)) {
         Ok(lines) => joined(alloc, &[out.as_slice(), lines.as_slice()]),
         Err(fault) => Ok(line_of(alloc, fault)),
     }
 }
 
-/// The same, with tags or without.
-pub fn pooled_as(alloc: Global, tags: bool, documents: &[&[u8]]) -> Result<Vec<u8>, AllocError> {
+/// The same, pooled so.
+pub fn pooled_as(alloc: Global, how: Pooling, documents: &[&[u8]]) -> Result<Vec<u8>, AllocError> {
     match readers(alloc, documents) {
-        Ok(mut readers) => pooled_from(alloc, tags, readers.as_mut_slice()),
+        Ok(mut readers) => pooled_from(alloc, how, readers.as_mut_slice()),
         Err(fault) => Err(fault),
     }
 }
@@ -213,8 +218,11 @@ const FAMILY_KEPT: &[u8] = b"kept Tiny: shells differ in head\n";
 /// Whether documents are pooled to this, and this is told, by the engine and by the call, where names that are equal without
 /// their tags are one.
 pub fn families_are(alloc: Global, documents: &[&[u8]], want: &[&[u8]]) -> bool {
-    are_same(pooled_as(alloc, true, documents), joined(alloc, want))
-        && are_same(pooled_files(alloc, true, documents), joined(alloc, want))
+    are_same(pooled_as(alloc, FAMILIES, documents), joined(alloc, want))
+        && are_same(
+            pooled_files(alloc, FAMILIES, documents),
+            joined(alloc, want),
+        )
 }
 
 /// What of a part of a font with a tag, of the whole with that tag and with another, and of another font comes out wrong, if anything.
@@ -322,7 +330,7 @@ const FAILS: Plan = Plan {
 fn ended(alloc: Global, first: Plan, second: Plan, writer: Plan) -> &'static str {
     let mut readers = [Feed::new(PFA, first), Feed::new(PFA, second)];
     let mut out = Counted::new(Sink::new(Vec::new(alloc), writer));
-    word(run_pool(alloc, false, &mut readers, &mut out))
+    word(run_pool(alloc, BEHIND, &mut readers, &mut out))
 }
 
 /// How two documents are levelled that are read by these plans, as a word.
@@ -346,11 +354,17 @@ fn documents_that_fail(rt: HostRuntime) {
     assert!(rt; levels(rt.alloc(), FINE, FAILS) == "read");
 }
 
-/// Whether two documents are pooled to this text, with tags or without, with room for it.
-fn pool_to(alloc: Global, tags: bool, a: &[u8], b: &[u8], want: &[u8]) -> Result<bool, AllocError> {
+/// Whether two documents are pooled so to this text, with room for it.
+fn pool_to(
+    alloc: Global,
+    how: Pooling,
+    a: &[u8],
+    b: &[u8],
+    want: &[u8],
+) -> Result<bool, AllocError> {
     let mut readers = [Counted::new(a), Counted::new(b)];
     let mut out = Vec::with_capacity(alloc, want.len())?;
-    let ended = run_pool(alloc, tags, &mut readers, &mut Counted::new(&mut out));
+    let ended = run_pool(alloc, how, &mut readers, &mut Counted::new(&mut out));
     wrote(out, done(ended), want)
 }
 
@@ -386,7 +400,7 @@ fn level_to(alloc: Global, a: &[u8], b: &[u8], want: &[u8]) -> Result<bool, Allo
 
 /// Whether the call pools documents to this text.
 fn files_pool_to(alloc: Global, documents: &[&[u8]], want: &[u8]) -> Result<bool, AllocError> {
-    match of_call(pool_files(alloc, false, documents)) {
+    match of_call(pool_files(alloc, BEHIND, documents)) {
         Ok(Some(one)) => Ok(one.text.as_slice() == want && one.kept.is_empty()),
         Ok(None) => Ok(false),
         Err(fault) => Err(fault),
@@ -419,8 +433,8 @@ fn both_become(alloc: Global, a: &[u8], b: &[u8], want: &[u8]) -> Result<bool, A
     Ok(
         files_pool_to(alloc, &[a, b], want)?
             && files_level_to(alloc, &[a, b], b)?
-            && pool_to(alloc, false, a, b, want)?
-            && pool_to(alloc, true, a, b, want)?
+            && pool_to(alloc, BEHIND, a, b, want)?
+            && pool_to(alloc, FAMILIES, a, b, want)?
             && level_to(alloc, a, b, b)?,
     )
 }

@@ -2,6 +2,7 @@
 use super::documents::{levelled, pooled};
 use std::alloc::{AllocError, Global};
 use t1_cmd::{FilesRefusal, Reason, level_files, list_fonts, pool_files};
+use t1_cmd_shared_tests::documents::BEHIND;
 use t1_cmd_shared_tests::texts::is;
 use t1_jobs::{FileKind, NoDocument};
 
@@ -94,7 +95,7 @@ const SECOND: &[&[u8]] = &[JOB, b"%PDF-1.7\n"];
 // meets list_fonts Document at 2 documents
 #[test]
 fn the_second_is_none(rt: HostRuntime) {
-    assert!(rt; is_second(pool_files(rt.alloc(), false, SECOND)));
+    assert!(rt; is_second(pool_files(rt.alloc(), BEHIND, SECOND)));
     assert!(rt; is_second(level_files(rt.alloc(), SECOND)));
     assert!(rt; is_second(list_fonts(rt.alloc(), &[], SECOND)));
     assert!(rt;

@@ -5,12 +5,13 @@ use std::io;
 use std::io::Read;
 use std::test::Fail;
 use t1_cmd::{
-    Counted, FILE_LIMIT, FilesRefusal, Reason, RunFault, diff_files, extract_file, join_listings,
-    level_files, list_fonts, pool_files, read_all, run_diff, run_extract, run_fonts, run_join,
-    run_level, run_pool,
+    Counted, FILE_LIMIT, FilesRefusal, Pooling, Reason, RunFault, diff_files, extract_file,
+    join_listings, level_files, list_fonts, pool_files, read_all, run_diff, run_extract, run_fonts,
+    run_join, run_level, run_pool,
 };
 use t1_cmd_shared_tests::changed::file_of;
 use t1_cmd_shared_tests::diffs::refuses as diff_refuses;
+use t1_cmd_shared_tests::documents::{BEHIND, FAMILIES};
 use t1_cmd_shared_tests::engines::{ENGINES, answers, made, run};
 use t1_cmd_shared_tests::feeds::word_of;
 use t1_cmd_shared_tests::lists::{LISTS, all_list, made_of, refused_place, run_list_of};
@@ -282,7 +283,7 @@ fn ran_over(alloc: Global, left: usize, right: usize, engine: Engine) -> &'stati
     let mut out = Vec::new(alloc);
     let mut writer = Counted::new(&mut out);
     match engine {
-        Engine::Pool => word(done(run_pool(alloc, false, &mut readers, &mut writer))),
+        Engine::Pool => word(done(run_pool(alloc, BEHIND, &mut readers, &mut writer))),
         Engine::Level => word(done(run_level(alloc, &mut readers))),
         Engine::Fonts => word(run_fonts(alloc, &[], &mut readers, &mut writer)),
         Engine::Extract => word(run_extract(alloc, b"Tiny", &mut readers, &mut writer)),
@@ -292,7 +293,7 @@ fn ran_over(alloc: Global, left: usize, right: usize, engine: Engine) -> &'stati
 /// Whether a document is too long for each call over documents, behind a short one and before itself.
 fn is_too_long_a_document(alloc: Global, document: &[u8]) -> bool {
     let documents = [b"%!".as_slice(), document, document];
-    told_too_long(pool_files(alloc, false, &documents), Some(1))
+    told_too_long(pool_files(alloc, BEHIND, &documents), Some(1))
         && told_too_long(level_files(alloc, &documents), Some(1))
         && told_too_long(list_fonts(alloc, &[], &documents), Some(1))
         && told_too_long(extract_file(alloc, b"Tiny", &documents), Some(1))
@@ -374,6 +375,16 @@ fn files_over_the_limit(rt: HostRuntime) -> Result<(), Fail> {
     Ok(())
 }
 
+/// Whether documents are too long together, one behind the other and as one.
+fn are_too_long(alloc: Global, documents: &[&[u8]]) -> bool {
+    const ONE: Pooling = Pooling {
+        tags: false,
+        dsc: true,
+    };
+    told_too_long(pool_files(alloc, FAMILIES, documents), None)
+        && told_too_long(pool_files(alloc, ONE, documents), None)
+}
+
 // meets run_pool TooLong at 268435457 bytes
 // meets run_level TooLong at 268435457 bytes
 // like run_pool: run_fonts, run_extract, pool_files, level_files, list_fonts, extract_file
@@ -397,7 +408,7 @@ fn documents_over_the_limit(rt: HostRuntime) -> Result<(), Fail> {
     let file = read_all(alloc, &mut long, 268_435_457)?;
     assert!(rt; is_too_long_a_document(alloc, file.as_slice()));
     match file.as_slice().get(..134_217_728) {
-        Some(half) => assert!(rt; told_too_long(pool_files(alloc, true, &[half, half]), None)),
+        Some(half) => assert!(rt; are_too_long(alloc, &[half, half])),
         None => assert!(rt; false, "a file that is too short"),
     }
     Ok(())

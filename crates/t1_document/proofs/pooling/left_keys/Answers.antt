@@ -1,5 +1,5 @@
 use Rattle.std.proofs.{Common.{ℕ, List, Bool, map, ap, ◌∙◌, Bor, Vec, sym}, lemmas.List.{map-append}}
-use Rattle.t1_document.specs.{Joins.{new_texts}, Groups.{outcome_in, places_in}, Pooling.{is_left}, Texts.{text_in}}
+use Rattle.t1_document.specs.{Joins.{new_texts}, Groups.{outcome_in, places_in}, Pooling.{is_left_from}, Texts.{text_in}}
 use Rattle.t1_document.proofs.{PoolLoops.{key_kept, key_passed}, pooling.left_keys.Goals.{then-is_left+in_ok-push, else-is_left}}
 use Rattle.t1_document.proofs.pooling.left_keys.Goals as goal
 
@@ -10,7 +10,7 @@ values keys = map (λ k. k.now) keys.items
 pub keys-preserved : goal.keys-preserved
 keys-preserved c =
     let left : List ℕ → Bool =
-    λ key. is_left (new_texts (outcome_in c.args.joins.now) key) (places_in c.args.groups.now key) (text_in c.args.ends.now key) in
+    λ key. is_left_from c.args.least (new_texts (outcome_in c.args.joins.now) key) (places_in c.args.groups.now key) (text_in c.args.ends.now key) in
     let keys = c.args.keys.now in
     elim c.if-is_left.branch [
       | then-is_left+in_ok-push w ↦

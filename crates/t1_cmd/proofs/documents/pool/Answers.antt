@@ -1,4 +1,0 @@
-use Rattle.t1_cmd.proofs.documents.pool.Goals as goal
-
-pub returns-in-Err-clause-refused : goal.returns-in-Err-clause-refused
-returns-in-Err-clause-refused c = c.in-Err.ensures.refused c.args.tags

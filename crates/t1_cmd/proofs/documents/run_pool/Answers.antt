@@ -1,8 +1,0 @@
-use Rattle.t1_cmd.{specs.{Runs.{ended}, Mergers.{inputs_of}, Documents.{text_input, PoolsTo}}, proofs.{RunLemmas.{ends_succeeds}, DocumentCommands.{pools_apart}}}
-use Rattle.t1_cmd.proofs.documents.run_pool.Goals as goal
-
-pub returns-clause-succeeds : goal.returns-clause-succeeds
-returns-clause-succeeds g c =
-    ends_succeeds text_input (PoolsTo c.args.tags) (pools_apart c.args.tags)
-    g.W.Write.contents (inputs_of g.R.Read.remaining c.args.readers.now c.write_pooled.new.readers)
-    c.args.writer.now c.write_pooled.new.writer (ended c.write_pooled.result) c.write_pooled.ensures.ends
