@@ -127,7 +127,7 @@ def print_filter(library, program, folder):
     faults = []
     for job in jobs:
         path = put(job, folder, "job.ps")
-        is_pooled = subprocess.run([program, "pool", os.path.join(folder, "out.ps"), path], capture_output=True).returncode == 0
+        is_pooled = subprocess.run([program, "pool", "--tags", os.path.join(folder, "out.ps"), path], capture_output=True).returncode == 0
         pooled = (0, bytes_of(folder, "out.ps") if is_pooled else job, b"INFO:")
         faults += [here.wrong(pooled, job=job), here.wrong(pooled, path, job=b"another job")]
     failed = (1, b"", b"ERROR:")

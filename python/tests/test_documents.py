@@ -45,6 +45,19 @@ class Documents(unittest.TestCase):
         self.assertEqual(t1subset.pool([SOME, OTHER], tags=True), before(BOTH) + LINED * 2)
         self.assertEqual(t1subset.pool([], tags=True), b"")
 
+    def test_pooled_as_one_document(self) -> None:
+        def page(number: int, head: bytes, text: bytes) -> bytes:
+            front = b"%%%%Page: %d %d\n%%%%BeginPageSetup\npool::begin\n" % (number, number)
+            return front + head + b"% %%Page: 1 1\n%\n%%EndPageSetup\n" + text + b"pool::end\n"
+
+        head, line = (text[len(b"%!PS\n"):] for text in (WHOLE, LINED))
+        fonts = before(WHOLE)[len(b"%!PS-Adobe-3.0\n"):]
+        made = t1subset.pool([b"%!PS\n" + head + b"%%Page: 1 1\na\n%%Page: 1 1\nb\n"], dsc=True)
+        self.assertTrue(made.startswith(b"%!PS-Adobe-3.0\n%%Pages: 2\n%%EndComments\n%%BeginProlog\n/pool::kept 3 dict def\n"))
+        pages = page(1, line, b"a\n") + page(2, line, b"b\n")
+        self.assertTrue(made.endswith(b"%%EndProlog\n%%BeginSetup\n" + fonts + b"%%EndSetup\n" + pages + b"%%Trailer\n%%EOF\n"))
+        self.assertEqual(made, t1subset.pool([b"%!PS\n" + head + b"%%Page: 1 1\na\n%%Page: 1 1\nb\n"], tags=True, dsc=True))
+
     def test_levelled(self) -> None:
         self.assertEqual(t1subset.level([SOME, b"\x04%!", OTHER]), [BOTH, b"\x04%!", BOTH])
         self.assertEqual(t1subset.level([SOME] * 100 + [WHOLE]), [WHOLE] * 101)

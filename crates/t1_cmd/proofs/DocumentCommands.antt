@@ -3,23 +3,23 @@ use Rattle.std.proofs.{Common.{◌≡◌, ℕ, Bool, arith, sym, ◌∙◌, List
 use Rattle.t1_cmd.specs.{declared.faults.Reason.{Reason}}
 use Rattle.t1_cmd.specs.declared.faults.Reason.TheVariants.{TooLong, Memory, List as ListReason, Join as JoinReason, Font, NoGlyph, NoCode}
 use Rattle.t1_cmd.specs.declared.faults.Reason.TheVariants.{NoFont, Document as DocumentReason, TooManyTokens, Lacks, Merge}
-use Rattle.t1_cmd.specs.{Documents.{PoolsTo}, FontPlaces.{ListsTo}, Extracts.{ExtractsTo}}
+use Rattle.t1_cmd.specs.{Documents.{PoolsBehind}, FontPlaces.{ListsTo}, Extracts.{ExtractsTo}}
 
 -- ---- what has a text is refused for want of memory alone
 
-pub pools_apart : (tags : Bool) (ds : List (List ℕ)) (text : List ℕ) (r : Reason) → PoolsTo tags ds (Ok text) → PoolsTo tags ds (Err r) → r ≡ Memory
-pools_apart tags ds text TooLong h k = absurd (omega (arith, h.0, k))
-pools_apart tags ds text Memory h k = absurd k
-pools_apart tags ds text (ListReason f) h k = absurd k
-pools_apart tags ds text (JoinReason f) h k = absurd k
-pools_apart tags ds text (Font f) h k = absurd k
-pools_apart tags ds text (NoGlyph n) h k = absurd k
-pools_apart tags ds text (NoCode code) h k = absurd k
-pools_apart tags ds text (DocumentReason why) h k = absurd k
-pools_apart tags ds text (NoFont n) h k = absurd k
-pools_apart tags ds text TooManyTokens h k = absurd k
-pools_apart tags ds text (Lacks g q) h k = absurd k
-pools_apart tags ds text (Merge e) h k = absurd k
+pub behind_apart : (tags : Bool) (ds : List (List ℕ)) (text : List ℕ) (r : Reason) → PoolsBehind tags ds (Ok text) → PoolsBehind tags ds (Err r) → r ≡ Memory
+behind_apart tags ds text TooLong h k = absurd (omega (arith, h.0, k))
+behind_apart tags ds text Memory h k = absurd k
+behind_apart tags ds text (ListReason f) h k = absurd k
+behind_apart tags ds text (JoinReason f) h k = absurd k
+behind_apart tags ds text (Font f) h k = absurd k
+behind_apart tags ds text (NoGlyph n) h k = absurd k
+behind_apart tags ds text (NoCode code) h k = absurd k
+behind_apart tags ds text (DocumentReason why) h k = absurd k
+behind_apart tags ds text (NoFont n) h k = absurd k
+behind_apart tags ds text TooManyTokens h k = absurd k
+behind_apart tags ds text (Lacks g q) h k = absurd k
+behind_apart tags ds text (Merge e) h k = absurd k
 
 pub lists_apart : (labels ds : List (List ℕ)) (text : List ℕ) (r : Reason) → ListsTo labels ds (Ok text) → ListsTo labels ds (Err r) → r ≡ Memory
 lists_apart labels ds text r h k = absurd k

@@ -20,5 +20,6 @@ pub mod CodeLemmas
 pub mod DocumentLemmas
 pub mod LevelLemmas
 pub mod DocumentCommands
+pub mod PageLemmas
 pub mod FontPlaceLemmas
 pub mod ExtractLemmas

@@ -1,12 +1,12 @@
 -- What is found in documents that are pooled each by itself.
-use Rattle.std.proofs.Common.{◌≡◌, ℕ, refl, sym, ◌∙◌, ap, subst, List, [], ◌∷◌, ◌++◌, map, replicate, arith}
+use Rattle.std.proofs.Common.{◌≡◌, ℕ, refl, sym, ◌∙◌, ap, subst, List, [], ◌∷◌, ◌++◌, map, replicate}
 use Rattle.std.specs.List.{AllByRecursion}
-use Rattle.std.specs.Prelude.codes
-use Rattle.t1_document.specs.{declared.pooling.Key.{Key}, declared.entries.Least.{Least}, Documents.{Place, document_of}, Rewriting.{NewTexts}}
-use Rattle.t1_document.specs.{Joins.{Outcomes, new_texts, places_of_all}, Pooling.{keyed, entry_part, keys_of, line_ends, line_fates}}
-use Rattle.t1_document.specs.{PoolLaws.{Found, EntersAll, KeepsRest}, Apart.{start_of, entry_among, ends_among, fonts_apart, documents_apart}}
-use Rattle.t1_document.specs.ApartLaws.{FindsAlways, PlacesFindApart, RestsStayApart, StartIsFreeInAll, OnePooledApart, PooledApart}
-use Rattle.t1_document.proofs.{NewTextsDraw.{all_sound}, RegularNames.{IsRegular, IsNamed, places_named}, Again.{own_of_all}, DefiningLines.{colons_regular}}
+use Rattle.std.specs.Prelude.{codes}
+use Rattle.t1_document.specs.{Documents.{Place, document_of}, Rewriting.{NewTexts}}
+use Rattle.t1_document.specs.{Joins.{new_texts, places_of_all}, Pooling.{keyed, entry_part, keys_of, line_ends, line_fates}}
+use Rattle.t1_document.specs.{PoolLaws.{EntersAll, KeepsRest}, Apart.{start_of, entry_among, ends_among, fonts_apart, documents_apart}}
+use Rattle.t1_document.specs.ApartLaws.{FindsAlways, PlacesFindApart, RestsStayApart, OnePooledApart, PooledApart}
+use Rattle.t1_document.proofs.{NewTextsDraw.{all_sound}, RegularNames.{IsNamed, places_named}, Again.{own_of_all}, DefiningLines.{colons_regular}}
 use Rattle.t1_document.proofs.{FreeStarts.{IsStart, the_longest, all_free}, OneOutcome.{one_outcome}, PlacesFind.{HasOwn, each_found, an_end, rests_stay}}
 
 -- what holds of the places of two lists holds of those of both

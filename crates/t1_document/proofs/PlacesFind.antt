@@ -4,7 +4,6 @@ use Rattle.std.proofs.Common.{map, length, inl, inr, Option, Some, None, is_some
 use Rattle.std.proofs.{lemmas.Bool.{cases_Bool, true≢false, or_parts}, lemmas.Option.{none-some, same_Some}, lemmas.List.{append_cancel_left}, lemmas.Slice.Eq.{bytes_eq-Decides}}
 use Rattle.std.specs.{Prelude.{◌||◌, codes}, List.{AllByRecursion, list_any, flat_map, concat}, Str.{bytes_eq}}
 use Rattle.t1_grammar.specs.{Grammar.{fixed}, Places.{occurs}}
-use Rattle.t1_bytes.specs.{Laws.{AreBytes}}
 use Rattle.t1_grammar.specs.Grammar.{Stops}
 use Rattle.t1_text.specs.Words.{is_regular}
 use Rattle.t1_font.specs.{declared.fault.ReadFault.{ReadFault}, FontValue.{FontValue}, ReadFont.{read_font_widely}}

@@ -1,5 +1,5 @@
 -- Documents pooled each by itself: the fonts of keys stand once, apart from all documents.
-use Rattle.std.specs.Prelude.{◌≡◌, ℕ, List, [], ◌∷◌, map, filter, Option}
+use Rattle.std.specs.Prelude.{◌≡◌, ℕ, List, [], map, filter, Option}
 use Rattle.t1_document.specs.{declared.pooling.Key.{Key}, declared.entries.Least.{Least}, Documents.{Place, Document, document_of}}
 use Rattle.t1_document.specs.{Rewriting.{NewTexts, fated_bytes}, Joins.{Outcomes, AreOutcomes, names_from, new_texts, places_of_all}}
 use Rattle.t1_document.specs.Pooling.{own_start, longest, keyed, places_by, Entry, entry_from, keys_of, line_ends, entries, line_fates, is_left_from}

@@ -4,16 +4,14 @@ ghost use Rattle.std.specs.Prelude.{◌≡◌, map, IfOk};
 ghost use Rattle.t1_subset.specs.NameSets.{lent};
 ghost use Rattle.t1_document.specs.{Groups.{outcome_in}, Joins.{new_texts, places_of_all, AreOutcomes}, Texts.{text_in}};
 ghost use Rattle.t1_document.specs.{Pooling.{keyed}, Views.{place_view, document_view}};
-ghost use Rattle.t1_document.specs.Apart.{start_of, fonts_among, left_among, ends_among, lined_document, fonts_apart, left_apart, documents_apart};
+ghost use Rattle.t1_document.specs.Apart.{lined_document, fonts_apart, left_apart, documents_apart};
 
 use crate::documents::{Document, Place};
-use crate::entries::{Least, Parts, parts_of};
-use crate::groups::groups_by;
+use crate::entries::Least;
 use crate::joins::{Joins, join_fonts};
 use crate::levelling::{all_places, read_documents};
-use crate::names::names_of;
 use crate::own_names::longest_start;
-use crate::pooling::{Key, keyed, keys_of, left_keys, push_lined};
+use crate::pooling::{Key, entries_among, keyed, push_lined};
 use crate::texts::Texts;
 use std::alloc::{AllocError, Global};
 use t1_join::push_item;
@@ -32,39 +30,6 @@ pub struct PooledApart<'a> {
     pub joins: Joins<'a>,
     /// The keys that have a new text and so many places and keep their font texts all the same, in the order of their first places.
     pub left: Vec<&'a [u8]>,
-}
-
-/// The entries of keys, and the keys that are left.
-#[derive(Drop)]
-struct Entries<'a> {
-    parts: Parts<'a>,
-    left: Vec<&'a [u8]>,
-}
-
-/// The entries of the keys of places, and the keys that are left, where the pool's names have this start and fonts come to this.
-fn entries_among<'a>(
-    alloc: Global,
-    start: &[u8],
-    by: Key,
-    least: Least,
-    own: &[Place<'a>],
-    places: &[Place<'a>],
-    joins: &Joins<'_>,
-) -> Result<Entries<'a>, AllocError>
-    requires { map place_view places.now ≡ keyed by (map place_view own.now) }
-    ensures bytes { IfOk result (λ e. e.parts.bytes.items
-        ≡ fonts_among least start.now by (new_texts (outcome_in joins.now)) (map place_view own.now)) }
-    ensures ends { IfOk result (λ e. (key : List ℕ) → text_in e.parts.ends key
-        ≡ ends_among least start.now by (new_texts (outcome_in joins.now)) (map place_view own.now) key) }
-    ensures left { IfOk result (λ e. map (λ k. k.now) e.left.items
-        ≡ left_among least start.now by (new_texts (outcome_in joins.now)) (map place_view own.now)) }
-{
-    let groups = groups_by(alloc, by, own)?;
-    let all = names_of(alloc, places)?;
-    let keys = keys_of(start, own, places, all.as_slice());
-    let parts = parts_of(alloc, least, start, keys, joins, &groups)?;
-    let left = left_keys(alloc, least, all.as_slice(), &parts.ends, joins, &groups)?;
-    Ok(Entries { parts, left })
 }
 
 /// Documents in which places of keys whose lines end so have lines.
@@ -132,9 +97,9 @@ pub fn pool_apart<'a>(
         places.as_slice(),
         &joins,
     )?;
-    let lined = each_lined(alloc, start, by, &entries.parts.ends, documents.as_slice())?;
+    let lined = each_lined(alloc, start, by, &entries.ends, documents.as_slice())?;
     Ok(PooledApart {
-        fonts: entries.parts.bytes,
+        fonts: entries.bytes,
         documents: lined,
         places,
         joins,

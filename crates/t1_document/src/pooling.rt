@@ -1,10 +1,11 @@
 //! Documents in which each font stands once, before the first of them, and is found under a name of the pool's own.
 
-ghost use Rattle.std.specs.{Prelude.{◌≡◌, ◌++◌, ◌||◌, ◌∷◌, [], map, filter, IfOk, OnOk, if◌then◌else◌}, Option.{option_map}};
+ghost use Rattle.std.specs.{Prelude.{◌≡◌, ◌++◌, ◌||◌, ◌∷◌, [], ℕ, List, map, filter, IfOk, OnOk, if◌then◌else◌}, Option.{option_map}};
 ghost use Rattle.t1_document.specs.{Documents.{document_of}, Rewriting.{fate_bytes, fated_bytes}, Joins.{new_texts, names_from, AreOutcomes}};
 ghost use Rattle.t1_document.specs.{Groups.{outcome_in, places_in}, Texts.{text_in}, Views.{place_view, document_view}};
 ghost use Rattle.t1_document.specs.Pooling.{free_start, key_of, keyed, any_clashes, prolog, line_fate, line_fates, document_pooled, pooled_by};
 ghost use Rattle.t1_document.specs.Pooling.{is_several, has_no_lines, is_left_from, left_keys};
+ghost use Rattle.t1_document.specs.Apart.{fonts_among, ends_among, left_among};
 
 use crate::documents::{Document, Place, read_document};
 use crate::entries::{Least, parts_of};
@@ -68,7 +69,7 @@ fn any_clashes(start: &[u8], places: &[Place<'_>]) -> bool
 }
 
 /// Those of all keys that may have entries: none where the name or the key of a place clashes.
-pub(crate) fn keys_of<'k, 'a>(
+fn keys_of<'k, 'a>(
     start: &[u8],
     places: &[Place<'_>],
     keyed: &[Place<'_>],
@@ -186,7 +187,7 @@ fn is_left(
 }
 
 /// Those of keys that do.
-pub(crate) fn left_keys<'a>(
+fn left_keys<'a>(
     alloc: Global,
     least: Least,
     keys: &[&'a [u8]],
@@ -204,6 +205,44 @@ pub(crate) fn left_keys<'a>(
         }
     }
     Ok(left)
+}
+
+/// The entries of keys, and the keys that are left.
+#[derive(Drop)]
+pub(crate) struct Entries<'a> {
+    pub(crate) bytes: Vec<u8>,
+    pub(crate) ends: Texts<'a>,
+    pub(crate) left: Vec<&'a [u8]>,
+}
+
+/// The entries of the keys of places, and the keys that are left, where the pool's names have this start and fonts come to this.
+pub(crate) fn entries_among<'a>(
+    alloc: Global,
+    start: &[u8],
+    by: Key,
+    least: Least,
+    own: &[Place<'a>],
+    places: &[Place<'a>],
+    joins: &Joins<'_>,
+) -> Result<Entries<'a>, AllocError>
+    requires { map place_view places.now ≡ keyed by (map place_view own.now) }
+    ensures bytes { IfOk result (λ e. e.bytes.items
+        ≡ fonts_among least start.now by (new_texts (outcome_in joins.now)) (map place_view own.now)) }
+    ensures ends { IfOk result (λ e. (key : List ℕ) → text_in e.ends key
+        ≡ ends_among least start.now by (new_texts (outcome_in joins.now)) (map place_view own.now) key) }
+    ensures left { IfOk result (λ e. map (λ k. k.now) e.left.items
+        ≡ left_among least start.now by (new_texts (outcome_in joins.now)) (map place_view own.now)) }
+{
+    let groups = groups_by(alloc, by, own)?;
+    let all = names_of(alloc, places)?;
+    let keys = keys_of(start, own, places, all.as_slice());
+    let parts = parts_of(alloc, least, start, keys, joins, &groups)?;
+    let left = left_keys(alloc, least, all.as_slice(), &parts.ends, joins, &groups)?;
+    Ok(Entries {
+        bytes: parts.bytes,
+        ends: parts.ends,
+        left,
+    })
 }
 
 /// What a document becomes, and the keys that are left as they are.
@@ -230,21 +269,13 @@ impl<'a> Document<'a> {
             ≡ left_keys start.now by (new_texts (outcome_in joins.now)) (document_view self.now).places) }
     {
         let own = self.places.as_slice();
-        let groups = groups_by(alloc, by, own)?;
-        let all = names_of(alloc, places)?;
-        let keys = keys_of(start, own, places, all.as_slice());
-        let parts = parts_of(alloc, Least::Two, start, keys, joins, &groups)?;
-        let left = left_keys(
-            alloc,
-            Least::Two,
-            all.as_slice(),
-            &parts.ends,
-            joins,
-            &groups,
-        )?;
-        let mut text = prolog(alloc, parts.bytes.as_slice())?;
-        push_lined(&mut text, start, by, &parts.ends, own, self.last)?;
-        Ok(Lined { text, left })
+        let entries = entries_among(alloc, start, by, Least::Two, own, places, joins)?;
+        let mut text = prolog(alloc, entries.bytes.as_slice())?;
+        push_lined(&mut text, start, by, &entries.ends, own, self.last)?;
+        Ok(Lined {
+            text,
+            left: entries.left,
+        })
     }
 }
 

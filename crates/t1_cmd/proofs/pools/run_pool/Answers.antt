@@ -1,4 +1,4 @@
-use Rattle.t1_cmd.{specs.{Runs.{ended}, Mergers.{inputs_of}, Documents.{text_input}, Pages.{PoolsTo}}, proofs.{RunLemmas.{ends_succeeds}, DocumentCommands.{pools_apart}}}
+use Rattle.t1_cmd.{specs.{Runs.{ended}, Mergers.{inputs_of}, Documents.{text_input}, Pages.{PoolsTo}}, proofs.{RunLemmas.{ends_succeeds}, PageLemmas.{pools_apart}}}
 use Rattle.t1_cmd.proofs.pools.run_pool.Goals as goal
 
 pub returns-clause-succeeds : goal.returns-clause-succeeds

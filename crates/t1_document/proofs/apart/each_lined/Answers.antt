@@ -1,4 +1,4 @@
-use Rattle.std.proofs.{Common.{◌≡◌, map, sym, ap, ◌∙◌}, lemmas.List.{take_all}}
+use Rattle.std.proofs.{Common.{map, sym, ap, ◌∙◌}, lemmas.List.{take_all}}
 use Rattle.t1_document.specs.{declared.documents.Document.{Document as CodeDocument}, Apart.{lined_document}, Texts.{text_in}, Views.{document_view}}
 use Rattle.t1_document.proofs.LevelLemmas.{map_twice}
 use Rattle.t1_document.proofs.apart.each_lined.Goals as goal
