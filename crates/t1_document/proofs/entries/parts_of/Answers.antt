@@ -1,5 +1,6 @@
 use Rattle.std.proofs.Common.{ℕ, List, Option}
-use Rattle.t1_document.specs.{declared.entries.Least.{Least}, declared.joins.Joins.{Joins}, declared.groups.Groups.{Groups}, Joins.{new_texts}, Groups.{outcome_in, places_in}, Pooling.{Entry, entry_from}, Texts.{text_in}}
+use Rattle.t1_document.specs.{declared.entries.Least.{Least}, declared.joins.Joins.{Joins}, declared.groups.Groups.{Groups}, Joins.{new_texts}}
+use Rattle.t1_document.specs.{Groups.{outcome_in, places_in}, Pooling.{Entry, entry_from}, Texts.{text_in}}
 use Rattle.t1_document.proofs.PoolLoops.{no_part, one_part, all_parts}
 use Rattle.t1_document.proofs.entries.parts_of.Goals as goal
 
