@@ -4,7 +4,9 @@ use Rattle.std.proofs.Common.{Option, Some, None, is_some, Bor, arith, refl, sym
 use Rattle.std.proofs.{Math.Bool.{or-false}, lemmas.List.{length-append, drop_more, drop_all, append-nil, take_more, map-append}, lemmas.List.Folds.{list_any-append}}
 use Rattle.std.specs.{Prelude.{◌||◌}, List.{flat_map}, Str.{bytes_eq}}
 use Rattle.t1_document.specs.{declared.texts.Texts.{Texts}, Lines.{breaks, with_document, behind_documents}, Rewriting.{is_seen}, Texts.{text_in, has_text}}
+use Rattle.t1_document.specs.{declared.documents.Place.{Place as CodePlace}, Documents.{Place}, Joins.{Outcomes}, Views.{place_view}}
 use Rattle.t1_document.proofs.WriteLoop.{same_test}
+use Rattle.t1_cmd.specs.Documents.{told_of, told_lines}
 
 -- documents behind others are no shorter
 with_longer : (b : Bool) (text d : List ℕ) → length text ≤ length (cond b (text ++ d) ((text ++ 10 ∷ []) ++ d))
@@ -73,3 +75,13 @@ module _ (names : List (Bor (List ℕ))) where
       ∙ (sym (map-append line (first_of i) ((get_or names i d).now ∷ []))
       ∙ ap (map line) (sym (ap (map (λ (n : Bor (List ℕ)). n.now)) (take_more names i d lt)
       ∙ map-append (λ n. n.now) (take i names) (get_or names i d ∷ []))))))
+
+-- ---- what is told of keys
+
+-- what is told of keys and places that are lent is told of these
+pub told_so : (outcomes : Outcomes) (lent_left left_items : List (Bor (List ℕ))) (lent_places place_items : List CodePlace) (left : List (List ℕ))
+    (places : List Place) → lent_left ≡ left_items → lent_places ≡ place_items → map (λ k. k.now) left_items ≡ left → map place_view place_items ≡ places →
+    told_lines (told_of (map (λ k. k.now) lent_left) outcomes) (map place_view lent_places) ≡ told_lines (told_of left outcomes) places
+told_so outcomes lent_left left_items lent_places place_items left places l p is are =
+    ap (λ (ks : List (List ℕ)). told_lines (told_of ks outcomes) (map place_view lent_places)) (ap (map (λ (k : Bor (List ℕ)). k.now)) l ∙ is)
+    ∙ ap (told_lines (told_of left outcomes)) (ap (map place_view) p ∙ are)

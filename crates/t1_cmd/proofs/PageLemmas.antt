@@ -1,10 +1,9 @@
 -- Documents as one document: there is one.
-use Rattle.std.proofs.Common.{◌≡◌, ◌≤◌, ◌<◌, ◌++◌, ℕ, Bool, true, false, List, length, refl, sym, ap, subst, ◌∙◌, arith, Ok, Err}
-use Rattle.t1_bytes.specs.Limits.{file_limit}
+use Rattle.std.proofs.{Common.{◌≡◌, ◌≤◌, ◌<◌, ◌+◌, ◌++◌, ℕ, Bool, true, false, List, length, get_or, drop, sym, ap, subst, ◌∙◌, arith, append_assoc, Ok, Err}, lemmas.List.{append-nil, drop_more, drop_all}}
 use Rattle.t1_document.specs.{declared.pooling.Key.TheVariants.{Name, Family}, declared.entries.Least.TheVariants.{One}, Apart.{PooledApartBy}}
 use Rattle.t1_document.proofs.FoundApart.{pooled_apart}
 use Rattle.t1_dsc.specs.Joining.{joined_pages}
-use Rattle.t1_cmd.specs.{declared.faults.Reason.{Reason}, declared.pools.Pooling.{Pooling}, Pages.{PooledApartAs, PagedAs, PagesTo, PoolsAs, PoolsTo}}
+use Rattle.t1_cmd.specs.{declared.faults.Reason.{Reason}, declared.pools.Pooling.{Pooling}, Pages.{PooledApartAs, PagedAs, PagesTo, PoolsAs, PoolsTo, whole_line, whole_lines}}
 use Rattle.t1_cmd.specs.declared.faults.Reason.TheVariants.{TooLong, Memory, List as ListReason, Join as JoinReason, Font, NoGlyph, NoCode}
 use Rattle.t1_cmd.specs.declared.faults.Reason.TheVariants.{NoFont, Document as DocumentReason, TooManyTokens, Lacks, Merge}
 use Rattle.t1_cmd.proofs.DocumentCommands.{behind_apart}
@@ -51,3 +50,18 @@ by_dsc false tags ds text r h k = behind_apart tags ds text r h k
 
 pub pools_apart : (how : Pooling) (ds : List (List ℕ)) (text : List ℕ) (r : Reason) → PoolsTo how ds (Ok text) → PoolsTo how ds (Err r) → r ≡ Memory
 pools_apart how ds text r h k = by_dsc how.dsc how.tags ds text r h k
+
+-- ---- lines of documents that are one page
+
+-- a line more
+pub wholes_more : (pages : List ℕ) (i d : ℕ) → i < length pages → (out more all : List ℕ) → more ≡ out ++ whole_line (i + 1) (get_or pages i d) →
+    out ++ whole_lines (i + 1) (drop i pages) ≡ all → more ++ whole_lines (i + 1 + 1) (drop (i + 1) pages) ≡ all
+wholes_more pages i d h out more all e was =
+    ap (λ (t : List ℕ). t ++ whole_lines (i + 1 + 1) (drop (i + 1) pages)) e
+    ∙ (append_assoc out (whole_line (i + 1) (get_or pages i d)) (whole_lines (i + 1 + 1) (drop (i + 1) pages))
+    ∙ (ap (λ (ps : List ℕ). out ++ whole_lines (i + 1) ps) (sym (drop_more pages i d h)) ∙ was))
+
+-- all of them
+pub wholes_all : (pages : List ℕ) (i : ℕ) → length pages ≤ i → (out all : List ℕ) → out ++ whole_lines (i + 1) (drop i pages) ≡ all → out ≡ all
+wholes_all pages i le out all was =
+    sym (append-nil out) ∙ (ap (λ (ps : List ℕ). out ++ whole_lines (i + 1) ps) (sym (drop_all i pages le)) ∙ was)

@@ -1,7 +1,7 @@
 -- What documents become as one document whose pages stand by themselves.
 use Rattle.std.specs.{Prelude.{◌≡◌, ℕ, ◌+◌, ◌<◌, ◌≤◌, ◌==◌, Bool, true, false, List, [], ◌∷◌, ◌++◌, length, map, codes, decimal, Result, Ok, Err, if◌then◌else◌}}
 use Rattle.t1_bytes.specs.Limits.{file_limit}
-use Rattle.t1_document.specs.{declared.pooling.Key.{Key}, declared.pooling.Key.TheVariants.{Name, Family}, declared.entries.Least.{Least}, declared.entries.Least.TheVariants.{One}}
+use Rattle.t1_document.specs.{declared.pooling.Key.{Key}, declared.pooling.Key.TheVariants.{Name, Family}, declared.entries.Least.TheVariants.{One}}
 use Rattle.t1_document.specs.{Lines.{one_text}, Joins.{Outcomes, AreOutcomes, new_texts, places_of_all}, Pooling.{keyed}, Apart.{left_apart, PooledApartBy}}
 use Rattle.t1_dsc.specs.Joining.{pages_told, joined_pages}
 use Rattle.t1_cmd.specs.{declared.pools.Pooling.{Pooling}, Documents.{PoolsBehind, TellsPooled}}

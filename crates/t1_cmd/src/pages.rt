@@ -1,5 +1,5 @@
 //! Documents as one document, whose pages stand by themselves, with each font once.
-ghost use Rattle.std.specs.Prelude.{Bool, ℕ, List, [], ◌≡◌, ◌++◌, ◌+◌, ◌≤◌, length, true, false, map, Ok, IfOk, IfErr, OnOk};
+ghost use Rattle.std.specs.Prelude.{Bool, ℕ, List, [], ◌≡◌, ◌++◌, ◌+◌, ◌≤◌, length, true, false, map, codes, decimal, Ok, IfOk, IfErr, OnOk};
 ghost use Rattle.t1_subset.specs.NameSets.{lent};
 ghost use Rattle.t1_document.specs.{declared.entries.Least.TheVariants.{One}, declared.pooling.Key.TheVariants.{Name}, Apart.{PooledApartBy}};
 ghost use Rattle.t1_bytes.specs.Limits.{file_limit};
@@ -10,7 +10,7 @@ ghost use Rattle.t1_cmd.specs.Pages.{PooledApartAs, PagedAs, PagesTo, TellsApart
 use crate::documents::{lent, push_lines, told_lines};
 use crate::faults::Reason;
 use crate::pools::Pooled;
-use crate::texts::push_number;
+use crate::texts::push_about;
 use std::alloc::{AllocError, Global};
 use t1_bytes::FILE_LIMIT;
 use t1_document::{Key, Least, pool_apart};
@@ -117,16 +117,24 @@ fn separate(alloc: Global, tags: bool, documents: &[&[u8]]) -> Result<Separated,
     }
 }
 
+// Adds what is told of a document of this number that is one page.
+fn push_told(out: &mut Vec<u8>, number: usize) -> Result<(), AllocError>
+    ensures { OnOk result (out.new.items ≡ out.old.items ++ (codes "document " ++ (decimal number
+        ++ codes " has no pages by its comments: it is one page\n"))) }
+{
+    push_about(out, b"document ", number)?;
+    out.extend_from_slice(b" has no pages by its comments: it is one page\n")?;
+    Ok(())
+}
+
 // Adds the line of a document of this number that has so many pages.
 fn push_whole(out: &mut Vec<u8>, number: usize, pages: usize) -> Result<(), AllocError>
     ensures { OnOk result (out.new.items ≡ out.old.items ++ whole_line number pages) }
 {
-    if pages != 0 {
-        return Ok(());
+    if pages == 0 {
+        return push_told(out, number);
     }
-    out.extend_from_slice(b"document ")?;
-    push_number(out, number)?;
-    out.extend_from_slice(b" has no pages by its comments: it is one page\n")
+    Ok(())
 }
 
 // Adds the lines of documents that have so many pages.

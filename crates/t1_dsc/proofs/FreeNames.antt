@@ -1,5 +1,5 @@
 -- A start of names that stands nowhere.
-use Rattle.std.proofs.Common.{◌≡◌, ℕ, List}
+use Rattle.std.proofs.Common.{ℕ, List}
 use Rattle.t1_document.{specs.Pooling.{free_start}, proofs.{OwnStarts.{start_is_free}, FreeStarts.{IsStart, start_absent, free_is, the_longest, all_free}}}
 use Rattle.t1_dsc.specs.{Joining.{names_start}, Laws.{NamesAreFree}}
 

@@ -1,6 +1,7 @@
-use Rattle.std.proofs.Common.{ℕ, List, map, ap, ◌∙◌}
-use Rattle.t1_document.specs.{Documents.{Place, document_of}, Groups.{outcome_in}, Joins.{new_texts}, Pooling.{free_start, left_keys}, Views.{place_view}}
-use Rattle.t1_cmd.specs.Documents.{told_of, told_lines}
+use Rattle.std.proofs.Common.{◌∙◌}
+use Rattle.t1_document.specs.{Documents.{document_of}, Groups.{outcome_in}, Joins.{new_texts}}
+use Rattle.t1_document.specs.{Pooling.{free_start, left_keys}}
+use Rattle.t1_cmd.proofs.DocumentLemmas.{told_so}
 use Rattle.t1_cmd.proofs.pools.pool_keys.Goals as goal
 
 pub returns-clause-text : goal.returns-clause-text
@@ -14,6 +15,6 @@ returns-clause-lines c =
       outcomes,
       c.in_ok-pooled.ensures.joins,
       c.in_ok-lines.ensures
-          ∙ (ap (λ (keys : List (List ℕ)). told_lines (told_of keys outcomes) (map place_view pooled.places.items)) c.in_ok-pooled.ensures.left
-          ∙ ap (λ (ps : List Place). told_lines (told_of left outcomes) ps) c.in_ok-pooled.ensures.places),
+          ∙ told_so outcomes c.as_slice.result.now pooled.left.items c.as_slice-2.result.now pooled.places.items left _ c.as_slice.ensures.value
+          c.as_slice-2.ensures.value c.in_ok-pooled.ensures.left c.in_ok-pooled.ensures.places,
     )
