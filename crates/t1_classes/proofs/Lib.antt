@@ -1,0 +1,4 @@
+pub mod Putting
+pub mod Halves
+pub mod Turns
+pub mod Pairs

@@ -1,0 +1,7 @@
+//! Classes.
+#![tactic(auto)]
+
+mod distinct;
+mod fitting;
+mod joining;
+mod settling;
