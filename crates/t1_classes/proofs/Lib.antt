@@ -5,3 +5,5 @@ pub mod Pairs
 pub mod SortedFiles
 pub mod Kept
 pub mod Settled
+pub mod Answered
+pub mod Rejoined

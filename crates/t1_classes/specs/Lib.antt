@@ -1,3 +1,5 @@
 pub mod Partition
 pub mod Joining
 pub mod Views
+pub mod Texts
+pub mod Classes

@@ -1,14 +1,18 @@
 -- A partition of files into groups that join, by halves. Where `joins` says of a list of files whether all of it joins, the files alone, and not their places,
 -- decide what the groups are.
 use Rattle.std.specs.{Prelude.{ℕ, zero, suc, ◌+◌, ◌/◌, nat_le, Bool, true, false, List, [], ◌∷◌, ◌++◌, length, take, drop, map, Option, Some, None, if◌then◌else◌}}
-use Rattle.std.specs.{Prelude.{slice_index_or, slice_set}, Option.{option_map_or}, List.{remove}, Ordering.{nat_cmp}, Cmp.Lexicographic.{slice_cmp}, Str.{bytes_eq}}
+use Rattle.std.specs.{Prelude.{slice_index_or, slice_set}, Option.{option_map_or}, List.{remove, list_any}, Ordering.{nat_cmp}, Cmp.Lexicographic.{slice_cmp}, Str.{bytes_eq}}
 use Rattle.std.specs.{declared.cmp.Ordering.{Ordering}, declared.cmp.Ordering.TheVariants.{Less, Equal, Greater}}
 
 -- the bytes of a file
 abbrev pub File : Type 0
 File = List ℕ
 
--- how often a file is among some
+-- a file is among some
+abbrev pub is_among : File → List File → Bool
+is_among f gs = list_any (bytes_eq f) gs
+
+-- how often it is
 abbrev pub times : File → List File → ℕ
 times f [] = 0
 times f (g ∷ gs) = (if bytes_eq f g then 1 else 0) + times f gs

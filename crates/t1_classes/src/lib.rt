@@ -1,7 +1,9 @@
 //! Classes.
 #![tactic(auto)]
 
+mod classes;
 mod distinct;
 mod fitting;
 mod joining;
+mod refusals;
 mod settling;
