@@ -6,4 +6,6 @@ pub mod SortedFiles
 pub mod Kept
 pub mod Settled
 pub mod Answered
+pub mod Refusing
+pub mod Partitioned
 pub mod Rejoined

@@ -149,7 +149,7 @@ one_order xs ys moved = same_sorted (distinct xs) (distinct ys) (distinct_sorted
 
 -- ---- each once
 
-times_none : (x : File) (gs : List File) → is_among x gs ≡ false → times x gs ≡ 0
+pub times_none : (x : File) (gs : List File) → is_among x gs ≡ false → times x gs ≡ 0
 times_none x [] e = refl
 times_none x (g ∷ gs) e = by_test (times_none x gs) (bytes_eq x g) e
   where

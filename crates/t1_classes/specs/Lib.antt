@@ -3,3 +3,4 @@ pub mod Joining
 pub mod Views
 pub mod Texts
 pub mod Classes
+pub mod Laws

@@ -5,5 +5,6 @@ mod classes;
 mod distinct;
 mod fitting;
 mod joining;
+pub mod laws;
 mod refusals;
 mod settling;
