@@ -1,3 +1,4 @@
+mod Rows
 pub mod Putting
 pub mod Halves
 pub mod Turns
@@ -9,3 +10,4 @@ pub mod Answered
 pub mod Refusing
 pub mod Partitioned
 pub mod Rejoined
+pub mod FontTexts

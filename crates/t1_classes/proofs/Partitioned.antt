@@ -127,8 +127,8 @@ any_order name files others moved =
     let same : groups_under name files ≡ groups_under name others = ap (groups_of_distinct (joins name)) (one_order files others moved) in (
       same,
       λ cs ds h k.
-      same_texts name files others (groups_under name files) cs ds (each_is name files _ cs h)
-      (subst (λ (gs : List (List File)). EachIs name others gs ds) (sym same) (each_is name others _ ds k)),
+          same_texts name files others (groups_under name files) cs ds (each_is name files _ cs h)
+          (subst (λ (gs : List (List File)). EachIs name others gs ds) (sym same) (each_is name others _ ds k)),
     )
 
 -- ---- one class

@@ -73,11 +73,7 @@ fn members(alloc: Global, files: &[&[u8]], group: &[&[u8]]) -> Result<Vec<usize>
 
 /// What the files of a group come to.
 #[tactic(auto, unfolding(crate::specs::Joining::joins, crate::specs::Joining::joined_text))]
-fn content_of<'a>(
-    alloc: Global,
-    name: &[u8],
-    group: &[&'a [u8]],
-) -> Result<Content<'a>, AllocError>
+fn content_of<'a>(alloc: Global, name: &[u8], group: &[&'a [u8]]) -> Result<Content<'a>, AllocError>
     ensures { IfOk result (IsContent name.now (lent group.now)) }
 {
     match join_files(alloc, name, group)? {
