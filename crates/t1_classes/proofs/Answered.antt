@@ -13,7 +13,8 @@ module _ (name : List ℕ) (files : List File) (first g : List File) (c : Class)
   others_more (f ∷ fs) [] h = absurd h
   others_more (f ∷ fs) (d ∷ ds) h = (h.0, others_more fs ds h.1)
 
-  pub classes_more : (gs : List (List File)) (cs : List Class) → AreClasses name files (first ∷ gs) cs → AreClasses name files (first ∷ (gs ++ g ∷ [])) (cs ++ c ∷ [])
+  pub classes_more : (gs : List (List File)) (cs : List Class) → AreClasses name files (first ∷ gs) cs →
+      AreClasses name files (first ∷ (gs ++ g ∷ [])) (cs ++ c ∷ [])
   classes_more gs [] h = absurd h
   classes_more gs (d ∷ ds) h = (h.0, others_more gs ds h.1)
 

@@ -72,7 +72,8 @@ module _ (joins : List File → Bool) (n : ℕ) (g xs : List (Bor (List ℕ))) (
   pub halves_lent : (ys : List File) (b : Bool) (first second : Fit) (front back : List (Bor (List ℕ))) → 1 < length xs → ys ≡ lent g ++ lent xs →
       b ≡ joins ys → b ≡ false → front ≡ take (length xs / 2) xs → back ≡ drop (length xs / 2) xs →
       ((m : ℕ) → length front ≤ m → first ≡ fitted joins m (lent g) (lent front)) →
-      ((m : ℕ) → length back ≤ m → second ≡ fitted joins m first.group (lent back)) → record { group = second.group; left = first.left ++ second.left } ≡ fitted joins n (lent g) (lent xs)
+      ((m : ℕ) → length back ≤ m → second ≡ fitted joins m first.group (lent back)) →
+      record { group = second.group; left = first.left ++ second.left } ≡ fitted joins n (lent g) (lent xs)
   halves_lent ys b first second front back many is e f at-front at-back one other =
       let half : length (lent xs) / 2 ≡ length xs / 2 = ap (λ (k : ℕ). k / 2) long in
       let fronts : take (length (lent xs) / 2) (lent xs) ≡ lent front =

@@ -1,5 +1,5 @@
 -- Groups of files have each file as often as it is among the files.
-use Rattle.std.proofs.Common.{◌≡◌, ◌<◌, ◌≤◌, ◌+◌, ◌-◌, ◌/◌, ℕ, zero, suc, Bool, true, false, cond, nat_le, List, [], ◌∷◌, ◌++◌, length, get_or, set, take, drop, Option, Some, None, refl, sym, ap, ◌∙◌, subst, arith, ◌⊎◌, inl, inr}
+use Rattle.std.proofs.Common.{◌≡◌, ◌+◌, ◌-◌, ◌/◌, ℕ, zero, suc, Bool, true, false, cond, nat_le, List, [], ◌∷◌, ◌++◌, length, take, drop, refl, sym, ap, ◌∙◌, arith}
 use Rattle.std.proofs.lemmas.{Bool.{cases_Bool, true≢false, leb-true, leb-false}, List.{take-append-drop, append-nil, length-set}, Grind.{flat_map-append}, Option.{none-some, same_Some}}
 use Rattle.std.specs.{List.{AllByRecursion, flat_map, remove}, Option.{option_map_or}, Str.{bytes_eq}}
 use Rattle.t1_classes.specs.Partition.{File, Fit, times, singles, group_before, halves_fitted, fitted_by, fitted, groups_from, partner_from, pair_or, pair_from, joined_at, settled, all_settled}

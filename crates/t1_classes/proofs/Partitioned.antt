@@ -1,5 +1,6 @@
 -- The laws of classes.
-use Rattle.std.proofs.Common.{◌≡◌, ◌⊎◌, ◌<◌, ◌≤◌, ◌+◌, ◌-◌, ℕ, zero, suc, nat_eq, nat_lt, Bool, true, false, cond, refl, sym, ◌∙◌, ap, subst, arith, inl, inr, List, [], ◌∷◌, ◌++◌, length, get_or, map, Option, Some, None, IsPermutation}
+use Rattle.std.proofs.Common.{◌≡◌, ◌<◌, ◌≤◌, ◌+◌, ◌-◌, ◌∙◌, ◌∷◌}
+use Rattle.std.proofs.Common.{ℕ, zero, suc, nat_eq, nat_lt, Bool, true, false, cond, refl, sym, ap, subst, arith, inl, inr, List, [], length, get_or, map, Option, Some, None}
 use Rattle.std.proofs.lemmas.{Bool.{cases_Bool, true≢false, ltb-true, ltb-false, eqb-true, eqb-false, false_from_ne_true}, Option.{none-some, same_Some}, Slice.Eq.{bytes_eq-Decides}}
 use Rattle.std.proofs.Math.Bool.{and-false, or-true}
 use Rattle.std.specs.{Prelude.{◌||◌, ◌&&◌}, List.{AllByRecursion, list_any}, Str.{bytes_eq}}
@@ -197,7 +198,8 @@ with_none name files k le (g ∷ gs) (c ∷ cs) h =
 file_among : (fs : List File) (k : ℕ) → k < length fs → is_among (get_or fs k []) fs ≡ true
 file_among [] k lt = absurd (omega (arith, lt))
 file_among (f ∷ fs) zero lt = ap (λ (b : Bool). b || is_among f fs) ((bytes_eq-Decides f f).1 refl)
-file_among (f ∷ fs) (suc k) lt = ap (λ (b : Bool). bytes_eq (get_or fs k []) f || b) (file_among fs k (omega (arith, lt))) ∙ or-true (bytes_eq (get_or fs k []) f)
+file_among (f ∷ fs) (suc k) lt = ap (λ (b : Bool). bytes_eq (get_or fs k []) f || b) (file_among fs k (omega (arith, lt)))
+    ∙ or-true (bytes_eq (get_or fs k []) f)
 
 pub one_class : EachInOneClass
 one_class name files cs h k = by_test (nat_lt k (length files)) refl

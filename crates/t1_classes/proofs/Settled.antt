@@ -1,5 +1,6 @@
 -- Groups that are settled: no two of them join, they have the files of the groups, and each of several files joins.
-use Rattle.std.proofs.Common.{◌≡◌, ◌<◌, ◌≤◌, ◌+◌, ◌-◌, ◌/◌, ℕ, zero, suc, Bool, true, false, cond, nat_le, List, [], ◌∷◌, ◌++◌, length, get_or, set, take, drop, Option, Some, None, refl, sym, ap, ◌∙◌, subst, arith, ◌⊎◌, inl, inr}
+use Rattle.std.proofs.Common.{◌≡◌, ◌<◌, ◌≤◌, ◌+◌, ◌-◌, ◌/◌, ◌∷◌, ◌++◌, ◌∙◌, ◌⊎◌}
+use Rattle.std.proofs.Common.{ℕ, zero, suc, Bool, true, false, cond, nat_le, List, [], length, get_or, set, take, drop, Option, Some, None, refl, sym, ap, subst, arith, inl, inr}
 use Rattle.std.proofs.lemmas.{List.{length-set}, List.Edits.{length-remove, get_or-remove_below}, Option.{none-some, same_Some}}
 use Rattle.std.specs.{List.{AllByRecursion, remove}, Option.{option_map_or}}
 use Rattle.t1_classes.specs.Partition.{File, Fit, times, singles, group_before, halves_fitted, fitted_by, fitted, groups_from, partner_from, pair_or, pair_from, joined_at, settled, all_settled}
@@ -179,7 +180,8 @@ module _ (joins : List File → Bool) where
       let halves = fit_joins n first.group (drop (length fs / 2) fs) (fit_joins n g (take (length fs / 2) fs) h) in
       by_tests (joins (g ++ fs)) refl (nat_le (length fs) 1) (halves_fitted (fitted joins n) g fs) h halves
     where
-      by_tests : (a : Bool) → joins (g ++ fs) ≡ a → (b : Bool) (halves : Fit) → JoinsOrNone g → JoinsOrNone halves.group → JoinsOrNone (fitted_by a b g fs halves).group
+      by_tests : (a : Bool) → joins (g ++ fs) ≡ a → (b : Bool) (halves : Fit) → JoinsOrNone g → JoinsOrNone halves.group →
+          JoinsOrNone (fitted_by a b g fs halves).group
       by_tests true e b halves h k = inl e
       by_tests false e true halves h k = h
       by_tests false e false halves h k = k

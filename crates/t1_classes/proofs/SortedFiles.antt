@@ -112,7 +112,8 @@ distinct_in x fs = all_in x fs [] ∙ none (is_among x fs)
 
 -- ---- sorted files are those that are in them
 
-in_tails : (x : File) (xs ys : List File) → Below x xs → Below x ys → ((z : File) → is_among z (x ∷ xs) ≡ is_among z (x ∷ ys)) → (z : File) → is_among z xs ≡ is_among z ys
+in_tails : (x : File) (xs ys : List File) → Below x xs → Below x ys → ((z : File) → is_among z (x ∷ xs) ≡ is_among z (x ∷ ys)) → (z : File) →
+    is_among z xs ≡ is_among z ys
 in_tails x xs ys a b same z = elim (cases_Bool (bytes_eq z x)) [
   | inl t ↦
       let is : z ≡ x = (bytes_eq-Decides z x).0 t in

@@ -78,13 +78,13 @@ pair_or i None more = more
 pair_or i (Some j) more = Some (i, j)
 
 module _ (joins : List File → Bool) where
-  -- Files fitted onto a group: all of them, if they join with it; else, if there are several, the first half, and then the second half onto what came out. For n
-  -- files n steps suffice.
+  -- Files fitted onto a group: all of them, if they join with it; else, if there are several, the first half, and then the second half onto what came out.
+  -- For n files n steps suffice.
   unfoldable pub fitted : ℕ → List File → List File → Fit
   fitted zero group files = record { group = group; left = files }
   fitted (suc n) group files = fitted_by (joins (group ++ files)) (nat_le (length files) 1) group files (halves_fitted (fitted n) group files)
 
-  -- The groups of files: the first is what is fitted onto no files, and what was left over makes the next ones. Where nothing is fitted, each file is by itself.
+  -- The groups of files: the first is what is fitted onto no files, and what was left over makes the next ones. Where nothing is fitted, each is by itself.
   unfoldable pub groups_from : ℕ → List File → List (List File)
   groups_from zero files = singles files
   groups_from (suc n) files =

@@ -2,7 +2,7 @@
 
 use std::alloc::{AllocError, Global};
 use std::test::Fail;
-use t1_classes::{Class, Content, classes_of};
+use t1_classes::{Class, Content, classes_of, join_files};
 use t1_font::{Font, Form, write};
 use t1_font_shared_tests::{add_line, is, joined, of_font, seen, used, with};
 use t1_subset::subset;
@@ -26,6 +26,21 @@ fn cut_text(alloc: Global, font: &Font<'_>, name: &[u8]) -> Result<Vec<u8>, Allo
 /// The font text of the subset of Tiny over one name.
 fn cut(alloc: Global, name: &[u8]) -> Result<Vec<u8>, AllocError> {
     of_font(alloc, PFA, |font| cut_text(alloc, font, name))
+}
+
+/// The font text of Tiny.
+fn whole() -> &'static [u8] {
+    &PFA[..PFA.len() - 1]
+}
+
+/// Tiny with another first line, and so with another head.
+fn other(alloc: Global) -> Result<Vec<u8>, AllocError> {
+    with(
+        alloc,
+        PFA,
+        b"%!FontType1-1.0: Tiny 001.001",
+        b"%! another font",
+    )
 }
 
 /// Adds what the files of a class come to.
@@ -156,21 +171,119 @@ fn classes_of_files(rt: HostRuntime) -> Result<(), Fail> {
     Ok(())
 }
 
-// meets classes_of Ok at 3 files
+// meets classes_of Ok at 4 files
 #[test]
 fn texts_of_classes(rt: HostRuntime) -> Result<(), Fail> {
     let alloc = rt.alloc();
     let (x, y) = (cut(alloc, b"X")?, cut(alloc, b"Y")?);
-    let other = with(
-        alloc,
-        PFA,
-        b"%!FontType1-1.0: Tiny 001.001",
-        b"%! another font",
-    )?;
+    let other = other(alloc)?;
     let want = joined(alloc, &[other.as_slice(), b"\n", PFA])?;
-    let whole = &PFA[..PFA.len() - 1];
-    let files = [x.as_slice(), other.as_slice(), whole, y.as_slice()];
+    let files = [x.as_slice(), other.as_slice(), whole(), y.as_slice()];
     let right = come_to(alloc, &files, want.as_slice());
     assert!(rt; right);
     Ok(())
+}
+
+/// What files join to, or the line of their refusal.
+fn joined_text(alloc: Global, files: &[&[u8]]) -> Result<Vec<u8>, AllocError> {
+    match join_files(alloc, b"Tiny", files)? {
+        Ok(text) => Ok(text),
+        Err(why) => {
+            let why = why.to_string(alloc)?;
+            Vec::from_slice(alloc, why.as_bytes())
+        }
+    }
+}
+
+/// Whether files join to a text, or are refused by this line.
+fn joins_to(alloc: Global, files: &[&[u8]], want: &[u8]) -> bool {
+    is(joined_text(alloc, files), want)
+}
+
+/// What of the joins of a part of a font, of the whole and of another font comes out wrong, if anything.
+fn what_join_is_wrong<'a>(alloc: Global, part: &'a [u8], other: &'a [u8]) -> &'static str {
+    if !joins_to(alloc, &[part, whole()], whole()) {
+        "two that join"
+    } else if !joins_to(alloc, &[part, other], b"shells differ in head") {
+        "two that don't"
+    } else if !joins_to(alloc, &[part, b"no font", b"%!"], b"no eexec") {
+        "no font"
+    } else if !joins_to(alloc, &[], b"nothing to merge") {
+        "no file"
+    } else {
+        ""
+    }
+}
+
+// meets join_files Ok at 0, 2, 3 files
+#[test]
+fn joins_of_files(rt: HostRuntime) -> Result<(), Fail> {
+    let alloc = rt.alloc();
+    let (part, other) = (cut(alloc, b"X")?, other(alloc)?);
+    let wrong = what_join_is_wrong(alloc, part.as_slice(), other.as_slice());
+    assert!(rt; wrong.is_empty(), "{wrong}");
+    Ok(())
+}
+
+/// So many files, which are two in turn.
+fn in_turn<'a>(
+    alloc: Global,
+    count: usize,
+    one: &'a [u8],
+    other: &'a [u8],
+) -> Result<Vec<&'a [u8]>, AllocError> {
+    let mut files = Vec::with_capacity(alloc, count)?;
+    'files: for place in 0..count {
+        files.push(if place % 2 == 0 { one } else { other })?;
+    }
+    Ok(files)
+}
+
+/// Whether so many files are in one class.
+fn are_one(alloc: Global, files: &[&[u8]]) -> Result<bool, AllocError> {
+    seen(
+        classes_of(alloc, b"Tiny", files),
+        |classes| classes.len() == 1 && classes[0].members.len() == files.len(),
+    )
+}
+
+// meets classes_of Ok at 300 files
+// meets join_files Ok at 300 files
+#[test]
+fn many(rt: HostRuntime) -> Result<(), Fail> {
+    let alloc = rt.alloc();
+    let part = cut(alloc, b"X")?;
+    let files = in_turn(alloc, 300, part.as_slice(), whole())?;
+    let one = are_one(alloc, files.as_slice())?;
+    assert!(rt; one, "one class");
+    assert!(rt; joins_to(alloc, files.as_slice(), whole()), "one text");
+    Ok(())
+}
+
+/// Whether two files join, and are in one class, and a third is in another.
+fn all_answer_right(alloc: Global) -> Result<bool, AllocError> {
+    let (part, other) = (cut(alloc, b"X")?, other(alloc)?);
+    let (part, other) = (part.as_slice(), other.as_slice());
+    let text = joined_text(alloc, &[part, whole()])?;
+    let lines = used(
+        classes_of(alloc, b"Tiny", &[part, other, whole()]),
+        |classes| lines(alloc, classes.as_slice()),
+    )?;
+    Ok(
+        text.as_slice() == whole()
+            && lines.as_slice() == b"1 same\n0 2 joined, shells differ in head\n",
+    )
+}
+
+// meets classes_of Ok at 3 files
+// meets join_files Ok at 2 files
+// `tools/sweep_growths.py` refuses one growth after the other: calls that then answer want of memory give the right answers when they
+// are made again.
+#[test]
+fn growths(rt: HostRuntime) {
+    let right = match all_answer_right(rt.alloc()) {
+        Err(AllocError) => all_answer_right(rt.alloc()),
+        answer => answer,
+    };
+    assert!(rt; right == Ok(true));
 }

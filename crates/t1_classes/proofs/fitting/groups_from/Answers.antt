@@ -30,7 +30,8 @@ returns c =
           ap (λ v. group_lists c.groups.groups.items ++ singles (lent v.items)) w.left-is
           ∙ turn_last (joins c.args.name.now) (group_lists c.groups.groups.items) (length c.args.files.now) c.groups._turn w.groups-test.true _
           (lent c.groups.left.items) (fit_view w.in_ok-fit.fit)
-          (w.in_ok-fit.ensures (length (lent c.groups.left.items)) (omega (arith, length-map c.groups.left.items (λ f. f.now), ap length w.as_slice.ensures.value))
+          (w.in_ok-fit.ensures (length (lent c.groups.left.items))
+          (omega (arith, length-map c.groups.left.items (λ f. f.now), ap length w.as_slice.ensures.value))
           ∙ ap (λ xs. fitted (joins c.args.name.now) (length (lent c.groups.left.items)) [] (lent xs)) w.as_slice.ensures.value)
           c.groups.invariant
           (omega (arith, length-map w.in_ok-fit.fit.group.items (λ f. f.now), w.in_ok-fit.fit.group.ok, is_zero _ _ w.is_empty.ensures w.if-is_empty.true))
