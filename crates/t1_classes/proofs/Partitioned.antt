@@ -5,11 +5,11 @@ use Rattle.std.proofs.lemmas.{Bool.{cases_Bool, true≢false, ltb-true, ltb-fals
 use Rattle.std.proofs.Math.Bool.{and-false, or-true}
 use Rattle.std.specs.{Prelude.{◌||◌, ◌&&◌}, List.{AllByRecursion, list_any}, Str.{bytes_eq}}
 use Rattle.t1_classes.specs.{declared.classes.Class.{Class}, declared.classes.Content.{Content}, declared.classes.Content.TheVariants.{Same, Joined, Refused}}
-use Rattle.t1_classes.specs.{Partition.{File, is_among, times, distinct, groups_from, groups_of_distinct}, Joining.{joined_text, joins}}
+use Rattle.t1_classes.specs.{Partition.{File, is_among, distinct, groups_from, groups_of_distinct}, Joining.{joined_text, joins}}
 use Rattle.t1_classes.specs.Classes.{places_from, places_of, IsContent, IsClass, IsApart, AreOthers, AreClasses, text_of}
 use Rattle.t1_classes.specs.Laws.{groups_under, is_member, classes_with, InAnyOrder, ClassesJoin, NoTwoJoin, EachInOneClass, EqualTogether}
 use Rattle.t1_classes.proofs.Refusing.{refused_none, none_fails}
-use Rattle.t1_classes.proofs.SortedFiles.{one_order, distinct_sorted, distinct_in, times_none, times_sorted}
+use Rattle.t1_classes.proofs.SortedFiles.{times, one_order, distinct_sorted, distinct_in, times_none, times_sorted}
 use Rattle.t1_classes.proofs.{Kept.{all_files, times_append, times_groups}, Settled.{times_settled, none_left, no_two_join, groups_join, settled_join}}
 
 -- ---- each class of several files joins, and no two do

@@ -1,6 +1,6 @@
 -- Worked rows of the definitions, computed.
 use Rattle.std.{proofs.Common.{◌≡◌, ℕ, Bool, true, false, List, [], ◌∷◌, Some, None, refl}, specs.{Prelude.{◌&&◌, ◌||◌}, List.{list_all, list_any}, Str.{bytes_eq}}}
-use Rattle.t1_classes.specs.Partition.{File, times, distinct, Fit, fitted, groups_from, partner_from, pair_from, joined_at, settled, groups}
+use Rattle.t1_classes.specs.Partition.{File, distinct, Fit, fitted, groups_from, partner_from, pair_from, joined_at, settled, groups}
 use Rattle.t1_classes.specs.Classes.{places_of}
 
 -- ---- files whose first bytes are equal join
@@ -32,10 +32,6 @@ d = 1 ∷ 3 ∷ []
 each_once : distinct (c ∷ b ∷ a ∷ c ∷ b ∷ []) ≡ a ∷ b ∷ c ∷ []
 unfolding a b c
 each_once = refl
-
-twice : times c (c ∷ b ∷ c ∷ []) ≡ 2
-unfolding b c
-twice = refl
 
 places : places_of (c ∷ b ∷ a ∷ c ∷ []) (c ∷ a ∷ []) ≡ 0 ∷ 2 ∷ 3 ∷ []
 unfolding a b c

@@ -3,10 +3,15 @@ use Rattle.std.proofs.Common.{arith, ◌≡◌, ◌⊎◌, ◌+◌, ℕ, Bool, t
 use Rattle.std.proofs.lemmas.{Bool.{cases_Bool, true≢false}, Cmp.{nat_list_cmp_total}, Map.Text.{is_eq-slice_cmp}, Slice.Eq.{bytes_eq-Decides}, List.Sorted.{list_any-IsPermutation}}
 use Rattle.std.specs.{Prelude.{◌||◌}, List.{AllByRecursion}, Ordering.{nat_cmp, is_eq, ordering_reverse}, Cmp.Lexicographic.{slice_cmp}, Str.{bytes_eq}}
 use Rattle.std.specs.{declared.cmp.Ordering.{Ordering}, declared.cmp.Ordering.TheVariants.{Less, Equal, Greater}}
-use Rattle.t1_classes.specs.Partition.{File, is_among, times, put, put_by, put_all, distinct}
+use Rattle.t1_classes.specs.Partition.{File, is_among, put, put_by, put_all, distinct}
 
 abbrev order : File → File → Ordering
 order = slice_cmp nat_cmp
+
+-- how often a file is among some
+abbrev pub times : File → List File → ℕ
+times f [] = 0
+times f (g ∷ gs) = cond (bytes_eq f g) 1 0 + times f gs
 
 -- a file is below each of some
 abbrev Below : File → List File → Type 0

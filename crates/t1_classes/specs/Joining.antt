@@ -82,7 +82,7 @@ joins name files = is_some (joined_text name files)
 -- a growth was refused
 abbrev pub is_full : MergeConflict → Bool
 is_full Memory = true
-is_full conflict = false
+is_full e = false
 
 abbrev pub wants_memory : RejoinFault → Bool
 wants_memory (Lacks glyph index) = false

@@ -12,11 +12,6 @@ File = List ℕ
 abbrev pub is_among : File → List File → Bool
 is_among f gs = list_any (bytes_eq f) gs
 
--- how often it is
-abbrev pub times : File → List File → ℕ
-times f [] = 0
-times f (g ∷ gs) = (if bytes_eq f g then 1 else 0) + times f gs
-
 -- ---- each file once
 
 -- a file among sorted ones, of which the first one is compared with it like this
