@@ -1,8 +1,8 @@
 -- The classes that are answered, one after the other.
-use Rattle.std.proofs.Common.{◌≡◌, ◌<◌, ◌+◌, ℕ, List, [], ◌∷◌, ◌++◌, length, get_or, take, Option, sym, ap, ◌∙◌, subst}
+use Rattle.std.proofs.Common.{◌≡◌, ◌<◌, ◌+◌, ℕ, List, [], ◌∷◌, ◌++◌, length, get_or, take, sym, ap, ◌∙◌}
 use Rattle.std.proofs.lemmas.List.{take_more, map-append}
 use Rattle.std.specs.{Borrow.{Bor}, Global.{Vec}}
-use Rattle.t1_classes.specs.{declared.refusals.Refusal.{Refusal}, declared.classes.Class.{Class}, Partition.{File}, Views.{lent, group_lists}}
+use Rattle.t1_classes.specs.{declared.classes.Class.{Class}, Partition.{File}, Views.{lent, group_lists}}
 use Rattle.t1_classes.specs.Classes.{IsClass, IsApart, AreOthers, AreClasses}
 
 module _ (name : List ℕ) (files : List File) (first g : List File) (c : Class) (is : IsClass name files g c) (apart : IsApart name (first ++ g) c.apart) where

@@ -1,5 +1,5 @@
 -- The canonical text of a font, and the loop that reads fonts.
-use Rattle.std.proofs.Common.{◌≡◌, ◌<◌, ◌+◌, ℕ, List, [], ◌∷◌, ◌++◌, sym, ap, ◌∙◌, append_assoc, Result, Ok, Err}
+use Rattle.std.proofs.Common.{◌≡◌, ℕ, List, [], ◌∷◌, ◌++◌, sym, ap, ◌∙◌, append_assoc, Result, Ok, Err}
 use Rattle.std.specs.Prelude.{codes}
 use Rattle.t1_bytes.specs.{declared.form.Form.TheVariants.{Pfa}, Cipher.{private_cipher}, Texts.{hex_lines, zero_lines}}
 use Rattle.t1_font.specs.{declared.fault.ReadFault.{ReadFault}, FontValue.{FontValue}, Canon.{canon_clear, canon_private, canon}}

@@ -1,6 +1,6 @@
 -- Files are fitted onto a group by halves.
-use Rattle.std.proofs.Common.{◌≡◌, ◌<◌, ◌≤◌, ◌+◌, ◌-◌, ◌/◌, ℕ, zero, suc, Bool, true, false, cond, nat_le, List, [], ◌∷◌, ◌++◌, length, take, drop, map, refl, sym, ap, ◌∙◌, subst, arith, append_assoc}
-use Rattle.std.proofs.{lemmas.Bool.{leb-false, le-leb}, lemmas.List.{length-take, length-drop, take-map, drop-map, length-map, map-append, append-nil}}
+use Rattle.std.proofs.Common.{◌≡◌, ◌<◌, ◌≤◌, ◌/◌, ℕ, zero, suc, Bool, true, false, nat_le, List, [], ◌∷◌, ◌++◌, length, take, drop, refl, sym, ap, ◌∙◌, arith}
+use Rattle.std.proofs.{lemmas.Bool.{leb-false, le-leb}, lemmas.List.{length-take, length-drop, take-map, drop-map, length-map, append-nil}}
 use Rattle.std.specs.{Borrow.{Bor}}
 use Rattle.t1_classes.specs.{Partition.{File, Fit, halves_fitted, fitted_by, fitted}, Views.{lent}}
 

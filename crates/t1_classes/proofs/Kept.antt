@@ -1,8 +1,8 @@
 -- Groups of files have each file as often as it is among the files.
-use Rattle.std.proofs.Common.{◌≡◌, ◌+◌, ◌-◌, ◌/◌, ℕ, zero, suc, Bool, true, false, cond, nat_le, List, [], ◌∷◌, ◌++◌, length, take, drop, refl, sym, ap, ◌∙◌, arith}
-use Rattle.std.proofs.lemmas.{Bool.{cases_Bool, true≢false, leb-true, leb-false}, List.{take-append-drop, append-nil, length-set}, Grind.{flat_map-append}, Option.{none-some, same_Some}}
-use Rattle.std.specs.{List.{AllByRecursion, flat_map, remove}, Option.{option_map_or}, Str.{bytes_eq}}
-use Rattle.t1_classes.specs.Partition.{File, Fit, singles, group_before, halves_fitted, fitted_by, fitted, groups_from, partner_from, pair_or, pair_from, joined_at, settled, all_settled}
+use Rattle.std.proofs.Common.{◌≡◌, ◌+◌, ◌/◌, ℕ, zero, suc, Bool, true, false, cond, nat_le, List, [], ◌∷◌, ◌++◌, length, take, drop, refl, sym, ap, ◌∙◌, arith}
+use Rattle.std.proofs.lemmas.{List.{take-append-drop}}
+use Rattle.std.specs.{List.{flat_map}, Str.{bytes_eq}}
+use Rattle.t1_classes.specs.Partition.{File, Fit, singles, group_before, halves_fitted, fitted_by, fitted, groups_from}
 use Rattle.t1_classes.proofs.SortedFiles.{times}
 
 -- the files of all groups

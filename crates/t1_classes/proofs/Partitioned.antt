@@ -1,12 +1,12 @@
 -- The laws of classes.
 use Rattle.std.proofs.Common.{◌≡◌, ◌<◌, ◌≤◌, ◌+◌, ◌-◌, ◌∙◌, ◌∷◌}
 use Rattle.std.proofs.Common.{ℕ, zero, suc, nat_eq, nat_lt, Bool, true, false, cond, refl, sym, ap, subst, arith, inl, inr, List, [], length, get_or, map, Option, Some, None}
-use Rattle.std.proofs.lemmas.{Bool.{cases_Bool, true≢false, ltb-true, ltb-false, eqb-true, eqb-false, false_from_ne_true}, Option.{none-some, same_Some}, Slice.Eq.{bytes_eq-Decides}}
+use Rattle.std.proofs.lemmas.{Bool.{cases_Bool, true≢false, ltb-true, ltb-false, eqb-true, eqb-false, false_from_ne_true}, Option.{none-some}, Slice.Eq.{bytes_eq-Decides}}
 use Rattle.std.proofs.Math.Bool.{and-false, or-true}
 use Rattle.std.specs.{Prelude.{◌||◌, ◌&&◌}, List.{AllByRecursion, list_any}, Str.{bytes_eq}}
 use Rattle.t1_classes.specs.{declared.classes.Class.{Class}, declared.classes.Content.{Content}, declared.classes.Content.TheVariants.{Same, Joined, Refused}}
-use Rattle.t1_classes.specs.{Partition.{File, is_among, distinct, groups_from, groups_of_distinct}, Joining.{joined_text, joins}}
-use Rattle.t1_classes.specs.Classes.{places_from, places_of, IsContent, IsClass, IsApart, AreOthers, AreClasses, text_of}
+use Rattle.t1_classes.specs.{Partition.{File, is_among, distinct, groups_from, groups_of_distinct}, Joining.{joins}}
+use Rattle.t1_classes.specs.Classes.{places_from, IsContent, IsClass, AreOthers, AreClasses, text_of}
 use Rattle.t1_classes.specs.Laws.{groups_under, is_member, classes_with, InAnyOrder, ClassesJoin, NoTwoJoin, EachInOneClass, EqualTogether}
 use Rattle.t1_classes.proofs.Refusing.{refused_none, none_fails}
 use Rattle.t1_classes.proofs.SortedFiles.{times, one_order, distinct_sorted, distinct_in, times_none, times_sorted}

@@ -1,5 +1,5 @@
 -- Files that are refused don't join.
-use Rattle.std.proofs.Common.{◌≡◌, ℕ, List, Bool, true, false, Option, None, Err, is_some, ap}
+use Rattle.std.proofs.Common.{◌≡◌, ℕ, List, false, Option, None, Err, is_some, ap}
 use Rattle.t1_classes.specs.{declared.refusals.Refusal.{Refusal}, Partition.{File}, Joining.{joined_text, joins, IsJoined}}
 
 -- files that are refused have no text

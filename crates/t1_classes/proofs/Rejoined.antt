@@ -1,7 +1,7 @@
 -- What fonts rejoin to is one font, if they do.
 use Rattle.std.proofs.Common.{◌≡◌, ℕ, Bool, true, false, cond, refl, sym, ◌∙◌, ap, subst, List, [], ◌∷◌, inl, inr, Option, Some, None, Result, Ok, Err}
 use Rattle.std.proofs.lemmas.{Bool.{true≢false, le-leb, leb-true, and_parts}, Option.{none-some, same_Some}}
-use Rattle.std.specs.{Prelude.{◌&&◌}, List.{AllByRecursion}, Option.{option_map, option_and_then, is_none}}
+use Rattle.std.specs.{Prelude.{◌&&◌}, Option.{option_map, option_and_then, is_none}}
 use Rattle.t1_join.specs.Groupings.{Grouping, one, two, from_left}
 use Rattle.t1_font.specs.{declared.fault.ReadFault.{ReadFault}, FontValue.{FontValue, weight, weight_limit}, Normalizing.{filled_all}, FontNames.{normalized_named}, Filling.{AreLight}}
 use Rattle.t1_algebra.specs.{Profile.{profile}, States.{Join, joined_font}, Conflicts.{Conflict as FontConflict, conflict}, Lacks.{Lack, first_lack}, Groupings.{Merges}, Merges.{ComesTo}}
@@ -9,7 +9,7 @@ use Rattle.t1_algebra.proofs.{Orders.{one_result}, Conflicts.{no_conflict}, Many
 use Rattle.t1_subset.specs.{declared.conflict.Conflict.{Conflict}, declared.conflict.Conflict.TheVariants.{Memory}, declared.fault.RejoinFault.{RejoinFault}}
 use Rattle.t1_subset.specs.{declared.fault.RejoinFault.TheVariants.{Lacks, Merge}, Merger.{NotMerged}, Rejoins.{Rejoin, NotRejoined, NotMergedFilled}}
 use Rattle.t1_subset.proofs.{Answered.{never_stops}, Rejoining.{light_or_heavy}}
-use Rattle.t1_classes.specs.{Partition.{File}, Laws.{JoinedRejoin}}
+use Rattle.t1_classes.specs.{Laws.{JoinedRejoin}}
 use Rattle.t1_classes.specs.Joining.{unless_apart, joined_from, joined_fonts, are_light, rejoined, font_text, RejoinToText, text_of_fonts, fonts_of_files, joined_text, is_full, wants_memory}
 
 -- ---- joined from left to right

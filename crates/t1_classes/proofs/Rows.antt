@@ -1,6 +1,6 @@
 -- Worked rows of the definitions, computed.
-use Rattle.std.{proofs.Common.{◌≡◌, ℕ, Bool, true, false, List, [], ◌∷◌, Some, None, refl}, specs.{Prelude.{◌&&◌, ◌||◌}, List.{list_all, list_any}, Str.{bytes_eq}}}
-use Rattle.t1_classes.specs.Partition.{File, distinct, Fit, fitted, groups_from, partner_from, pair_from, joined_at, settled, groups}
+use Rattle.std.{proofs.Common.{◌≡◌, ℕ, Bool, false, List, [], ◌∷◌, Some, refl}, specs.{List.{list_all}, Str.{bytes_eq}}}
+use Rattle.t1_classes.specs.Partition.{File, distinct, fitted, groups_from, partner_from, pair_from, joined_at, settled, groups}
 use Rattle.t1_classes.specs.Classes.{places_of}
 
 -- ---- files whose first bytes are equal join

@@ -3,7 +3,7 @@ use Rattle.std.proofs.Common.{◌≡◌, ◌<◌, ◌≤◌, ◌+◌, ◌-◌, �
 use Rattle.std.proofs.Common.{ℕ, zero, suc, Bool, true, false, cond, nat_le, List, [], length, get_or, set, take, drop, Option, Some, None, refl, sym, ap, subst, arith, inl, inr}
 use Rattle.std.proofs.lemmas.{List.{length-set}, List.Edits.{length-remove, get_or-remove_below}, Option.{none-some, same_Some}}
 use Rattle.std.specs.{List.{AllByRecursion, remove}, Option.{option_map_or}}
-use Rattle.t1_classes.specs.Partition.{File, Fit, singles, group_before, halves_fitted, fitted_by, fitted, groups_from, partner_from, pair_or, pair_from, joined_at, settled, all_settled}
+use Rattle.t1_classes.specs.Partition.{File, Fit, singles, group_before, halves_fitted, fitted_by, fitted, groups_from, partner_from, pair_or, pair_from, joined_at, settled}
 use Rattle.t1_classes.proofs.{SortedFiles.{times}, Kept.{all_files, times_append}}
 
 -- ---- pairs

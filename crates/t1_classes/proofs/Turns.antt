@@ -1,5 +1,5 @@
 -- The groups of files, one turn after the other.
-use Rattle.std.proofs.Common.{◌≡◌, ◌<◌, ◌≤◌, ◌+◌, ◌-◌, ℕ, zero, suc, nat_eq, Bool, true, false, List, [], ◌∷◌, ◌++◌, length, map, refl, sym, ap, ◌∙◌, subst, arith, append_assoc}
+use Rattle.std.proofs.Common.{◌≡◌, ◌<◌, ◌≤◌, ◌+◌, ◌-◌, ℕ, zero, suc, nat_eq, Bool, true, false, List, [], ◌∷◌, ◌++◌, length, refl, sym, ap, ◌∙◌, arith, append_assoc}
 use Rattle.std.proofs.lemmas.{Bool.{eqb-true, true≢false}, List.{map-append}}
 use Rattle.std.specs.{Borrow.{Bor}, Global.{Vec}}
 use Rattle.t1_classes.specs.{Partition.{File, Fit, singles, group_before, fitted, groups_from}, Views.{lent, group_lists}}

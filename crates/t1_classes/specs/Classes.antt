@@ -1,7 +1,7 @@
 -- The classes of files, as they are answered.
-use Rattle.std.specs.{Prelude.{◌≡◌, ℕ, ◌+◌, Bool, true, false, List, [], ◌∷◌, ◌++◌, Option, Some, None, Err, nat_eq, length, if◌then◌else◌}, List.{list_any}}
+use Rattle.std.specs.{Prelude.{◌≡◌, ℕ, ◌+◌, true, false, List, [], ◌∷◌, ◌++◌, Option, Some, None, Err, nat_eq, length, if◌then◌else◌}}
 use Rattle.t1_classes.specs.{declared.refusals.Refusal.{Refusal}, declared.classes.Content.{Content}, declared.classes.Content.TheVariants.{Same, Joined, Refused}, declared.classes.Class.{Class}}
-use Rattle.t1_classes.specs.{Partition.{File, is_among, groups}, Joining.{joined_text, joins, IsJoined}}
+use Rattle.t1_classes.specs.{Partition.{File, is_among}, Joining.{joined_text, joins, IsJoined}}
 
 -- the places of the files that are among those of a group, where the first file has place i
 abbrev pub places_from : ℕ → List File → List File → List ℕ

@@ -1,4 +1,4 @@
-use Rattle.std.proofs.Common.{ℕ, ◌+◌, List, Option, ◌≡◌, ◌++◌, ◌∷◌, [], take, sym, ap, ◌∙◌, subst}
+use Rattle.std.proofs.Common.{◌+◌, List, Option, ◌≡◌, ◌++◌, ◌∷◌, [], take, sym, subst}
 use Rattle.t1_classes.specs.{declared.refusals.Refusal.{Refusal}, declared.classes.Class.{Class}, Partition.{File}, Classes.{IsClass, IsApart, AreClasses}, Views.{lent, group_lists}}
 use Rattle.t1_classes.proofs.Answered.{classes_more, groups_more}
 use Rattle.t1_classes.proofs.classes.classes_of_groups.Goals as goal

@@ -1,4 +1,4 @@
-use Rattle.std.proofs.Common.{rules, ◌++◌, arith, T, subst, sym, ap, ◌∙◌}
+use Rattle.std.proofs.Common.{rules, ◌++◌, T, subst, ap, ◌∙◌}
 use Rattle.std.proofs.Math.Facts.{eqb_yes}
 use Rattle.t1_classes.specs.{Joining.{joins}, Partition.{fitted}, Views.{lent, fit_view}}
 use Rattle.t1_classes.proofs.Halves.{none_lent, all_lent, one_lent, halves_lent}

@@ -1,5 +1,5 @@
-use Rattle.std.proofs.Common.{◌++◌, ◌∷◌, [], ◌-◌, ◌+◌, length, rules, arith, T, subst, sym, ap, ◌∙◌}
-use Rattle.std.proofs.{Math.Facts.{eqb_yes}, lemmas.List.{length-map}}
+use Rattle.std.proofs.Common.{◌++◌, [], ◌-◌, ◌+◌, length, arith, ap, ◌∙◌}
+use Rattle.std.proofs.{lemmas.List.{length-map}}
 use Rattle.t1_classes.specs.{Joining.{joins}, Partition.{fitted, groups_from, singles}, Views.{lent, group_lists, fit_view}}
 use Rattle.t1_classes.proofs.Turns.{grown, turn_more, turn_last, no_turn, is_zero, not_zero}
 use Rattle.t1_classes.proofs.fitting.groups_from.Goals.{else-groups-test, then-groups-test+in_ok-fit+then-is_empty}

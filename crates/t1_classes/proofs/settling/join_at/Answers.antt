@@ -1,4 +1,4 @@
-use Rattle.std.proofs.Common.{◌++◌, set, sym, ap, ◌∙◌}
+use Rattle.std.proofs.Common.{◌++◌, set, ap, ◌∙◌}
 use Rattle.t1_classes.specs.Views.{lent, group_lists}
 use Rattle.t1_classes.proofs.Pairs.{joined_lists}
 use Rattle.t1_classes.proofs.settling.join_at.Goals as goal

@@ -1,4 +1,4 @@
-use Rattle.std.proofs.Common.{◌+◌, drop, sym, ap, ◌∙◌}
+use Rattle.std.proofs.Common.{◌+◌, drop, ap, ◌∙◌}
 use Rattle.t1_classes.specs.{Joining.{joins}, Partition.{partner_from}, Views.{lent, group_lists}}
 use Rattle.t1_classes.proofs.Pairs.{no_pair, pair_here, pair_later}
 use Rattle.t1_classes.proofs.settling.pair.Goals as goal
