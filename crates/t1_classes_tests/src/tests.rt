@@ -271,7 +271,7 @@ fn all_answer_right(alloc: Global) -> Result<bool, AllocError> {
     )?;
     Ok(
         text.as_slice() == whole()
-            && lines.as_slice() == b"1 same\n0 2 joined, shells differ in head\n",
+            && lines.as_slice() == b"1 same\n0 2 joined, shells differ in head\n".as_slice(),
     )
 }
 
