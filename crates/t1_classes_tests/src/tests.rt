@@ -62,7 +62,7 @@ fn add_content(
 /// Adds the line of a class: its members, what its files come to, and why they are apart from those of the first class.
 fn add_class(alloc: Global, lines: &mut Vec<u8>, class: &Class<'_>) -> Result<(), AllocError> {
     for member in class.members.as_slice() {
-        add_line(alloc, lines, *member as u32, b"", b" ")?;
+        add_line(alloc, lines, (*member).min(9999) as u32, b"", b" ")?;
     }
     add_content(alloc, lines, &class.content)?;
     if let Some(why) = &class.apart {
@@ -201,12 +201,18 @@ fn joins_to(alloc: Global, files: &[&[u8]], want: &[u8]) -> bool {
 }
 
 /// What of the joins of a part of a font, of the whole and of another font comes out wrong, if anything.
-fn what_join_is_wrong<'a>(alloc: Global, part: &'a [u8], other: &'a [u8]) -> &'static str {
-    if !joins_to(alloc, &[part, whole()], whole()) {
+fn what_join_is_wrong<'a>(
+    alloc: Global,
+    part: &'a [u8],
+    whole: &'a [u8],
+    other: &'a [u8],
+) -> &'static str {
+    const NONE: &[u8] = b"no font";
+    if !joins_to(alloc, &[part, whole], whole) {
         "two that join"
     } else if !joins_to(alloc, &[part, other], b"shells differ in head") {
         "two that don't"
-    } else if !joins_to(alloc, &[part, b"no font", b"%!"], b"no eexec") {
+    } else if !joins_to(alloc, &[part, NONE, whole], b"no eexec") {
         "no font"
     } else if !joins_to(alloc, &[], b"nothing to merge") {
         "no file"
@@ -220,7 +226,7 @@ fn what_join_is_wrong<'a>(alloc: Global, part: &'a [u8], other: &'a [u8]) -> &'s
 fn joins_of_files(rt: HostRuntime) -> Result<(), Fail> {
     let alloc = rt.alloc();
     let (part, other) = (cut(alloc, b"X")?, other(alloc)?);
-    let wrong = what_join_is_wrong(alloc, part.as_slice(), other.as_slice());
+    let wrong = what_join_is_wrong(alloc, part.as_slice(), whole(), other.as_slice());
     assert!(rt; wrong.is_empty(), "{wrong}");
     Ok(())
 }
@@ -261,18 +267,25 @@ fn many(rt: HostRuntime) -> Result<(), Fail> {
 }
 
 /// Whether two files join, and are in one class, and a third is in another.
-fn all_answer_right(alloc: Global) -> Result<bool, AllocError> {
-    let (part, other) = (cut(alloc, b"X")?, other(alloc)?);
-    let (part, other) = (part.as_slice(), other.as_slice());
-    let text = joined_text(alloc, &[part, whole()])?;
-    let lines = used(
-        classes_of(alloc, b"Tiny", &[part, other, whole()]),
+fn answer_right<'a>(
+    alloc: Global,
+    part: &'a [u8],
+    whole: &'a [u8],
+    other: &'a [u8],
+) -> Result<bool, AllocError> {
+    const LINES: &[u8] = b"1 same\n0 2 joined, shells differ in head\n";
+    let text = joined_text(alloc, &[part, whole])?;
+    let told = used(
+        classes_of(alloc, b"Tiny", &[part, other, whole]),
         |classes| lines(alloc, classes.as_slice()),
     )?;
-    Ok(
-        text.as_slice() == whole()
-            && lines.as_slice() == b"1 same\n0 2 joined, shells differ in head\n".as_slice(),
-    )
+    Ok(text.as_slice() == whole && told.as_slice() == LINES)
+}
+
+/// The same of a part of Tiny, of the whole and of Tiny with another head.
+fn all_answer_right(alloc: Global) -> Result<bool, AllocError> {
+    let (part, other) = (cut(alloc, b"X")?, other(alloc)?);
+    answer_right(alloc, part.as_slice(), whole(), other.as_slice())
 }
 
 // meets classes_of Ok at 3 files
