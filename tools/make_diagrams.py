@@ -23,7 +23,7 @@ ABOUT = {
     "t1_font": "fonts, read and written", "t1_font_laws": "laws of fonts",
     "t1_jobs": "jobs around documents",
     "t1_algebra": "laws of subsets", "t1_subset": "subset, merge",
-    "t1_document": "PostScript documents", "t1_dsc": "documents as one", "t1_cmd": "the engines", "t1_example": "a caller", "t1_c": "the library for C", "t1subset": "the program",
+    "t1_document": "PostScript documents", "t1_dsc": "documents as one", "t1_classes": "classes of fonts", "t1_cmd": "the engines", "t1_example": "a caller", "t1_c": "the library for C", "t1subset": "the program",
 }
 # The path of `merge`: what the bytes are, the call that makes the next of it, and that call's crate.
 STEPS = [

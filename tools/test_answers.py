@@ -25,7 +25,7 @@ import sys
 
 from common import TOP, files_of_tests, homes_of_tests, text_of
 
-CRATES = ["t1_bytes", "t1_jobs", "t1_char", "t1_run", "t1_join", "t1_font", "t1_document", "t1_dsc", "t1_subset", "t1_cmd"]
+CRATES = ["t1_bytes", "t1_jobs", "t1_char", "t1_run", "t1_join", "t1_font", "t1_document", "t1_dsc", "t1_classes", "t1_subset", "t1_cmd"]
 # Crates whose tests are run with growths refused. The calls of t1_example are examples, whose answers are not told of.
 GROWING = [*CRATES, "t1_example"]
 MEETS = re.compile(r"^// meets (\w+(?:::\w+)?) (\w+)(?: at ([\d, ]+) ([a-z]+))?$")
@@ -113,6 +113,7 @@ LARGE = {
     "t1_font": {"": 65_535, "normalize_shells": 1000, "normalize_boxes": 1000, "normalize_named": 1000, "fill_all": 65_535},
     "t1_document": {"": 300, "Texts::new": None, "Place::source": None, "Place::can_stand": None},
     "t1_dsc": {"": 1000},
+    "t1_classes": {"": 300},
     "t1_subset": {"": 65_535, "merge": 65_535},
     "t1_cmd": {
         "": 65_535, "run_pool": 300, "run_level": 300, "run_fonts": 300, "run_extract": 300, "pool_files": 300, "level_files": 300, "list_fonts": 300,

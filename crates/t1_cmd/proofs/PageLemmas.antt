@@ -1,5 +1,6 @@
 -- Documents as one document: there is one.
-use Rattle.std.proofs.{Common.{◌≡◌, ◌≤◌, ◌<◌, ◌+◌, ◌++◌, ℕ, Bool, true, false, List, length, get_or, drop, sym, ap, subst, ◌∙◌, arith, append_assoc, Ok, Err}, lemmas.List.{append-nil, drop_more, drop_all}}
+use Rattle.std.proofs.Common.{◌≡◌, ◌≤◌, ◌<◌, ◌+◌, ◌++◌, ℕ, Bool, true, false, List, length, get_or, drop, sym, ap, subst, ◌∙◌, arith, append_assoc, Ok, Err}
+use Rattle.std.proofs.lemmas.List.{append-nil, drop_more, drop_all}
 use Rattle.t1_document.specs.{declared.pooling.Key.TheVariants.{Name, Family}, declared.entries.Least.TheVariants.{One}, Apart.{PooledApartBy}}
 use Rattle.t1_document.proofs.FoundApart.{pooled_apart}
 use Rattle.t1_dsc.specs.Joining.{joined_pages}
