@@ -477,8 +477,19 @@ def pooled_documents(program):
         return
     out = printed([sys.executable, os.path.join(TOP, "tools/pool_producers.py"), "2"], env={**os.environ, "T1SUBSET": program})
     rows = [[cell.strip() for cell in line.split("|")[1:-1]] for line in out.splitlines()]
-    dvips = next((row for row in rows if row[:1] == ["dvips"] and len(row) == 8), None)
-    check(dvips and {dvips[at] for at in (1, 3, 5, 7)} == {"4"} and int(dvips[4]) < int(dvips[2]), out)
+    dvips = next((row for row in rows if row[:1] == ["dvips"] and len(row) == 10), None)
+    check(dvips and {dvips[at] for at in (1, 3, 5, 7, 9)} == {"4"} and int(dvips[4]) < int(dvips[2]), out)
+
+
+def print_queue(program):
+    """tools/print_queue.py prints two papers through a queue of CUPS, and each page is right."""
+    if lacks("tools/print_queue.py", ["cupsd", "lpadmin", "lp", "tex", "dvips", "gs", "cc"]):
+        return
+    if os.geteuid():
+        say("tools/print_queue.py needs root, and was left out")
+        return
+    out = printed([sys.executable, os.path.join(TOP, "tools/print_queue.py")], env={**os.environ, "T1SUBSET": program})
+    check("all pages: 6 of 6 pages right" in out, out)
 
 
 def pooled_pdfs(library, folder):
@@ -530,6 +541,7 @@ def main():
         hostile(program)
         if library:
             calls(program, library)
+            print_queue(program)
             pooled_pdfs(library, os.path.join(folder, "pdfs"))
         producers(program)
         pooled_documents(program)
