@@ -8,7 +8,7 @@ _t1subset() {
     subset) options='--explain --names --codes --text --tokens --pfb --help' takes='--names|--codes|--text|--tokens' names=3 ;;
     merge) options='--explain --tokens --pfb --help' takes='--tokens' names=0 ;;
     rejoin) options='--explain --tokens --pfb --help' takes='--tokens' names=0 ;;
-    pool) options='--explain --tags --help' takes='-' names=0 ;;
+    pool) options='--explain --tags --dsc --help' takes='-' names=0 ;;
     level) options='--explain --help' takes='-' names=0 ;;
     fonts) options='--explain --extract --help' takes='--extract' names=0 ;;
     diff) options='--explain --tokens --help' takes='--tokens' names=0 ;;
