@@ -376,7 +376,7 @@ fn files_over_the_limit(rt: HostRuntime) -> Result<(), Fail> {
 }
 
 /// Whether documents are too long together, one behind the other and as one.
-fn are_too_long(alloc: Global, documents: &[&[u8]]) -> bool {
+fn are_too_long_as_one(alloc: Global, documents: &[&[u8]]) -> bool {
     const ONE: Pooling = Pooling {
         tags: false,
         dsc: true,
@@ -408,7 +408,7 @@ fn documents_over_the_limit(rt: HostRuntime) -> Result<(), Fail> {
     let file = read_all(alloc, &mut long, 268_435_457)?;
     assert!(rt; is_too_long_a_document(alloc, file.as_slice()));
     match file.as_slice().get(..134_217_728) {
-        Some(half) => assert!(rt; are_too_long(alloc, &[half, half])),
+        Some(half) => assert!(rt; are_too_long_as_one(alloc, &[half, half])),
         None => assert!(rt; false, "a file that is too short"),
     }
     Ok(())
