@@ -405,7 +405,11 @@ fn documents_over_the_limit(rt: HostRuntime) -> Result<(), Fail> {
         assert!(rt; word == want, "{left} {right}");
     }
     let mut long = Counted::new(Document::new(268_435_457));
-    let file = read_all(alloc, &mut long, 268_435_457)?;
+    let mut file = read_all(alloc, &mut long, 268_435_457)?;
+    if let Some(byte) = file.get_mut(2) {
+        // The first line is the header, of which one document keeps nothing.
+        *byte = b'\n';
+    }
     assert!(rt; is_too_long_a_document(alloc, file.as_slice()));
     match file.as_slice().get(..134_217_728) {
         Some(half) => assert!(rt; are_too_long_as_one(alloc, &[half, half])),
