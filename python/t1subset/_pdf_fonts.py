@@ -19,6 +19,8 @@ _TAG = re.compile(r"(?:[A-Z]{6}\+)+(?=.)")
 # Names that are spelled in a PDF as they are.
 _PLAIN = re.compile(r"[!-~]+")
 _ODD = re.compile(r"[()<>\[\]{}/%#]")
+# The name that cairo gives to a font that it cuts, whatever the font's own is.
+_OF_CAIRO = re.compile(rb"(/FontName\s*/)CairoFont-[0-9]+-[0-9]+(?=[\s/])")
 LONGEST, IN_ALL = 1 << 24, 1 << 30
 """The most bytes that a program may have, and all that are kept."""
 _OF_STREAMS = {"Length", "Length1", "Length2", "Length3", "Filter", "DecodeParms", "DL"}
@@ -219,10 +221,18 @@ def _check_shown(joined: Joined) -> None:
                 raise Apart(f"code {code} is shown, and would draw {names[code]}")
 
 
+def named(item: Union[Program, Joined]) -> bytes:
+    """The bytes of a program, with the name of its family where cairo gave it another, of its own making."""
+    if isinstance(item, Joined) or not _PLAIN.fullmatch(item.name) or _ODD.search(item.name):
+        return item.data
+    clear, marker, rest = item.data.partition(b"eexec")
+    return _OF_CAIRO.sub(lambda it: it[1] + item.name.encode(), clear, count=1) + marker + rest
+
+
 def joined(items: Sequence[Union[Program, Joined]], tokens: Optional[int]) -> Joined:
     """Programs as one, or Apart."""
     try:
-        data = _calls.rejoin([it.data for it in items], "pfb", tokens=tokens)
+        data = _calls.rejoin([named(it) for it in items], "pfb", tokens=tokens)
         glyphs, encoding = _listed(data)
     except Refused as why:
         raise Apart(str(why)) from why

@@ -152,6 +152,19 @@ class Joined(unittest.TestCase):
         self.assertEqual(str(pdf.pool(made.pdf)), "")
         self.assertEqual(len(kept), 3)
 
+    def test_names_of_cairo(self) -> None:
+        for first, second, wanted in (
+            (b"CairoFont-0-0", b"CairoFont-12-3", "^Tiny: 2 fonts joined"),
+            (b"CairoFont-0-0", b"Tiny", "^Tiny: 2 fonts joined"),
+            (b"CairoFont-0-0", b"CairoFont-0-0x", "kept: shells differ in head"),
+            (b"CairoFont-0", b"CairoFont-1", "kept: shells differ in head"),
+        ):
+            made = Volume()
+            for text, given in ((b"A", first), (b"B", second)):
+                program = cut("X" if text == b"A" else "Y").replace(b"/FontName /Tiny", b"/FontName /" + given)
+                made.showing(made.font(program), text)
+            self.assertRegex(str(pdf.pool(made.opened())), wanted)
+
     def test_names_that_are_no_utf_8(self) -> None:
         for text, wanted in ((b"A", "^Tiny: 2 fonts joined"), (b"B", "kept: " + STAYS)):
             made = Volume()
