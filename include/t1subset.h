@@ -15,7 +15,8 @@
  * is that thread's alone. So any number of threads may call at once, each with an answer of its own.
  *
  * Memory and time: if the heap refuses a growth, the call returns T1SUBSET_MEMORY, and nothing is held. The calls that
- * were measured took at most eight times their files and 2 MB. A font of 1 MB can be made so that a call that runs its
+ * were measured took at most eight times their files and 2 MB, and t1subset_pool with T1SUBSET_DSC 24 bytes more for each
+ * line of its longest document. A font of 1 MB can be made so that a call that runs its
  * glyphs takes minutes. subset_within, merge_within, rejoin_within and diff_within bound what is run, without a clock;
  * list_full, pool, level and fonts have no such limit: a service that opens files of strangers should limit the
  * time of these from outside, for instance in a process of its own.
