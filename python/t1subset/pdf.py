@@ -10,6 +10,7 @@ It needs pikepdf; the rest of the package doesn't.
 from __future__ import annotations
 
 import argparse
+import json
 import os
 import shutil
 import stat
@@ -17,7 +18,7 @@ import sys
 import tempfile
 from collections import Counter
 from concurrent.futures import ThreadPoolExecutor
-from dataclasses import dataclass
+from dataclasses import asdict, dataclass
 from typing import Any, Callable, Dict, List, Optional, Sequence, Set, Tuple, Union
 
 try:
@@ -91,6 +92,20 @@ class Report:
 
     def __str__(self) -> str:
         return "".join(f"{it}\n" for it in self.families)
+
+    def json(self) -> str:
+        """The same as a JSON object of two lists, `joined` and `kept`, with the fields of `Join` and of `Keep`. A name has a code
+        point for each of its bytes, U+0000 to U+00FF."""
+        told: Dict[str, List[Dict[str, Any]]] = {"joined": [], "kept": []}
+        for it in self.families:
+            fields = {key: _of_bytes(value) if isinstance(value, str) else value for key, value in asdict(it).items()}
+            told["joined" if isinstance(it, Join) else "kept"].append(fields)
+        return json.dumps(told)
+
+
+def _of_bytes(text: str) -> str:
+    """A text with a code point for each of its bytes."""
+    return text.encode("utf-8", "surrogateescape").decode("latin-1")
 
 
 def _quiet(what: str, done: int, of: int) -> None:
@@ -314,10 +329,11 @@ def _arguments(words: Optional[Sequence[str]]) -> argparse.Namespace:
     parser = argparse.ArgumentParser(
         prog="t1subset-pdf",
         description="Makes each Type 1 font stand once in a PDF, and prints a line for each family.",
-        usage="%(prog)s [--list] [--spell] [--dictionaries] [--object-streams] [--password FILE] [--tokens N] OUT.pdf IN.pdf",
+        usage="%(prog)s [--list] [--json] [--spell] [--dictionaries] [--object-streams] [--password FILE] [--tokens N] OUT.pdf IN.pdf",
         epilog="The exit status is 0, 1 for `refused: TEXT`, 2 for a wrong command line, 3 for a file that can't be read or written.",
     )
     parser.add_argument("--list", action="store_true", help="only print what would become of the fonts; OUT may be left out")
+    parser.add_argument("--json", action="store_true", help="print a JSON object in place of lines, of a refusal too")
     parser.add_argument("--spell", action="store_true", help="let font dictionaries name codes, where programs differ in them")
     parser.add_argument("--dictionaries", action="store_true", help="make one of equal dictionaries of fonts")
     parser.add_argument("--object-streams", action="store_true", help="write object streams: fewer bytes, and PDF 1.5")
@@ -381,14 +397,17 @@ def _run(given: argparse.Namespace) -> None:
                 save(pdf, out, object_streams=given.object_streams)
             except (OSError, pikepdf.PdfError) as fault:
                 raise _Failed(f"failed: write {out}", 3) from fault
-        print(report, end="")
+        print(report.json() + "\n" if given.json else report, end="")
 
 
 def main(words: Optional[Sequence[str]] = None) -> int:
     """The command t1subset-pdf."""
+    given = _arguments(words)
     try:
-        _run(_arguments(words))
+        _run(given)
     except _Failed as why:
+        if given.json and why.status == 1:
+            print(json.dumps({"refused": {"text": str(why)[len("refused: "):]}}))
         print(why, file=sys.stderr)
         return why.status
     return 0

@@ -4,6 +4,7 @@ from __future__ import annotations
 
 import contextlib
 import io
+import json
 import os
 import re
 import subprocess
@@ -37,6 +38,10 @@ def volume() -> Volume:
     made.pdf.Root.Pages.Resources = dictionary({"ProcSet": pikepdf.Array([name("PDF")])})
     made.pdf.Root.Metadata = made.stream(b"<x:xmpmeta pdf:PDFVersion='1.1'/>", Type=name("Metadata"), Subtype=name("XML"))
     return made
+
+
+# What is printed by `--json` of a file that is no PDF.
+NO_PDF = '{"refused": {"text": "it is no PDF that can be read"}}\n'
 
 
 class Terminal(io.StringIO):
@@ -94,6 +99,27 @@ class Command(unittest.TestCase):
             status, told, _ = self.run_in(*words)
             self.assertEqual((status, os.listdir(self.room)), (0, ["in.pdf"]))
             self.assertRegex(told, "^Tiny: 2 fonts joined")
+
+    def test_json(self) -> None:
+        given, out = self.path("in.pdf", volume().bytes()), self.path("out.pdf")
+        _, told, _ = self.run_in(out, given)
+        status, printed, err = self.run_in("--json", out, given)
+        self.assertEqual((status, err, printed.count("\n")), (0, "", 1))
+        found = json.loads(printed)
+        self.assertEqual((sorted(found), found["kept"], len(found["joined"])), (["joined", "kept"], [], 1))
+        join = found["joined"][0]
+        self.assertEqual((join["name"], join["fonts"], join["glyphs"]), ("Tiny", 2, 3))
+        self.assertRegex(join["font_name"], r"^[A-Z]{6}\+Tiny$")
+        self.assertEqual(told, f"Tiny: 2 fonts joined, 3 glyphs, {join['before']:,} to {join['after']:,} bytes\n")
+        self.assertEqual(self.run_in("--json", "--list", self.path("none.pdf", b"no")), (1, NO_PDF, "refused: it is no PDF that can be read\n"))
+        self.assertEqual(self.run_in("--json", "--list", self.path("absent.pdf"))[:2], (3, ""))
+
+    def test_json_of_what_stays(self) -> None:
+        report = pdf.Report((pdf.Keep("Caf\udce9", 1, 2, "code 1 differs"), pdf.Keep("\u00e9\"", 3, 3, "it is odd")))
+        kept = [("Caf\u00e9", 1, 2, "code 1 differs"), ("\u00c3\u00a9\"", 3, 3, "it is odd")]
+        wanted = [dict(zip(("name", "fonts", "of", "reason"), it)) for it in kept]
+        self.assertEqual(json.loads(report.json()), {"joined": [], "kept": wanted})
+        self.assertTrue(report.json().isascii())
 
     def test_progress_is_for_a_terminal(self) -> None:
         given, out, err = self.path("in.pdf", volume().bytes()), io.StringIO(), Terminal()
