@@ -232,7 +232,7 @@ def refusals(pair, numbers):
             sys.exit(f"{name}, {words}: {fault or told}")
         met.add("shells_differ" if is_part else name)
         parts.update([name] if is_part else [])
-    wanted = {name for name in numbers.numbers if not name.startswith("part_") and name not in ("pfa", "pfb")} - ELSEWHERE
+    wanted = {name for name in numbers.numbers if not name.startswith("part_") and name not in ("pfa", "pfb", "tags", "dsc")} - ELSEWHERE
     lacking = sorted(wanted - met) + sorted({name for name in numbers.numbers if name.startswith("part_")} - parts)
     if lacking:
         sys.exit(f"no file brings about {', '.join(lacking)}")
