@@ -12,8 +12,9 @@ to be refused for its own function and the clause that it names. What doesn't co
 proved the next ones take.
 
 usage: tools/wrong_bodies.py [--jobs N] [--only NAME] [--gate] [--anew] [CRATE...]      (all crates if none is named)
-`--gate` tries those of tools/must-fail over what is built, and takes what an earlier run on this machine refused of the same files
-over the same libraries, but with `--anew`. Ends with status 1 if an edit can't be applied or read, or is neither refused nor caught.
+`--gate` tries those of tools/must-fail over what is built. What an earlier run on this machine refused of the same files over the same
+libraries isn't tried again but with `--anew`, so a run that was ended goes on. Ends with status 1 if an edit can't be applied or read,
+or is neither refused nor caught.
 """
 import argparse
 import concurrent.futures
@@ -33,7 +34,7 @@ from edits import apply, catcher, change_of, function_of, names_nothing, refusal
 from kit import compiler_words, files_of, lanes, library, sum_of_crate
 
 MUST_FAIL, OTHERS = (os.path.join(TOP, "tools", folder) for folder in ("must-fail", "wrong-bodies"))
-# What earlier runs of the gate refused.
+# What earlier runs refused.
 KEPT = os.path.join(os.environ.get("XDG_CACHE_HOME") or os.path.expanduser("~/.cache"), "duphangwe/edits")
 # How many edits of different functions are tried by one check.
 TOGETHER = 16
@@ -167,14 +168,15 @@ def caught_of(crate, edit, tell):
         tell(line)
 
 
-def place(crate, edit):
-    """Where it is kept that an edit was refused: under the sum of all that this rests on."""
-    rests = (sum_of_crate(crate), os.path.basename(edit), bytes_of(edit), *(bytes_of(TOP, "tools", name) for name in ("wrong_bodies.py", "edits.py", "kit.py")))
-    return os.path.join(KEPT, hashlib.sha256(repr(rests).encode()).hexdigest())
+def places_of(crate, edits):
+    """Where it is kept that edits of a crate were refused: under the sum of all that this rests on. A test may have changed by itself."""
+    rests = (sum_of_crate(crate), *(bytes_of(TOP, "tools", name) for name in ("wrong_bodies.py", "edits.py", "kit.py")))
+    place = lambda edit: hashlib.sha256(repr((*rests, os.path.basename(edit), bytes_of(edit))).encode()).hexdigest()
+    return {label(crate, edit): os.path.join(KEPT, place(edit)) for edit in edits if not catcher(edit)}
 
 
 class Told:
-    """What was said of the edits: how many were tried, and what is wrong. What the gate sees refused is kept in these places."""
+    """What was said of the edits: how many were tried, and what is wrong. What is refused is kept in these places."""
 
     def __init__(self, places, wrong):
         self.places, self.wrong, self.count, self.lock = places, wrong, 0, threading.Lock()
@@ -232,7 +234,7 @@ def main():
         if lacking and wanted[name]:
             wrong.append(f"{name}: NOT TRIED, since {lacking[0]} is not built")
             del wanted[name]
-    places = {label(name, edit): place(name, edit) for name, edits in wanted.items() for edit in edits} if given.gate else {}
+    places = {name: kept for crate, edits in wanted.items() for name, kept in places_of(crate, edits).items()}
     known = [] if given.anew else [text_of(path) for path in places.values() if os.path.exists(path)]
     left = {name: [e for e in edits if not any(line.startswith(label(name, e) + ":") for line in known)] for name, edits in wanted.items()}
     told = Told(places, wrong)
